@@ -6,12 +6,7 @@ use Rattle.dom_file.specs.declared.fault.DomFault.{DomFault}
 use Rattle.dom_file.specs.declared.fault.DomFault.TheVariants.{NoMemory, BadToml, Bad}
 use Rattle.dom_file.specs.declared.stop.Stop.{Stop}
 use Rattle.dom_file.specs.declared.stop.Stop.TheVariants as stops
-
-infixl 10 ◌>>=◌
--- the next check, where this one passed
-abbrev pub ◌>>=◌ : {A B E : Type 0} → Result A E → (A → Result B E) → Result B E
-(Ok x) >>= f = f x
-(Err e) >>= f = Err e
+pub use Rattle.sched_base.specs.Results.{◌>>=◌}
 
 -- a refusal for this cause is the fault of this key of the table with this number
 abbrev pub at : {A : Type 0} → TableName → ℕ → List ℕ → Result A DomCause → Result A DomFault

@@ -1,20 +1,15 @@
 -- Where an action leads, as the definitions say.
-use Rattle.std.proofs.Common.{◌≡◌, ◌≤◌, ◌∙◌, ℕ, true, ap, ap₂, arith}
-use Rattle.std.specs.Option.{ForSome}
-use Rattle.std.specs.Prelude.{Option, Some}
+use Rattle.std.proofs.Common.{◌≡◌, ◌∙◌, ℕ, true, ap, ap₂}
 use Rattle.sched_base.specs.Numbers.{moment}
 use Rattle.sched_model.specs.declared.action.Action.{Action}
 use Rattle.sched_model.specs.declared.event.Event.{Event}
 use Rattle.sched_model.specs.declared.event.Entry.{Entry}
 use Rattle.sched_model.specs.declared.machine.Machine.{Machine}
 use Rattle.sched_model.specs.declared.state.State.{State}
-use Rattle.sched_model.specs.Actions.{candidates}
-use Rattle.sched_model.specs.Machine.{is_enabled, first_enabled, event_of, after}
-use Rattle.sched_model.proofs.RunLemmas.{find_passes}
+use Rattle.sched_model.specs.Machine.{is_enabled, event_of, after}
 use Rattle.sched_laws.proofs.Free.{now_after}
 use Rattle.pool_slots.specs.Told.{Told, told_more}
-use Rattle.pool_core.specs.Seen.{Seen}
-use Rattle.pool_slots.specs.Places.{GoesOn, SlotSuits, state_of}
+use Rattle.pool_slots.specs.Places.{GoesOn, state_of}
 use Rattle.pool_slots.proofs.Going.{entry-is, state-on}
 use Rattle.engine.specs.EngineState.{standing_of}
 use Rattle.sched_model.specs.Standing.{Standing}
@@ -32,11 +27,3 @@ module _ (w new : Told) (goes : GoesOn w) (action : Action) (on : is_enabled w.i
 
   pub standing-done : new ≡ told_more w done → standing_of new ≡ record { machine = w.input; state = after w.input (state_of w) (state_of w).now action }
   standing-done is = ap₂ (λ (m : Machine) (s : State). let x : Standing = record { machine = m; state = s } in x) (ap (λ (x : Told). x.input) is) (ap state_of is ∙ state-done)
-
--- the first action may come, and a command is the first only where no stall may come
-pub first-comes : (m : Machine) (s : State) (action : Action) → first_enabled m s s.now ≡ Some action → is_enabled m s s.now action ≡ true
-first-comes m s action first = find_passes (is_enabled m s s.now) (candidates m.config) action first
-
--- what suits a moment suits a later one
-pub slot-later : (m : Machine) (now later : ℕ) (slot : Option Seen) → now ≤ later → ForSome slot (SlotSuits m now) → ForSome slot (SlotSuits m later)
-slot-later m now later slot past suits seen at = (let is = suits seen at in let latest = is.latest in record { granularity = is.granularity; latest = omega (arith, latest, past) })

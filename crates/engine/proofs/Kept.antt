@@ -12,8 +12,8 @@ use Rattle.sched_model.specs.declared.action.Action.{Action}
 use Rattle.sched_model.specs.Places.{at_place}
 use Rattle.pool_core.specs.Seen.{Seen}
 use Rattle.pool_core.specs.Order.{IsFirstEnabled}
-use Rattle.machine_parts.specs.Parts.{AreFirsts}
-use Rattle.engine.specs.EngineState.{AreKept, IsFirstOfPlace, IsIdleFrom, IsNextOfPlace}
+use Rattle.machine_parts.specs.Parts.{AreFirsts, IsFirstOfPlace, IsNextOfPlace}
+use Rattle.engine.specs.EngineState.{AreKept, IsIdleFrom}
 use Rattle.std.proofs.lemmas.List.{get_or-take, length-take-le}
 
 first-some : (t : ℕ) (slot : Option Seen) (first : Option Action) (seen : Seen) → slot ≡ Some seen → IsFirstOfPlace t slot first → IsFirstEnabled seen.granularity t seen.pool first
@@ -30,20 +30,6 @@ first-at t slots firsts are k (Some seen) is = are.pool k seen is
 -- and what is kept of each is kept of all
 pub firsts-all : (t : ℕ) (slots : List (Option Seen)) (firsts : List (Option Action)) → ((k : ℕ) → IsFirstOfPlace t (at_place slots k) (at_place firsts k)) → AreFirsts t slots firsts
 firsts-all t slots firsts each = record { pool = λ k seen is. first-some t (at_place slots k) (at_place firsts k) seen is (each k); nothing = λ k is. first-none t (at_place slots k) (at_place firsts k) is (each k) }
-
--- past the last place there is nothing
-past-slots : (slots : List (Option Seen)) (k : ℕ) → length slots ≤ k → None ≡ at_place slots k
-past-slots slots k high = sym (get_or-eq_default slots None (omega (arith, high)))
-
-pub nexts-below : (slots : List (Option Seen)) (nexts : List (Option Moment)) (If : ℕ → Type 0) → length nexts ≡ length slots → ((k : ℕ) → k < length slots → If k → IsNextOfPlace (at_place slots k) (at_place nexts k))
-    → (k : ℕ) → If k → IsNextOfPlace (at_place slots k) (at_place nexts k)
-nexts-below slots nexts If count each k holds = elim (dec_le (suc k) (length slots)) [
-  | yes low ↦ each k low holds
-  | no high ↦ past (omega (arith, high))
-]
-  where
-    past : length slots ≤ k → IsNextOfPlace (at_place slots k) (at_place nexts k)
-    past high = subst (λ (o : Option Seen). IsNextOfPlace o (at_place nexts k)) (past-slots slots k high) (get_or-eq_default nexts None (omega (arith, high, count)))
 
 -- one place changed, and what is kept of it was asked again
 module _ (t i : ℕ) (old new : List (Option Seen)) (firsts now_firsts : List (Option Action)) (nexts now_nexts : List (Option Moment)) (kept : AreKept t old firsts nexts) where

@@ -26,7 +26,7 @@ use Rattle.machine_parts.specs.Parts.{AreFirsts, AreParts}
 use Rattle.sched_base.specs.declared.Moment.{Moment}
 use Rattle.engine.specs.EngineState.{standing_of, IsRunning}
 use Rattle.sched_model.specs.Standing.{Standing}
-use Rattle.engine.proofs.Clock.{slot-later}
+use Rattle.machine_parts.proofs.Performing.{slot-later}
 use Rattle.engine.proofs.Quiet.{quiet-firsts}
 use Rattle.pool_slots.proofs.Keeping.{spares-later}
 

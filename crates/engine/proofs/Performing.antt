@@ -3,10 +3,8 @@ use Rattle.std.proofs.Common.{◌≡◌, ◌≢◌, ◌<◌, ◌∙◌, ℕ, Lis
 use Rattle.std.specs.Prelude.{Option, Some, None}
 use Rattle.sched_base.specs.Numbers.{moment}
 use Rattle.sched_model.specs.declared.action.Action.{Action}
-use Rattle.sched_model.specs.declared.action.Action.TheVariants.{Stall, Xl, Moved, DomMoved}
 use Rattle.sched_model.specs.declared.event.Event.{Event}
 use Rattle.sched_model.specs.declared.state.State.{State}
-use Rattle.sched_model.specs.Actions.{IsOfPool, home_of}
 use Rattle.sched_model.specs.Places.{at_place}
 use Rattle.journal_core.specs.Parts.{StatePart, ToolPart, tool_part, part_of, tool_lock, tool_of as part_of_tool}
 use Rattle.cpupool.specs.Tool.{Tool, tool_of}
@@ -18,17 +16,9 @@ use Rattle.sched_base.specs.declared.Moment.{Moment}
 use Rattle.pool_slots.specs.Told.{told_more}
 use Rattle.pool_slots.specs.Counts.{AreSpares}
 use Rattle.pool_slots.specs.Spares.{Shelves}
-use Rattle.machine_parts.specs.Parts.{AreParts}
-use Rattle.engine.specs.EngineState.{AreKept, IsFirstOfPlace, IsNextOfPlace, IsRunning, pool_of_event}
+use Rattle.machine_parts.specs.Parts.{AreParts, IsFirstOfPlace, IsNextOfPlace}
+use Rattle.engine.specs.EngineState.{AreKept, IsRunning}
 use Rattle.engine.proofs.Kept.{kept-one}
-
--- an event that is of a pool is none of the tool's, and its home is that pool
-pub own-event : (g : ℕ) (s : State) (action : Action) (i : ℕ) → pool_of_event g s action ≡ Some i → IsOfPool action × (home_of g s action ≡ Some i)
-own-event g s Stall i is = absurd (cc)
-own-event g s Xl i is = absurd (cc)
-own-event g s (Moved r) i is = absurd (cc)
-own-event g s (DomMoved d) i is = absurd (cc)
-own-event g s action i is = (tt, is)
 
 -- what the tool keeps of a state, out of its part
 tool-in : (part other : ToolPart) → (let a : StatePart = tool_part part in a) ≡ tool_part other → part ≡ other

@@ -26,9 +26,8 @@ use Rattle.pool_slots.specs.Told.{Told}
 use Rattle.sched_laws.proofs.EachPlace.{place_below}
 use Rattle.pool_slots.proofs.Going.{range-of, state_of-is}
 use Rattle.pool_slots.proofs.Standing.{pool_at}
-use Rattle.machine_parts.specs.Parts.{AreFirsts, AreNexts, AreParts}
 use Rattle.machine_parts.proofs.AtPlaces.{pool-anywhere}
-use Rattle.engine.specs.EngineState.{IsNextOfPlace}
+use Rattle.machine_parts.specs.Parts.{AreFirsts, AreNexts, AreParts, IsNextOfPlace}
 
 -- no event of a pool may come where no action may
 nothing-comes : (m : Machine) (checked : IsChecked m) (entries : List Entry) (run : IsRun m entries) (t i : ℕ) (action : Action) → ComesInPool m (state_after m entries) t i action → first_enabled m (state_after m entries) t ≡ None → ⊥

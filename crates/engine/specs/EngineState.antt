@@ -2,29 +2,16 @@
 use Rattle.std.specs.Prelude.{ℕ, ◌≡◌, ◌≤◌, List, Option, None, Some, length}
 use Rattle.sched_base.specs.declared.Moment.{Moment}
 use Rattle.sched_model.specs.declared.action.Action.{Action}
-use Rattle.sched_model.specs.declared.action.Action.TheVariants.{Stall, Xl, Moved, DomMoved}
 use Rattle.sched_model.specs.declared.state.State.{State}
-use Rattle.sched_model.specs.Actions.{home_of}
 use Rattle.sched_model.specs.Places.{at_place}
 use Rattle.cpupool.specs.Tool.{Tool}
 use Rattle.pool_core.specs.Seen.{Seen}
-use Rattle.pool_core.specs.Order.{IsFirstEnabled, IsNextMoment}
 use Rattle.pool_slots.specs.Counts.{AreSpares}
 use Rattle.pool_slots.specs.Places.{state_of}
 use Rattle.pool_slots.specs.Spares.{Shelves}
 use Rattle.pool_slots.specs.Told.{Told}
-use Rattle.machine_parts.specs.Parts.{AreFirsts, AreParts}
+use Rattle.machine_parts.specs.Parts.{AreFirsts, AreParts, IsNextOfPlace}
 use Rattle.sched_model.specs.Standing.{Standing}
-
--- the first event of what stands at a place that may come at t; nothing of an empty place
-abbrev pub IsFirstOfPlace : ℕ → Option Seen → Option Action → Type 0
-IsFirstOfPlace t None first = first ≡ None
-IsFirstOfPlace t (Some seen) first = IsFirstEnabled seen.granularity t seen.pool first
-
--- the least moment at which an event of what stands at a place may come; nothing of an empty place
-abbrev pub IsNextOfPlace : Option Seen → Option Moment → Type 0
-IsNextOfPlace None next = next ≡ None
-IsNextOfPlace (Some seen) next = IsNextMoment seen.granularity seen.pool next
 
 -- for each place the first event that may come at t, and, where none may, the least moment at which one may
 pub record AreKept (t : ℕ) (slots : List (Option Seen)) (firsts : List (Option Action)) (nexts : List (Option Moment)) : Type 0 where
@@ -32,14 +19,6 @@ pub record AreKept (t : ℕ) (slots : List (Option Seen)) (firsts : List (Option
   pub count_nexts : length nexts ≡ length slots
   pub firsts_are : AreFirsts t slots firsts
   pub nexts_are : (k : ℕ) → at_place firsts k ≡ None → IsNextOfPlace (at_place slots k) (at_place nexts k)
-
--- the pool that the event is of; none of an action of the tool
-abbrev pub pool_of_event : ℕ → State → Action → Option ℕ
-pool_of_event g s Stall = None
-pool_of_event g s Xl = None
-pool_of_event g s (Moved r) = None
-pool_of_event g s (DomMoved d) = None
-pool_of_event g s action = home_of g s action
 
 -- from this place on, which is one of them or the end, no event may come now
 pub record IsIdleFrom (busy : ℕ) (firsts : List (Option Action)) : Type 0 where

@@ -1,10 +1,9 @@
 //! The engine: a machine that steps from one entry of its run to the next.
 
-use crate::acts::act_of_tool;
-use crate::homes::pool_of_event;
-use crate::keeping::{busy_places, none_times, read_all, read_firsts, read_one};
+use crate::keeping::{busy_places, none_times, read_all, read_one};
 use cpupool::ToolState;
-use machine_parts::{whole_first, whole_next};
+use machine_parts::places::read_firsts;
+use machine_parts::{pool_of_event, whole_first, whole_next};
 use parts_opening::{open_slots, open_spares};
 use pool_slots::{PoolSlot, Spares, Trail, perform_among};
 use sched_base::{Moment, NoMemory};
@@ -13,6 +12,7 @@ use sched_model::event::{Entry, Event};
 use sched_model::machine::Machine;
 use std::alloc::Global;
 use std::marker::Model;
+use tool_acts::act_of_tool;
 
 /// As many pools as a machine has places for.
 const MOST_POOLS: u8 = 16;
@@ -55,7 +55,7 @@ impl Engine {
     ghost use Rattle.sched_base.specs.Numbers.{moment};
     ghost use Rattle.sched_model.specs.Opening.{opening};
     ghost use Rattle.sched_model.specs.CheckedMachine.{IsChecked};
-    ghost use Rattle.engine.specs.EngineState.{pool_of_event as pool_of_event_spec};
+    ghost use Rattle.machine_parts.specs.Parts.{pool_of_event as pool_of_event_spec};
     ghost use Rattle.sched_model.specs.Machine.{is_enabled, first_enabled as first_enabled_spec, next_in_horizon, event_of, after};
 
     /// The machine at its opening. Its values have passed the checks of the domain file and of the work file.

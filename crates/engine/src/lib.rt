@@ -4,9 +4,7 @@
 //! moment of each pool, so that only a pool that changed is asked again. All memory is taken when it is opened.
 #![tactic(auto)]
 
-pub mod acts;
 pub mod engine;
-pub mod homes;
 pub mod keeping;
 
 pub use engine::Engine;

@@ -22,7 +22,7 @@ use Rattle.actor_laws.specs.Actors.{first_by, is_by_actor}
 use Rattle.actor_laws.proofs.Whole.{none_comes}
 use Rattle.journal_core.specs.Books.{Chronicle}
 use Rattle.journal_core.specs.Histories.{reached_by, state_at}
-use Rattle.engine.proofs.Clock.{first-comes}
+use Rattle.machine_parts.proofs.Performing.{first-comes}
 use Rattle.pool_slots.specs.Places.{GoesOn}
 use Rattle.pool_slots.specs.Told.{told_of}
 use Rattle.pool_slots.proofs.Going.{entry-is, goes-on, state_of-is}

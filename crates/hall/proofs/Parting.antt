@@ -22,7 +22,7 @@ use Rattle.pool_slots.specs.Told.{Told, told_of}
 use Rattle.pool_slots.proofs.Going.{now_of-is, part_of-is}
 use Rattle.pool_slots.proofs.Keeping.{spares-later}
 use Rattle.machine_parts.specs.Parts.{AreParts}
-use Rattle.engine.proofs.Clock.{slot-later}
+use Rattle.machine_parts.proofs.Performing.{slot-later}
 use Rattle.lock_moves.specs.Plays.{Current, Placed}
 use Rattle.lock_moves.specs.Sets.{IsAsKnown, LockTable}
 use Rattle.lock_moves.specs.SeatSight.{Holds, HoldsBelow, Known, Seen, Sitting, find_lock, known_part as known}

@@ -24,11 +24,10 @@ use Rattle.pool_slots.specs.Counts.{AreSpares}
 use Rattle.pool_slots.specs.Places.{GoesOn, state_of}
 use Rattle.pool_slots.specs.Told.{Told, told_of}
 use Rattle.pool_slots.proofs.Going.{comes-next, entry-is, goes-on}
-use Rattle.machine_parts.specs.Parts.{AreParts}
 use Rattle.machine_parts.proofs.AtPlaces.{number-of, no-number}
 use Rattle.tool_acts.specs.Acts.{told_event}
-use Rattle.engine.specs.EngineState.{pool_of_event}
-use Rattle.engine.proofs.Performing.{own-event}
+use Rattle.machine_parts.specs.Parts.{AreParts, pool_of_event}
+use Rattle.machine_parts.proofs.Performing.{own-event}
 use Rattle.lock_moves.specs.Plays.{Current, Kept, Placed}
 use Rattle.lock_moves.specs.Sets.{LockTable, sitting_with}
 use Rattle.lock_moves.specs.SeatSight.{HoldsBelow, Seen, Sitting}

@@ -21,9 +21,8 @@ use Rattle.pool_core.specs.Seen.{Seen as PoolSeen}
 use Rattle.pool_slots.specs.Places.{GoesOn, state_of}
 use Rattle.pool_slots.specs.Told.{Told, told_of}
 use Rattle.pool_slots.proofs.Going.{comes-next, leads-to}
-use Rattle.machine_parts.specs.Parts.{AreNexts}
-use Rattle.engine.specs.EngineState.{IsNextOfPlace}
-use Rattle.engine.proofs.Clock.{first-comes}
+use Rattle.machine_parts.specs.Parts.{AreNexts, IsNextOfPlace}
+use Rattle.machine_parts.proofs.Performing.{first-comes}
 use Rattle.lock_moves.specs.Plays.{Current}
 use Rattle.lock_moves.specs.Sets.{LockTable}
 use Rattle.lock_moves.specs.SeatSight.{Sitting}

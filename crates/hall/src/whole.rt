@@ -7,7 +7,7 @@ ghost use Rattle.sched_model.specs.declared.event.Event.TheVariants as events;
 ghost use Rattle.sched_model.specs.Machine.{event_of, first_enabled, is_enabled, next_in_horizon};
 ghost use Rattle.pool_slots.specs.Places.{GoesOn, state_of};
 ghost use Rattle.pool_slots.specs.Told.{told_of};
-ghost use Rattle.engine.specs.EngineState.{pool_of_event as pool_of_event_spec};
+ghost use Rattle.machine_parts.specs.Parts.{pool_of_event as pool_of_event_spec};
 ghost use Rattle.lock_moves.specs.Plays.{Current};
 ghost use Rattle.lock_moves.specs.Sets.{sitting_with};
 ghost use Rattle.lock_moves.specs.SeatSight.{Holds, find_lock};
@@ -21,13 +21,13 @@ use crate::book::enter;
 use crate::pools::perform_at;
 use crate::value::PartState;
 use cpupool::{Move, ToolState};
-use engine::acts::act_of_tool;
-use engine::homes::pool_of_event;
 use lock_moves::{HeldBook, LockId, LockSeat, LockSet, NameId};
+use machine_parts::pool_of_event;
 use pool_slots::Trail;
 use sched_base::{DomId, Moment, PoolId, ResId};
 use sched_model::action::Action;
 use sched_model::event::{Entry, Event};
+use tool_acts::act_of_tool;
 
 /// A name that goes from one lock to another.
 #[derive(Clone, Copy, Debug, PartialEq, Eq)]

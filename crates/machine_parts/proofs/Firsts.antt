@@ -1,6 +1,8 @@
 -- The firsts and the nexts of the places are those of the machine's pools.
-use Rattle.std.proofs.Common.{ℕ, List, subst}
-use Rattle.std.specs.Prelude.{Option}
+use Rattle.std.proofs.Common.{◌≡◌, ◌≤◌, ◌<◌, ℕ, suc, List, length, sym, subst, arith}
+use Rattle.std.proofs.Math.Decide.{dec_le}
+use Rattle.std.proofs.Math.ListN.{get_or-eq_default}
+use Rattle.std.specs.Prelude.{Option, Some, None}
 use Rattle.sched_base.specs.declared.Moment.{Moment}
 use Rattle.sched_model.specs.declared.action.Action.{Action}
 use Rattle.sched_model.specs.declared.state.Pool.{Pool}
@@ -12,7 +14,7 @@ use Rattle.actor_laws.specs.First.{ArePoolsFirsts}
 use Rattle.actor_laws.specs.Next.{ArePoolsNexts}
 use Rattle.pool_slots.specs.Told.{Told}
 use Rattle.pool_slots.specs.Places.{state_of}
-use Rattle.machine_parts.specs.Parts.{AreFirsts, AreNexts, AreParts}
+use Rattle.machine_parts.specs.Parts.{AreFirsts, AreNexts, AreParts, IsNextOfPlace}
 use Rattle.machine_parts.proofs.AtPlaces.{nothing-there, seen-there}
 
 module _ (w : Told) (slots : List (Option Seen)) (tool : Tool) (parts : AreParts w slots tool) where
@@ -31,3 +33,17 @@ module _ (w : Told) (slots : List (Option Seen)) (tool : Tool) (parts : AreParts
         subst (λ (g : ℕ). IsNextMoment g pool (at_place nexts i)) f.3 (subst (λ (p : Pool). IsNextMoment (f.0).granularity p (at_place nexts i)) f.2 (are.pool i f.0 f.1));
     nothing = λ i none. are.nothing i (nothing-there w slots tool parts i none);
   }
+
+-- past the last place there is nothing
+past-slots : (slots : List (Option Seen)) (k : ℕ) → length slots ≤ k → None ≡ at_place slots k
+past-slots slots k high = sym (get_or-eq_default slots None (omega (arith, high)))
+
+pub nexts-below : (slots : List (Option Seen)) (nexts : List (Option Moment)) (If : ℕ → Type 0) → length nexts ≡ length slots → ((k : ℕ) → k < length slots → If k → IsNextOfPlace (at_place slots k) (at_place nexts k))
+    → (k : ℕ) → If k → IsNextOfPlace (at_place slots k) (at_place nexts k)
+nexts-below slots nexts If count each k holds = elim (dec_le (suc k) (length slots)) [
+  | yes low ↦ each k low holds
+  | no high ↦ past (omega (arith, high))
+]
+  where
+    past : length slots ≤ k → IsNextOfPlace (at_place slots k) (at_place nexts k)
+    past high = subst (λ (o : Option Seen). IsNextOfPlace o (at_place nexts k)) (past-slots slots k high) (get_or-eq_default nexts None (omega (arith, high, count)))

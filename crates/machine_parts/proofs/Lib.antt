@@ -3,3 +3,4 @@ pub mod Soonest
 pub mod AtPlaces
 pub mod Moving
 pub mod Firsts
+pub mod Performing

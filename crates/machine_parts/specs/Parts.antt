@@ -2,6 +2,9 @@
 use Rattle.std.specs.Prelude.{ℕ, ◌≡◌, List, Option, Some, None}
 use Rattle.sched_base.specs.declared.Moment.{Moment}
 use Rattle.sched_model.specs.declared.action.Action.{Action}
+use Rattle.sched_model.specs.declared.action.Action.TheVariants.{Stall, Xl, Moved, DomMoved}
+use Rattle.sched_model.specs.declared.state.State.{State}
+use Rattle.sched_model.specs.Actions.{home_of}
 use Rattle.sched_model.specs.Places.{at_place}
 use Rattle.cpupool.specs.Tool.{Tool, tool_of}
 use Rattle.pool_core.specs.Order.{IsFirstEnabled, IsNextMoment}
@@ -24,3 +27,21 @@ pub record AreFirsts (t : ℕ) (slots : List (Option Seen)) (firsts : List (Opti
 pub record AreNexts (slots : List (Option Seen)) (nexts : List (Option Moment)) : Type 0 where
   pub pool : (k : ℕ) (seen : Seen) → at_place slots k ≡ Some seen → IsNextMoment seen.granularity seen.pool (at_place nexts k)
   pub nothing : (k : ℕ) → at_place slots k ≡ None → at_place nexts k ≡ None
+
+-- the first event of what stands at a place that may come at t; nothing of an empty place
+abbrev pub IsFirstOfPlace : ℕ → Option Seen → Option Action → Type 0
+IsFirstOfPlace t None first = first ≡ None
+IsFirstOfPlace t (Some seen) first = IsFirstEnabled seen.granularity t seen.pool first
+
+-- the least moment at which an event of what stands at a place may come; nothing of an empty place
+abbrev pub IsNextOfPlace : Option Seen → Option Moment → Type 0
+IsNextOfPlace None next = next ≡ None
+IsNextOfPlace (Some seen) next = IsNextMoment seen.granularity seen.pool next
+
+-- the pool that the event is of; none of an action of the tool
+abbrev pub pool_of_event : ℕ → State → Action → Option ℕ
+pool_of_event g s Stall = None
+pool_of_event g s Xl = None
+pool_of_event g s (Moved r) = None
+pool_of_event g s (DomMoved d) = None
+pool_of_event g s action = home_of g s action

@@ -5,8 +5,11 @@
 #![tactic(auto)]
 
 pub mod first;
+pub mod homes;
 pub mod next;
 pub mod order;
+pub mod places;
 
 pub use first::{tool_first, whole_first};
+pub use homes::pool_of_event;
 pub use next::whole_next;

@@ -12,5 +12,6 @@ mod workers;
 pub use closing::{close_down, join_all};
 pub use ends::RunEnd;
 pub use free::{run_free, threads_for};
+pub use hall::Hall;
 pub use ordered::run_ordered;
 pub use workers::{split_workers, work_all};

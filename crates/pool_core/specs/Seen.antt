@@ -10,7 +10,7 @@ use Rattle.sched_model.specs.declared.state.Resource.{Resource}
 use Rattle.sched_model.specs.Opening.{fresh_core}
 use Rattle.sched_model.specs.Places.{at_place, clear_at, put_at}
 use Rattle.sched_model.specs.Pool.{after_in, change_processor, settled_pool}
-use Rattle.sched_model.specs.CheckedMachine.{most_span}
+use Rattle.sched_model.specs.CheckedMachine.{IsFrom}
 use Rattle.unit_state.specs.Seen as guests
 use Rattle.core_state.specs.Seen as cores
 use Rattle.core_state.specs.Seen.{processor_among, stalled_to}
@@ -32,9 +32,8 @@ abbrev pub pool_of : guests.Seen → cores.Seen → schedulers.Seen → Pool
 pool_of guests cores scheduler = record { scheduler = scheduler.scheduler; domains = guests.domains; resources = cores.resources }
 
 -- a moment that is not before the latest one given, nor past a longest span
-pub record IsNow (seen : Seen) (t : ℕ) : Type 0 where
-  pub after : seen.latest ≤ t
-  pub early : t ≤ most_span
+abbrev pub IsNow : Seen → ℕ → Type 0
+IsNow seen t = IsFrom seen.latest t
 
 -- the same at t with another pool
 abbrev pub seen_at : ℕ → Pool → Seen → Seen

@@ -5,3 +5,4 @@ pub mod RtdsNumbers
 pub mod Units
 pub mod CoreSets
 pub mod Lists
+pub mod Results

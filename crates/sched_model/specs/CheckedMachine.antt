@@ -34,6 +34,11 @@ use Rattle.sched_model.specs.Actions.{units_from}
 abbrev pub most_span : ℕ
 most_span = 10000000000000
 
+-- a moment that is not before the latest one given, nor past a longest span
+pub record IsFrom (latest t : ℕ) : Type 0 where
+  pub after : latest ≤ t
+  pub early : t ≤ most_span
+
 -- the number is in the range
 pub record IsWithin (low high n : ℕ) : Type 0 where
   pub least : low ≤ n

@@ -17,7 +17,7 @@ use Rattle.sched_model.specs.declared.ask.Ask.{Ask}
 use Rattle.sched_model.specs.declared.state.Scheduler.{Scheduler}
 use Rattle.sched_model.specs.Places.{at_place, has_unit}
 use Rattle.sched_model.specs.EligibleUnits.{rtds_unit}
-use Rattle.sched_model.specs.CheckedMachine.{IsWithin, most_span}
+use Rattle.sched_model.specs.CheckedMachine.{IsFrom, IsWithin}
 use Rattle.sched_laws.specs.RecordRanges.{IsFrame}
 use Rattle.sched_ops.specs.Affinity.{is_member_among}
 use Rattle.sched_ops.specs.Seen.{Seen, units_of}
@@ -71,9 +71,8 @@ pub record HasNoneBusy (scheduler : Scheduler) (d : ℕ) : Type 0 where
   pub on : (u : UnitId) → u.dom.0 ≡ d → is_on scheduler.records u ≡ false
 
 -- a moment that is not before the latest one given, nor past a longest span
-pub record IsNow (seen : Seen) (t : ℕ) : Type 0 where
-  pub after : seen.latest ≤ t
-  pub early : t ≤ most_span
+abbrev pub IsNow : Seen → ℕ → Type 0
+IsNow seen t = IsFrom seen.latest t
 
 -- a question that may be asked: its moments, its core, and the core's own unit
 pub record IsAsked (seen : Seen) (ask : Ask) : Type 0 where

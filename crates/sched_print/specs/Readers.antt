@@ -2,6 +2,7 @@
 -- beginning that some text of the form has.
 use Rattle.std.specs.Prelude.{◌≡◌, ℕ, ◌+◌, ◌-◌, ◌*◌, ◌==◌, ◌&&◌, Bool, min, List, [], ◌∷◌, length, Result, Ok, Err, nat_lt, nat_le, if◌then◌else◌}
 use Rattle.sched_model.specs.declared.event.Entry.{Entry}
+pub use Rattle.sched_base.specs.Results.{◌>>=◌}
 
 pub data Form : Type 0 where
   -- nothing more: the text of this entry
@@ -12,11 +13,6 @@ pub data Form : Type 0 where
   Number : (low high : ℕ) → (ℕ → Form) → Form
   -- a text of the one form or of the other
   Either : Form → Form → Form
-
-infixl 10 ◌>>=◌
-abbrev pub ◌>>=◌ : {A B : Type 0} → Result A ℕ → (A → Result B ℕ) → Result B ℕ
-(Ok x) >>= f = f x
-(Err left) >>= f = Err left
 
 -- what a function returned, seen by view, is what was to be found
 abbrev pub Gives : {X Y : Type 0} → (X → Y) → Result X ℕ → Result Y ℕ → Type 0

@@ -5,6 +5,7 @@
 //! the event, and leaves the parts of the state that the trail leads to with that event's entry added.
 #![tactic(auto)]
 
+pub mod acts;
 pub mod carrying;
 pub mod commands;
 pub mod cores;
@@ -13,6 +14,7 @@ pub mod making;
 pub mod stalls;
 pub mod verdicts;
 
+pub use acts::act_of_tool;
 pub use commands::{command, command_at};
 pub use cores::move_core;
 pub use domains::move_domain;

@@ -2,7 +2,7 @@
 use Rattle.std.proofs.Common.{◌≡◌, ◌⊎◌, ℕ, ◌<◌, ◌≤◌, List, [], ◌∷◌, ◌++◌, length, true, refl, sym, ◌∙◌, ap, subst, inl, inr, arith}
 use Rattle.std.proofs.lemmas.Bool.{or_cases}
 use Rattle.sched_base.specs.declared.UnitId.{UnitId}
-use Rattle.unit_ring.specs.Lists.{has_node, is_live}
+use Rattle.unit_ring.specs.Lists.{Lists, has_node, is_live}
 use Rattle.unit_ring.specs.Chains.{link, Path, Distinct, IsChain, IsRing, chain, fenced_numbers, nodes_of, second_of, free_of, items, lists_of}
 use Rattle.sched_base.specs.Lists.{Has}
 use Rattle.unit_ring.proofs.Linking.{Below-Has}
@@ -96,6 +96,13 @@ pub first_free : (f g : List ℕ) (us : List UnitId) → IsRing f g us → 0 < l
 first_free f g us ring some =
     let first = first_of_path f g (free_of f) (free_path f g us ring) some in
     record { has = subst (Has (link f 2)) (sym first.1) (inl refl); rest = first.0; is = first.1 }
+
+-- the node that the call takes is the first free one
+pub taken_node : (f g : List ℕ) (us : List UnitId) (lists : Lists) (f2 : List ℕ) (n : ℕ) → IsRing f g us → lists_of f us ≡ lists → 0 < lists.spare
+    → f2 ≡ f → n ≡ link f2 2 → FirstFree f n
+taken_node f g us lists f2 n ring view room same is =
+    let some : 0 < length (free_of f) = subst (λ (ls : Lists). 0 < ls.spare) (sym view) room in
+    subst (FirstFree f) (sym (is ∙ ap (λ (h : List ℕ). link h 2) same)) (first_free f g us ring some)
 
 -- the links hold these three lists now
 pub record Made (f g : List ℕ) (us : List UnitId) (xs ys zs : List ℕ) : Type 0 where

@@ -4,7 +4,7 @@ use Rattle.sched_base.specs.declared.Moment.{Moment}
 use Rattle.sched_base.specs.declared.PoolId.{PoolId}
 use Rattle.sched_base.specs.declared.VcpuId.{VcpuId}
 use Rattle.sched_model.specs.declared.state.Domain.{Domain}
-use Rattle.sched_model.specs.CheckedMachine.{most_span}
+use Rattle.sched_model.specs.CheckedMachine.{IsFrom}
 use Rattle.sched_model.specs.Places.{at_place, test_at}
 use Rattle.sched_model.specs.State.{is_awake}
 use Rattle.sched_base.specs.Numbers.{has_come}
@@ -22,9 +22,8 @@ abbrev pub vacant_guests : ℕ → ℕ → ℕ → Seen
 vacant_guests granularity places units = record { domains = replicate places None; granularity = granularity; spare = units; latest = 0 }
 
 -- the moment is not before the greatest one that was given, and at most 10^13
-pub record IsNow (seen : Seen) (t : ℕ) : Type 0 where
-  pub after : seen.latest ≤ t
-  pub early : t ≤ most_span
+abbrev pub IsNow : Seen → ℕ → Type 0
+IsNow seen t = IsFrom seen.latest t
 
 -- whether the vCPU is there and awake
 abbrev pub is_awake_among : List (Option Domain) → VcpuId → Bool

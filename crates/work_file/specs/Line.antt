@@ -11,6 +11,7 @@ use Rattle.work_file.specs.declared.fault.WorkCause.{WorkCause}
 use Rattle.work_file.specs.declared.fault.WorkCause.TheVariants as cause
 use Rattle.work_file.specs.declared.line.Line.{Line}
 use Rattle.work_file.specs.declared.line.Line.TheVariants.{Silent, Stall, Command}
+pub use Rattle.sched_base.specs.Results.{◌>>=◌}
 
 -- a line that says nothing: an empty one, and a comment, which begins with a number sign
 abbrev pub is_silent : List ℕ → Bool
@@ -23,12 +24,6 @@ number_within low high word = elim (number_of word) [ None ↦ Err cause.Number 
 -- a processor of the machine, or a fault
 abbrev pub target_of : Config → ℕ → Result ℕ WorkCause
 target_of config n = if nat_lt n config.processors then Ok n else Err cause.Target
-
--- what follows a part that is read, or its fault
-infixl 10 ◌>>=◌
-abbrev pub ◌>>=◌ : {A B : Type 0} → Result A WorkCause → (A → Result B WorkCause) → Result B WorkCause
-(Ok x) >>= next = next x
-(Err fault) >>= next = Err fault
 
 -- CPU SPAN, behind the moment and `stall`
 unfoldable pub stall_of : Config → ℕ → List (List ℕ) → Result Line WorkCause

@@ -14,9 +14,8 @@ ghost use Rattle.xensched_top.specs.WatchedRun.{text_of_look, text_of_watch, wat
 use crate::run::status_of;
 use crate::status::Status;
 use command_line::Form;
-use hall::Hall;
 use journal_core::Book;
-use pcpu_threads::RunEnd;
+use pcpu_threads::{Hall, RunEnd};
 use pcpu_watch::{Look, Looks, watch_run};
 use sched_base::{Failed, Moment, NoMemory};
 use sched_io::{OpenGate, Sink};

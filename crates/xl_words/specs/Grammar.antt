@@ -6,12 +6,7 @@ use Rattle.sched_model.specs.declared.command.Syntax.{Syntax}
 use Rattle.xl_words.specs.Parts.{words}
 use Rattle.xl_words.specs.Values.{number_of, name_of, which_of, vcpu_of, entries_of, cpus_of}
 use Rattle.xl_words.specs.Options.{at, options, new_pool_rules, credit2_domain_rules, credit2_pool_rules, rtds_rules}
-
--- what follows a part that has a reading, or the place of the fault
-infixl 10 ◌>>=◌
-abbrev pub ◌>>=◌ : {A B : Type 0} → Result A Syntax → (A → Result B Syntax) → Result B Syntax
-(Ok x) >>= next = next x
-(Err fault) >>= next = Err fault
+pub use Rattle.sched_base.specs.Results.{◌>>=◌}
 
 -- the value, or a fault at the place
 abbrev pub needed_value : {X : Type 0} → ℕ → Option X → Result X Syntax

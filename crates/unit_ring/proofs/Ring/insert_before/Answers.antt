@@ -2,17 +2,10 @@ use Rattle.std.proofs.Common.{◌≡◌, ℕ, ◌<◌, List, true, false, length
 use Rattle.sched_base.specs.declared.UnitId.{UnitId}
 use Rattle.unit_ring.specs.Lists.{Lists, item, is_live, after_take, put_before as lists_with}
 use Rattle.unit_ring.specs.Chains.{link, IsRing, free_of, lists_of}
-use Rattle.unit_ring.proofs.Operations.{live_has, FirstFree, first_free, chain_has_free}
+use Rattle.unit_ring.proofs.Operations.{live_has, FirstFree, taken_node, chain_has_free}
 use Rattle.unit_ring.proofs.Calls.{free_high, free_below, free_fresh, live_not_free, inserted, free_number, carried, free_low, free_next}
 use Rattle.unit_ring.proofs.Ring.insert_before.Given.{Over}
 use Rattle.unit_ring.proofs.Ring.insert_before.Goals as goal
-
--- the node that the call takes is the first free one
-taken_node : (f g : List ℕ) (us : List UnitId) (lists : Lists) (f2 : List ℕ) (n : ℕ) → IsRing f g us → lists_of f us ≡ lists → 0 < lists.spare
-    → f2 ≡ f → n ≡ link f2 2 → FirstFree f n
-taken_node f g us lists f2 n ring view room same is =
-    let some : 0 < length (free_of f) = subst (λ (ls : Lists). 0 < ls.spare) (sym view) room in
-    subst (FirstFree f) (sym (is ∙ ap (λ (h : List ℕ). link h 2) same)) (first_free f g us ring some)
 
 pub shift-requires-clause-number : goal.shift-requires-clause-number
 shift-requires-clause-number g c =

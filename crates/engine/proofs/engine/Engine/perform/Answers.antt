@@ -2,9 +2,9 @@ use Rattle.std.proofs.Common.{◌≡◌, ◌∙◌, ℕ, sym, ap}
 use Rattle.std.specs.Prelude.{None, Some, option_map}
 use Rattle.sched_base.specs.Numbers.{pool as pool_number}
 use Rattle.pool_slots.specs.Places.{state_of}
-use Rattle.engine.specs.EngineState.{pool_of_event}
+use Rattle.machine_parts.specs.Parts.{pool_of_event}
 use Rattle.sched_model.specs.Standing.{Standing}
-use Rattle.engine.proofs.Clock.{first-comes}
+use Rattle.machine_parts.proofs.Performing.{first-comes}
 use Rattle.engine.proofs.engine.Engine.perform.Goals as goal
 use Rattle.machine_parts.proofs.AtPlaces.{number-of, no-number}
 

@@ -7,10 +7,12 @@ use Rattle.sched_model.specs.Places.{at_place}
 use Rattle.pool_core.specs.Seen.{Seen}
 use Rattle.pool_slots.specs.Places.{state_of}
 use Rattle.pool_slots.proofs.Stepping.{few-pools}
-use Rattle.engine.specs.EngineState.{IsFirstOfPlace, IsIdleFrom, IsNextOfPlace, IsRunning, pool_of_event}
+use Rattle.machine_parts.specs.Parts.{IsFirstOfPlace, IsNextOfPlace, pool_of_event}
+use Rattle.engine.specs.EngineState.{IsIdleFrom, IsRunning}
 use Rattle.sched_model.specs.Standing.{Standing}
 use Rattle.engine.proofs.Kept.{idle-more, written}
-use Rattle.engine.proofs.Performing.{own-event, running-same, running-stepped}
+use Rattle.machine_parts.proofs.Performing.{own-event}
+use Rattle.engine.proofs.Performing.{running-same, running-stepped}
 use Rattle.engine.proofs.engine.Engine.perform_in_pool.Goals as goal
 
 pub read_one-requires-clause-place : goal.read_one-requires-clause-place

@@ -1,7 +1,7 @@
 use Rattle.std.proofs.Common.{◌∙◌, ap, refl, subst, sym}
 use Rattle.sched_model.specs.CheckedMachine.{IsChecked}
 use Rattle.journal_core.specs.Histories.{state_at}
-use Rattle.engine.proofs.Clock.{first-comes}
+use Rattle.machine_parts.proofs.Performing.{first-comes}
 use Rattle.lock_moves.specs.Sets.{LockTable}
 use Rattle.hall.specs.declared.turns.Full.{Full}
 use Rattle.hall.specs.declared.turns.Turn.{Turn}

@@ -3,7 +3,7 @@ use Rattle.std.specs.Prelude.{Some}
 use Rattle.sched_model.specs.declared.event.Event.{Event}
 use Rattle.sched_model.specs.Runs.{action_of}
 use Rattle.journal_core.specs.Books.{Chronicle}
-use Rattle.engine.proofs.Clock.{first-comes}
+use Rattle.machine_parts.proofs.Performing.{first-comes}
 use Rattle.pool_slots.specs.Places.{state_of}
 use Rattle.pool_slots.specs.Told.{told_of}
 use Rattle.hall.specs.Seats.{IsCountBefore}

@@ -1,20 +1,22 @@
-//! One action of the whole machine.
+//! One act of the tool, whichever it is.
 
 ghost use Rattle.std.specs.Prelude.{◌≡◌, true, false, None};
 ghost use Rattle.sched_model.specs.declared.action.Action.TheVariants as actions;
 ghost use Rattle.sched_model.specs.Machine.{is_enabled, event_of};
 ghost use Rattle.pool_slots.specs.Counts.{AreSpares};
 ghost use Rattle.pool_slots.specs.Places.{state_of};
-ghost use Rattle.machine_parts.specs.Parts.{AreParts};
+ghost use Rattle.machine_parts.specs.Parts.{AreParts, pool_of_event};
 ghost use Rattle.tool_acts.specs.Acts.{told_event};
-ghost use Rattle.engine.specs.EngineState.{pool_of_event};
 
+use crate::commands::command;
+use crate::cores::move_core;
+use crate::domains::move_domain;
+use crate::stalls::stall;
 use cpupool::ToolState;
 use pool_slots::{PoolSlot, Spares, Trail};
 use sched_base::{DomId, Moment, ResId};
 use sched_model::action::Action;
 use sched_model::event::Event;
-use tool_acts::{command, move_core, move_domain, stall};
 
 /// An action of the tool that may come at t: a stall, a command where no stall may come, or the move of what is on its
 /// way. A core has so many processors.

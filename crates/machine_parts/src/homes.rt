@@ -6,7 +6,7 @@ ghost use Rattle.sched_model.specs.declared.machine.Machine.{Machine};
 ghost use Rattle.sched_model.specs.declared.state.State.{State};
 ghost use Rattle.sched_model.specs.Actions.{home_of_core};
 ghost use Rattle.cpupool.specs.Tool.{tool_of};
-ghost use Rattle.engine.specs.EngineState.{pool_of_event as pool_of_event_spec};
+ghost use Rattle.machine_parts.specs.Parts.{pool_of_event as pool_of_event_spec};
 
 use cpupool::ToolState;
 use sched_base::{DomId, PoolId, ProcId, ResId};

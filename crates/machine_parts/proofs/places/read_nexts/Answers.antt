@@ -1,8 +1,8 @@
 use Rattle.std.proofs.Common.{◌≡◌, arith}
 use Rattle.std.specs.Prelude.{None}
 use Rattle.sched_model.specs.Places.{at_place}
-use Rattle.engine.proofs.Kept.{nexts-below}
-use Rattle.engine.proofs.keeping.read_nexts.Goals as goal
+use Rattle.machine_parts.proofs.Firsts.{nexts-below}
+use Rattle.machine_parts.proofs.places.read_nexts.Goals as goal
 
 pub returns-clause-nexts : goal.returns-clause-nexts
 returns-clause-nexts c =
