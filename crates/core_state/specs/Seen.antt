@@ -10,6 +10,7 @@ use Rattle.sched_model.specs.declared.state.Resource.{Resource}
 use Rattle.sched_model.specs.EligibleUnits.{Decision}
 use Rattle.sched_model.specs.Places.{at_place, change_at, change_item, clear_at}
 use Rattle.sched_model.specs.Pool.{decided_core}
+pub use Rattle.plain_pool.specs.Cores.{leaving_core, stalled_to, with_sibling}
 
 -- the cores by number, for each processor the moment at which the work of the vCPU that it runs is done, and a core's processors
 pub record Seen : Type 0 where
@@ -24,10 +25,6 @@ vacant_cores g places = record { resources = replicate places None; works = repl
 -- the core changed by f
 abbrev pub changed_core : ℕ → (Resource → Resource) → Seen → Seen
 changed_core r f seen = record seen { resources = change_at r f seen.resources }
-
--- the core with its i-th processor changed by f
-abbrev pub with_sibling : ℕ → (Processor → Processor) → Resource → Resource
-with_sibling i f c = record c { processors = change_item i f c.processors }
 
 -- the processor changed by f
 abbrev pub changed_processor : ℕ → (Processor → Processor) → Seen → Seen
@@ -46,10 +43,6 @@ without_works p (suc count) works = without_works (suc p) count (clear_at p work
 abbrev pub pending_by : Moment → Resource → Resource
 pending_by due c = record c { pending = true; due = Some due }
 
--- the core is leaving; it is to decide where it has a unit
-abbrev pub leaving_core : Resource → Resource
-leaving_core c = record c { leaving = true; pending = c.pending || is_some c.cur }
-
 -- the core with what was decided at t
 abbrev pub chosen_core : ℕ → Option UnitId → Option Moment → Resource → Resource
 chosen_core t unit due c = let decision : Decision = record { unit = unit; due = due; reset = 0; records = NullPool [] } in decided_core t decision c
@@ -66,10 +59,6 @@ processor_among g cores p = sibling_of (at_place cores (p / g)) (p % g)
 abbrev pub stall_until : Option Processor → Moment → Moment
 stall_until None end = end
 stall_until (Some q) end = moment (max q.stall_end.0 end.0)
-
--- the processor's stall ends then
-abbrev pub stalled_to : Moment → Processor → Processor
-stalled_to end q = record q { stall_end = end }
 
 -- what is seen of the cores of a pool
 abbrev pub seen_in : ℕ → List (Option Moment) → Pool → Seen

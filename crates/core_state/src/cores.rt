@@ -5,7 +5,7 @@ ghost use Rattle.std.specs.Option.{option_copied};
 ghost use Rattle.sched_model.specs.Places.{first_place, is_unit};
 ghost use Rattle.core_state.specs.Seen.{stall_until as stall_until_spec};
 
-use crate::changes::{choose_at, clear_works, set_leaving, set_pending_by, set_stall_end};
+use crate::changes::{choose_at, clear_works, set_pending_by};
 use crate::dues::{
     Dues, IDS, advance, earlier, empty_dues, first_due_core, first_due_processor, least_of, rearm,
 };
@@ -13,6 +13,7 @@ use crate::ends::{lowest_end, move_end, processor_at};
 use plain_pool::cores::{core_of, first_core, has_domain, home_cores, is_on_core};
 use plain_pool::doing::{change_doing, set_pending};
 use plain_pool::events::{open_if_left, take_saved};
+use plain_pool::leaving::{end_stall, mark_leaving};
 use plain_pool::replenishing::bring_due_at;
 use sched_base::{DomId, Moment, NoMemory, ProcId, ResId, UnitId, VcpuId};
 use sched_model::places::{item_at, set_place, take_item};
@@ -261,7 +262,7 @@ impl CoreState {
         ensures { self.new ≡ changed_core r.0 leaving_core self.old }
     {
         let g = self.granularity;
-        set_leaving(r, &mut self.cores);
+        mark_leaving(r, &mut self.cores);
         rearm(&mut self.dues, g, r, &self.cores, &self.works);
     }
 
@@ -353,7 +354,7 @@ impl CoreState {
         let g = self.granularity;
         let r = p.0 / g;
         let end = later_end(processor_at(g, self.cores.as_slice(), p.0 as usize), until);
-        set_stall_end(g, p, end, &mut self.cores);
+        end_stall(g, p, end, &mut self.cores);
         rearm(&mut self.dues, g, ResId(r), &self.cores, &self.works);
         end
     }

@@ -10,6 +10,7 @@ ghost use Rattle.cpupool.specs.Verdicts.{entry_named, has_core as has_core_spec,
 use crate::outline::{DomainEntry, Outline};
 use sched_base::{Cores, DomId, Name, PoolId, ResId};
 use sched_model::config::SchedKind;
+use sched_model::places::item_at;
 
 /// The first place with this name, where the first of these has the number i.
 pub(crate) fn place_named(i: PoolId, names: &[Option<Name>], name: &Name) -> Option<PoolId>
@@ -86,9 +87,7 @@ pub(crate) fn has_core(pool: &Outline, r: ResId) -> bool
 pub(crate) fn size_in(pool: &Outline, d: DomId) -> Option<u8>
     ensures { result ≡ at_place pool.now.domains d.0 }
 {
-    let d = d.0 as usize;
-    let domains = pool.domains.as_slice();
-    if d < domains.len() { domains[d] } else { None }
+    item_at(pool.domains.as_slice(), d.0 as usize).copied()
 }
 
 /// How many cores the pool has.

@@ -95,11 +95,7 @@ pub fn count_at(affinity: &[Option<Pins>], d: DomId) -> u8
     ensures exact { result ≡ count_at_spec affinity.now d.0 }
     ensures few { result ≤ 32 }
 {
-    let place = d.0 as usize;
-    if place >= affinity.len() {
-        return 0;
-    }
-    match &affinity[place] {
+    match item_at(affinity, d.0 as usize) {
         None => 0,
         Some(sets) => sets.len() as u8,
     }

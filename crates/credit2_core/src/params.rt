@@ -24,7 +24,7 @@ use plain_credit2::running::max_weight;
 use plain_policy::params;
 use sched_base::{Cores, DomId, Moment};
 use sched_model::config::{ParamChange, Pins};
-use sched_model::places::set_place;
+use sched_model::places::{item_at, set_place};
 use sched_model::short::copies;
 use unit_places::Masks;
 
@@ -34,11 +34,8 @@ fn refresh(masks: &mut Masks, affinity: &[Option<Pins>], d: DomId)
     ensures { (u : Unit) → u.n < 256 → mask_of masks.new u
         ≡ refreshed_cores masks.old affinity.now d.0 u }
 {
-    let place = d.0 as usize;
-    if place < affinity.len() {
-        if let Some(sets) = &affinity[place] {
-            set_masks(masks, d, sets.as_slice());
-        }
+    if let Some(sets) = item_at(affinity, d.0 as usize) {
+        set_masks(masks, d, sets.as_slice());
     }
 }
 

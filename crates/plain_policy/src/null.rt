@@ -16,7 +16,7 @@ use plain_units::eligible::is_allowed;
 use sched_base::{Cores, DomId, ResId, UnitId};
 use sched_model::ask::Ask;
 use sched_model::config::Pins;
-use sched_model::places::set_place;
+use sched_model::places::{item_at, set_place};
 use sched_model::row::Row;
 use sched_model::units::{is_same, is_there};
 
@@ -24,12 +24,7 @@ use sched_model::units::{is_same, is_there};
 fn kept_at(kept: &[Option<UnitId>], core: ResId) -> Option<UnitId>
     ensures { result ≡ at_place kept.now core.0 }
 {
-    let place = core.0 as usize;
-    if place < kept.len() {
-        kept[place]
-    } else {
-        None
-    }
+    item_at(kept, core.0 as usize).copied()
 }
 
 /// Whether the set has the core.

@@ -8,7 +8,7 @@ ghost use Rattle.sched_model.specs.declared.state.Resource.{Resource as Resource
 ghost use Rattle.sched_model.specs.Opening.{fresh_core as fresh_core_spec};
 ghost use Rattle.sched_model.specs.Places.{at_place, put_at, clear_at, change_at, change_item};
 ghost use Rattle.sched_model.specs.Pool.{set_leaving as set_leaving_spec, change_processor};
-ghost use Rattle.plain_pool.specs.Cores.{fresh_processor, ends_of, stalled_to};
+ghost use Rattle.plain_pool.specs.Cores.{fresh_processor, ends_of, leaving_core, stalled_to, with_sibling};
 
 use sched_base::{Moment, ProcId, ResId};
 use sched_model::facts::StallEnds;
@@ -78,37 +78,52 @@ pub fn take_core(r: ResId, pool: &mut Pool) -> Option<StallEnds>
 }
 
 /// The core is leaving; it is to decide where it has a unit.
-pub fn set_leaving(r: ResId, pool: &mut Pool)
-    ensures { pool.new ≡ set_leaving_spec r.0 pool.old }
+pub fn mark_leaving(r: ResId, cores: &mut Row<Option<Resource>>)
+    ensures { cores.new ≡ change_at r.0 leaving_core cores.old }
 {
     let place = r.0 as usize;
-    if place < pool.resources.len() {
-        if let Some(c) = pool.resources.item_mut(place) {
+    if place < cores.len() {
+        if let Some(c) = cores.item_mut(place) {
             c.leaving = true;
             c.pending = c.pending || c.cur.is_some();
         }
     }
 }
 
-/// The stall of the core's processor at this place ends at this moment.
-#[tactic(auto, using(sched_model::proofs::PlaceLemmas::past_the_end))]
-fn set_end(c: &mut Resource, i: usize, end: u64)
-    ensures { c.new
-        ≡ record c.old { processors = change_item i (stalled_to end) c.old.processors } }
+/// The pool's core is leaving.
+pub fn set_leaving(r: ResId, pool: &mut Pool)
+    ensures { pool.new ≡ set_leaving_spec r.0 pool.old }
 {
-    if let Some(p) = c.processors.get_mut(i) {
-        p.stall_end = Moment(end);
+    mark_leaving(r, &mut pool.resources);
+}
+
+/// The stall of the processor at this place ends then.
+#[tactic(auto, using(sched_model::proofs::PlaceLemmas::past_the_end))]
+fn set_end(processors: &mut Processors, i: usize, end: Moment)
+    ensures { processors.new ≡ change_item i (stalled_to end) processors.old }
+{
+    if let Some(p) = processors.get_mut(i) {
+        p.stall_end = end;
     }
 }
 
-/// The processor's stall ends at this moment.
-pub fn set_stall_end(g: u8, p: ProcId, end: u64, pool: &mut Pool)
+/// The stall of the processor of one of the cores ends then.
+pub fn end_stall(g: u8, p: ProcId, end: Moment, cores: &mut Row<Option<Resource>>)
+    requires { 0 < g }
+    ensures { cores.new ≡ change_at (p.0 / g) (with_sibling (p.0 % g) (stalled_to end)) cores.old }
+{
+    let r = (p.0 / g) as usize;
+    if r < cores.len() {
+        if let Some(c) = cores.item_mut(r) {
+            set_end(&mut c.processors, (p.0 % g) as usize, end);
+        }
+    }
+}
+
+/// The stall of the pool's processor ends then.
+pub fn set_stall_end(g: u8, p: ProcId, end: Moment, pool: &mut Pool)
     requires { 0 < g }
     ensures { pool.new ≡ change_processor g p.0 (stalled_to end) pool.old }
 {
-    if let Some(place) = pool.resources.get_mut((p.0 / g) as usize)
-        && let Some(c) = place
-    {
-        set_end(c, (p.0 % g) as usize, end);
-    }
+    end_stall(g, p, end, &mut pool.resources);
 }

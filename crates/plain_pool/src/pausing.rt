@@ -12,6 +12,7 @@ use crate::domains::{queue_units, unit_count};
 use plain_policy::queue::dequeue_domain;
 use plain_units::units::is_of_domain;
 use sched_base::{DomId, PoolId};
+use sched_model::places::item_at;
 use sched_model::row::Row;
 use sched_model::state::{Domain, Pool, Resource};
 
@@ -40,11 +41,7 @@ fn withdraw(d: DomId, pool: &mut Pool)
 fn is_paused(d: DomId, domains: &[Option<Domain>]) -> bool
     ensures { result ≡ is_paused_at d.0 domains.now }
 {
-    let place = d.0 as usize;
-    if place >= domains.len() {
-        return false;
-    }
-    match &domains[place] {
+    match item_at(domains, d.0 as usize) {
         None => false,
         Some(domain) => domain.paused,
     }
@@ -79,11 +76,7 @@ fn paused_units(g: u8, d: DomId, domains: &[Option<Domain>]) -> Option<u8>
     requires fits { AllPlaces DomainFits domains.now }
     ensures { result ≡ paused_count g d.0 domains.now }
 {
-    let place = d.0 as usize;
-    if place >= domains.len() {
-        return None;
-    }
-    match &domains[place] {
+    match item_at(domains, d.0 as usize) {
         None => None,
         Some(domain) => {
             if domain.paused {

@@ -62,12 +62,7 @@ fn may_dom_moved(g: u8, t: Moment, pool: &Pool, d: DomId) -> bool
     requires { length pool.now.resources ≤ 64 }
     ensures { result ≡ enabled_in g t.0 pool.now (DomMoved d) }
 {
-    let place = d.0 as usize;
-    let domains = pool.domains.as_slice();
-    if place >= domains.len() {
-        return false;
-    }
-    match &domains[place] {
+    match item_at(pool.domains.as_slice(), d.0 as usize) {
         None => false,
         Some(domain) => { domain.moving.is_some() && !has_domain(0, pool.resources.as_slice(), d) }
     }

@@ -5,6 +5,7 @@ ghost use Rattle.std.specs.List.{list_any};
 ghost use Rattle.sched_model.specs.State.{is_awake, unit_runnable, runnable_among};
 
 use sched_base::UnitId;
+use sched_model::places::item_at;
 use sched_model::state::{Domain, Vcpu};
 
 /// Whether one of the vCPUs from a place on, count at most, is awake.
@@ -31,11 +32,7 @@ pub fn is_unit_runnable(g: u8, domain: &Domain, n: u8) -> bool
 pub fn is_runnable(g: u8, domains: &[Option<Domain>], u: UnitId) -> bool
     ensures { result ≡ runnable_among g domains.now u }
 {
-    let d = u.dom.0 as usize;
-    if d >= domains.len() {
-        return false;
-    }
-    match &domains[d] {
+    match item_at(domains, u.dom.0 as usize) {
         None => false,
         Some(domain) => is_unit_runnable(g, domain, u.n),
     }

@@ -11,6 +11,7 @@ ghost use Rattle.sched_model.specs.Pool.{done_at as done_at_spec, put_to_sleep, 
 ghost use Rattle.plain_pool.specs.Fits.{DomainFits, VcpuFits};
 
 use sched_base::{Moment, Span, VcpuId};
+use sched_model::places::item_at;
 use sched_model::row::Row;
 use sched_model::state::{Domain, Vcpu};
 
@@ -18,11 +19,7 @@ use sched_model::state::{Domain, Vcpu};
 pub fn vcpu_of(domains: &[Option<Domain>], v: VcpuId) -> Option<&Vcpu>
     ensures { option_copied result ≡ vcpu_among domains.now v }
 {
-    let d = v.dom.0 as usize;
-    if d >= domains.len() {
-        return None;
-    }
-    match &domains[d] {
+    match item_at(domains, v.dom.0 as usize) {
         None => None,
         Some(domain) => vcpu_in(domain, v.n as usize),
     }

@@ -6,16 +6,13 @@ ghost use Rattle.sched_model.specs.EligibleUnits.{cores_of as cores_of_spec, is_
 
 use sched_base::{Cores, ResId, UnitId};
 use sched_model::config::Pins;
+use sched_model::places::item_at;
 
 /// The unit's set of cores, where these are the sets of each domain's units.
 fn cores_of(affinity: &[Option<Pins>], u: UnitId) -> u64
     ensures { result ≡ cores_of_spec affinity.now u }
 {
-    let d = u.dom.0 as usize;
-    if d >= affinity.len() {
-        return 0;
-    }
-    match &affinity[d] {
+    match item_at(affinity, u.dom.0 as usize) {
         None => 0,
         Some(units) => set_at(units, u.n as usize),
     }

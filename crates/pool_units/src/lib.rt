@@ -17,7 +17,7 @@ use plain_units::pins::pin;
 use plain_units::units::drop_unit;
 use sched_base::{Cores, DomId, NoMemory, ResId, UnitId};
 use sched_model::config::Pins;
-use sched_model::places::set_place;
+use sched_model::places::{item_at, set_place};
 use sched_model::row::{Row, empty_places};
 use sched_model::short::{Short, copies};
 use sched_model::state::Queue;
@@ -121,11 +121,7 @@ impl PoolUnits {
         ensures { result ≡ count_at self.now.affinity d.0 }
     {
         let affinity = self.affinity();
-        let d = d.0 as usize;
-        if d >= affinity.len() {
-            return 0;
-        }
-        match &affinity[d] {
+        match item_at(affinity, d.0 as usize) {
             None => 0,
             Some(sets) => sets.len(),
         }

@@ -21,7 +21,7 @@ use sched_model::ask::Ask;
 use sched_model::config::{DomParams, ParamChange, Pins};
 use sched_model::event::Event;
 use sched_model::facts::Stored;
-use sched_model::places::set_place;
+use sched_model::places::{item_at, set_place};
 use sched_model::row::{Row, empty_places};
 use sched_model::short::copies;
 use sched_model::state::{Resource, RtdsUnit, RtdsUnits};
@@ -71,13 +71,9 @@ fn empty_tables(alloc: Global, units: usize) -> Result<(RtdsQueues, Masks, Alarm
 fn count_units(affinity: &[Option<Pins>], d: DomId) -> usize
     ensures { result ≡ size (at_place affinity.now d.0) }
 {
-    let place = d.0 as usize;
-    if place < affinity.len()
-        && let Some(sets) = &affinity[place]
-    {
-        sets.len()
-    } else {
-        0
+    match item_at(affinity, d.0 as usize) {
+        None => 0,
+        Some(sets) => sets.len(),
     }
 }
 

@@ -1,6 +1,7 @@
 //! The stalls of the workload. g is the number of a core's processors.
 
 ghost use Rattle.std.specs.Prelude.{◌≡◌, ◌<◌, ◌≤◌, ◌^◌, length, true};
+ghost use Rattle.sched_base.specs.Numbers.{moment};
 ghost use Rattle.sched_model.specs.declared.action.Action.TheVariants as actions;
 ghost use Rattle.sched_model.specs.declared.work.StallLine.{StallLine as StallRecord};
 ghost use Rattle.sched_model.specs.Machine.{is_enabled, event_of, after, stall_end_of as stall_end_of_spec, with_stall_end as stalled_spec};
@@ -100,12 +101,12 @@ fn set_end_in_free(g: u8, p: ProcId, end: u64, free: &mut Row<Option<FreeCore>>)
 /// The same of a processor of the pool with this number.
 fn set_end_at_home(g: u8, p: ProcId, end: u64, i: usize, pools: &mut Row<Option<Pool>>)
     requires { 0 < g }
-    ensures { pools.new ≡ change_at i (change_processor g p.0 (stalled_to end)) pools.old }
+    ensures { pools.new ≡ change_at i (change_processor g p.0 (stalled_to (moment end))) pools.old }
 {
     if let Some(place) = pools.get_mut(i)
         && let Some(pool) = place
     {
-        set_stall_end(g, p, end, pool);
+        set_stall_end(g, p, Moment(end), pool);
     }
 }
 

@@ -7,7 +7,7 @@ use Rattle.core_state.proofs.changes.clear_works.Goals as goal
 
 pub loop-i-preserved : goal.loop-i-preserved
 loop-i-preserved c =
-    ap (λ (ws : List (Option Moment)). without_works (c.args.p + (c.loop-i.i + 1)) (c.args.count - (c.loop-i.i + 1)) ws) c.clear_work.ensures
+    ap (λ (ws : List (Option Moment)). without_works (c.args.p + (c.loop-i.i + 1)) (c.args.count - (c.loop-i.i + 1)) ws) c.take_item.ensures.places
     ∙ without_works-turn c.args.p c.loop-i.i c.args.count c.loop-i.works (omega arith) ∙ c.loop-i.invariant
 
 pub returns : goal.returns

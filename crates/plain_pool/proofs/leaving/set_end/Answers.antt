@@ -3,4 +3,4 @@ use Rattle.plain_pool.specs.Cores.{stalled_to}
 use Rattle.plain_pool.proofs.leaving.set_end.Goals as goal
 
 pub returns-in-Some : goal.returns-in-Some
-returns-in-Some c = rw (slice_set-changed c.args.i (stalled_to c.args.end) c.args.c.now.processors c.in-Some.p.now c.in-Some.ensures.value)
+returns-in-Some c = slice_set-changed c.args.i (stalled_to c.args.end) c.args.processors.now c.in-Some.p.now c.in-Some.ensures.value

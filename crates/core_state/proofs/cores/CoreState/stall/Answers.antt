@@ -13,14 +13,14 @@ nonzero_div-r c = let some = some_processor c.self.inside.granularity c.self.inv
 pub processor_at-requires : goal.processor_at-requires
 processor_at-requires c = some_processor c.self.inside.granularity c.self.invariant.cores.granularity
 
-pub set_stall_end-requires : goal.set_stall_end-requires
-set_stall_end-requires c = some_processor c.self.inside.granularity c.self.invariant.cores.granularity
+pub end_stall-requires : goal.end_stall-requires
+end_stall-requires c = some_processor c.self.inside.granularity c.self.invariant.cores.granularity
 
 pub rearm-requires : goal.rearm-requires
-rearm-requires c = may_rearm c.self.invariant (core_change (c.args.p.0 / c.self.inside.granularity) (with_sibling (c.args.p.0 % c.self.inside.granularity) (stalled_to c.later_end-end.result)) (sibling_keeps (c.args.p.0 % c.self.inside.granularity) (stalled_to c.later_end-end.result)) c.self.invariant) c.set_stall_end.ensures refl
+rearm-requires c = may_rearm c.self.invariant (core_change (c.args.p.0 / c.self.inside.granularity) (with_sibling (c.args.p.0 % c.self.inside.granularity) (stalled_to c.later_end-end.result)) (sibling_keeps (c.args.p.0 % c.self.inside.granularity) (stalled_to c.later_end-end.result)) c.self.invariant) c.end_stall.ensures refl
 
 pub invariant_of-self : goal.invariant_of-self
-invariant_of-self c = changed_kept (c.args.p.0 / c.self.inside.granularity) (with_sibling (c.args.p.0 % c.self.inside.granularity) (stalled_to c.later_end-end.result)) c.self.invariant (core_change (c.args.p.0 / c.self.inside.granularity) (with_sibling (c.args.p.0 % c.self.inside.granularity) (stalled_to c.later_end-end.result)) (sibling_keeps (c.args.p.0 % c.self.inside.granularity) (stalled_to c.later_end-end.result)) c.self.invariant) c.set_stall_end.ensures refl c.rearm.ensures
+invariant_of-self c = changed_kept (c.args.p.0 / c.self.inside.granularity) (with_sibling (c.args.p.0 % c.self.inside.granularity) (stalled_to c.later_end-end.result)) c.self.invariant (core_change (c.args.p.0 / c.self.inside.granularity) (with_sibling (c.args.p.0 % c.self.inside.granularity) (stalled_to c.later_end-end.result)) (sibling_keeps (c.args.p.0 % c.self.inside.granularity) (stalled_to c.later_end-end.result)) c.self.invariant) c.end_stall.ensures refl c.rearm.ensures
 
 pub returns-clause-end : goal.returns-clause-end
 returns-clause-end c =
@@ -29,4 +29,4 @@ returns-clause-end c =
     ∙ ap (λ (seen : Seen). stall_until (processor_among seen.granularity seen.resources c.args.p.0) c.args.until) c.self.view_is
 
 pub returns-clause-after : goal.returns-clause-after
-returns-clause-after c = seen_is c.set_stall_end.ensures refl ∙ ap (λ (seen : Seen). changed_processor c.args.p.0 (stalled_to c.later_end-end.result) seen) c.self.view_is
+returns-clause-after c = seen_is c.end_stall.ensures refl ∙ ap (λ (seen : Seen). changed_processor c.args.p.0 (stalled_to c.later_end-end.result) seen) c.self.view_is
