@@ -5,6 +5,7 @@
 
 ghost use Rattle.std.specs.Prelude.{◌≡◌, ◌+◌, ◌*◌, ◌<◌, ◌≤◌, pos, negsuc, ◌≤ℤ◌, ◌+ℤ◌, ◌-ℤ◌, ◌*ℤ◌};
 ghost use Rattle.sched_base.specs.Credit2Numbers.{burned_credit, burned_residual};
+ghost use Rattle.sched_base.specs.Numbers.{most_span};
 
 use sched_base::Span;
 
@@ -26,7 +27,7 @@ pub fn burn(c: Credit, weight: u32, max_weight: u32, elapsed: Span) -> Credit
     requires some_weight { 1 ≤ weight }
     requires no_more { weight ≤ max_weight }
     requires most { max_weight ≤ 65535 }
-    requires short { elapsed.0 ≤ 10000000000000 }
+    requires short { elapsed.0 ≤ most_span }
     requires low { negsuc 3999999999999999999 ≤ℤ c.credit }
 
     ensures credit { result.credit ≡ burned_credit c.credit c.residual weight max_weight elapsed.0 }

@@ -9,7 +9,7 @@ ghost use Rattle.std.specs.Int.{int_min};
 ghost use Rattle.sched_base.specs.Credit2Numbers as numbers;
 
 /// No unit takes less than this at once, where the budget has so much.
-const LEAST_QUOTA: i64 = 500_000;
+pub const LEAST_QUOTA: i64 = 500_000;
 
 /// The budget that a cap gives for each 10,000,000 nanoseconds. The cap is in percent of one processor.
 pub fn total(cap: u32) -> i64

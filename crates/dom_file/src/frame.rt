@@ -9,10 +9,10 @@ ghost use Rattle.dom_file.specs.Frames.{entry_in, entry_of, entries_of, frame_en
 
 use crate::draft::{EntryDraft, FrameDraft};
 use crate::fault::{DomCause, DomFault, TableName};
-use crate::head::MOST_SPAN;
 use crate::stop::placed;
 use crate::values::{array, elements, integer, number, required, value_at};
 use sched_base::Span;
+use sched_model::machine::MOST_SPAN;
 use sched_model::short::Short;
 use std::alloc::Global;
 use toml::{Table, Value};

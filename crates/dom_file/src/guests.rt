@@ -7,11 +7,11 @@ ghost use Rattle.dom_file.specs.Guests.{script_of, scripts_of, span_of};
 ghost use Rattle.dom_file.specs.declared.fault.TableName.TheVariants.{Domain};
 
 use crate::fault::{DomCause, DomFault, TableName};
-use crate::head::MOST_SPAN;
 use crate::stop::{Stop, placed_or_stopped};
 use crate::values::{array, number, required};
 use sched_base::Span;
 use sched_model::config::{Script, Scripts};
+use sched_model::machine::MOST_SPAN;
 use sched_model::row::Row;
 use std::alloc::Global;
 use toml::{Table, Value};

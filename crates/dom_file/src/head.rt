@@ -11,11 +11,9 @@ use crate::keys::only_known;
 use crate::stop::placed;
 use crate::values::{number, number_or, required};
 use sched_base::Moment;
+use sched_model::machine::MOST_SPAN;
 use std::alloc::Global;
 use toml::Table;
-
-/// The latest moment, and the longest span, of any file, in nanoseconds.
-pub(crate) const MOST_SPAN: u64 = 10_000_000_000_000;
 
 const TOP_KEYS: [&str; 6] = [
     "format",

@@ -9,13 +9,10 @@ use pool_slots::{PoolSlot, Spares, Trail, perform_among};
 use sched_base::{Moment, NoMemory};
 use sched_model::action::Action;
 use sched_model::event::{Entry, Event};
-use sched_model::machine::Machine;
+use sched_model::machine::{MOST_POOLS, Machine};
 use std::alloc::Global;
 use std::marker::Model;
 use tool_acts::act_of_tool;
-
-/// As many pools as a machine has places for.
-const MOST_POOLS: u8 = 16;
 
 /// A machine, and the state that it stands in. Contracts see both.
 ///

@@ -9,11 +9,9 @@ use crate::value::{PartState, ToolKept};
 use arrayvec::ArrayVec;
 use lock_moves::{Held, LockId, LockSeat, LockSet};
 use pool_slots::PoolSlot;
+use sched_model::machine::MOST_POOLS;
 use std::boxed::Box;
 use std::sync::Wait;
-
-/// How many pools have a place.
-const POOLS: u8 = 16;
 
 /// The lock of what the tool keeps.
 const TOOL: LockId = LockId(16);
@@ -92,7 +90,7 @@ pub(crate) fn take_all<R: Wait>(rt: &R, set: &LockSet<PartState>, seat: &mut Loc
     ensures book { find_lock 17 seat.new.view.held ≡ None }
 {
     let mut slots = ArrayVec::new();
-    for i in 0..POOLS {
+    for i in 0..MOST_POOLS {
         slots.push(take_pool(rt, set, seat, i));
     }
     let tool = take_tool(rt, set, seat);

@@ -10,10 +10,8 @@ ghost use Rattle.pool_slots.specs.Kinds.{count_of};
 use pool_slots::KindCounts;
 use sched_model::command::Command;
 use sched_model::config::{Config, PoolConfig, SchedKind};
+use sched_model::machine::MOST_POOLS;
 use sched_model::work::{CommandLine, Work};
-
-/// The most pools that there may be.
-const MOST_POOLS: usize = 16;
 
 /// Whether the two are the same scheduler.
 fn is_kind(kind: SchedKind, other: SchedKind) -> bool
@@ -68,7 +66,7 @@ fn most(config: &Config, work: &Work, kind: SchedKind) -> u8
     ensures { result ≡ most_at_once (record { config = config.now; work = work.now }) kind }
 {
     let all = configured(config.pools.as_slice(), kind) + made(work.commands.as_slice(), kind);
-    all.min(MOST_POOLS) as u8
+    all.min(usize::from(MOST_POOLS)) as u8
 }
 
 /// The same of each scheduler.

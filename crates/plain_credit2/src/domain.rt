@@ -12,16 +12,13 @@ ghost use Rattle.sched_laws.specs.RecordRanges.{Credit2InRange};
 ghost use Rattle.plain_credit2.specs.Bounds.{DomainFits, amount_held, own_charged, reset_by};
 
 use crate::units::{above_zero, burn_unit, raise_unit, set_held, set_unit, unit_at};
-use credit2_cap::{quota, refill, take, total};
+use credit2_cap::{LEAST_QUOTA, quota, refill, take, total};
 use sched_base::Moment;
 use sched_model::short::Short;
 use sched_model::state::{Credit2Domain, Credit2Unit};
 
 /// The span between two refills.
 pub const REFILL_SPAN: u64 = 10_000_000;
-
-/// What a unit of a domain without units would take at most.
-const LEAST_QUOTA: i64 = 500_000;
 
 /// The running units of the domain charged up to t. The greatest weight of the pool is most.
 pub fn burn_units(most: u32, t: Moment, d: &mut Credit2Domain)

@@ -8,20 +8,17 @@ ghost use Rattle.std.specs.List.{All};
 ghost use Rattle.plain_policy.specs.Parameters.{ParamsFit};
 ghost use Rattle.plain_opening.specs.OpeningPool.{FewWait, AllFewWait, JoinFits, configured_if as configured_if_spec};
 
-use plain_units::pins::pin;
 use crate::cores::{free_cores, fresh_cores};
 use crate::rows::fresh_vcpus;
 use crate::spare::{core_count, pool_of_cores};
 use plain_pool::domains::with_domain;
+use plain_units::pins::pin;
 use sched_base::{Cores, DomId, Moment, Name, NoMemory};
 use sched_model::config::{Config, DomConfig, PoolConfig};
-use sched_model::machine::Machine;
+use sched_model::machine::{MOST_POOLS, Machine};
 use sched_model::row::Row;
 use sched_model::state::{Domain, Pool, State};
 use std::alloc::Global;
-
-/// How many pools there may be.
-const MOST_POOLS: usize = 16;
 
 /// The sets of cores of the units of the domain d set, the first of them that of unit n.
 #[tactic(auto, using(crate::proofs::Queues::pinned_once))]
@@ -172,7 +169,7 @@ fn opening_names(alloc: Global, pools: &[PoolConfig]) -> Result<Row<Option<Name>
         pools.now ++ replicate (16 - length pools.now) None) }
 {
     let mut names = names_of(alloc, pools)?;
-    push_empty(MOST_POOLS - pools.len(), &mut names)?;
+    push_empty(usize::from(MOST_POOLS) - pools.len(), &mut names)?;
     Ok(Row::from_vec(names))
 }
 
@@ -210,7 +207,7 @@ fn push_all(alloc: Global, config: &Config, places: &mut Vec<Option<Pool>>) -> R
 {
     let pools = config.pools.as_slice();
     push_pools(alloc, config, 0, pools, places)?;
-    push_empty(MOST_POOLS - pools.len(), places)
+    push_empty(usize::from(MOST_POOLS) - pools.len(), places)
 }
 
 /// The pools of the file, and empty places up to the most pools that there may be.

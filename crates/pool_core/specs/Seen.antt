@@ -80,5 +80,5 @@ abbrev pub with_stall : ℕ → ℕ → Moment → Pool → Pool
 with_stall g p end pool = change_processor g p (stalled_to end) pool
 
 -- a pool that was not in use, opened with the parameters
-abbrev pub reopened : PoolParams → Seen → Seen
-reopened params seen = record seen { pool = record seen.pool { scheduler = restarted_scheduler params seen.pool.scheduler }; in_use = true }
+abbrev pub reopened_pool : PoolParams → Seen → Seen
+reopened_pool params seen = record seen { pool = record seen.pool { scheduler = restarted_scheduler params seen.pool.scheduler }; in_use = true }

@@ -15,7 +15,7 @@ use Rattle.sched_model.specs.Policy.{fresh_records, kind_of}
 use Rattle.sched_ops.specs.Conditions.{ArePoolParams}
 use Rattle.sched_ops.specs.Seen.{core_places, restarted_scheduler}
 use Rattle.sched_ranges.specs.Ranges.{PoolInRange, RecordsInRange}
-use Rattle.pool_core.specs.Seen.{Seen, IsEmpty, reopened}
+use Rattle.pool_core.specs.Seen.{Seen, IsEmpty, reopened_pool}
 use Rattle.pool_core.proofs.Coming.{all_empty}
 use Rattle.pool_slots.specs.Told.{Told}
 use Rattle.pool_slots.specs.Places.{GoesOn, StandsAt, state_of}
@@ -57,12 +57,12 @@ module _ (m : Machine) (now : ℕ) (params : PoolParams) (seen : Seen) (spare : 
       ap (λ (s : Scheduler). let x : Pool = record { scheduler = s; domains = seen.pool.domains; resources = seen.pool.resources } in x) made-scheduler
       ∙ ap₂ (λ ds cs. let x : Pool = record { scheduler = (empty_pool m.config params).scheduler; domains = ds; resources = cs } in x) made-domains made-cores
 
-  pub opened-is : reopened params seen ≡ made_seen m.config params seen.latest
+  pub opened-is : reopened_pool params seen ≡ made_seen m.config params seen.latest
   opened-is =
       ap (λ (p : Pool). let x : Seen = record { pool = p; granularity = seen.granularity; spare = seen.spare; latest = seen.latest; in_use = true } in x) made-pool
       ∙ ap₂ (λ g n. let x : Seen = record { pool = empty_pool m.config params; granularity = g; spare = n; latest = seen.latest; in_use = true } in x) spare.suits.granularity spare.idle.room
 
-  pub opened-placed : IsPlaced (reopened params seen)
+  pub opened-placed : IsPlaced (reopened_pool params seen)
   opened-placed = record { used = refl; roomy = record { room = (let none = no-units seen.granularity seen.pool.domains spare.idle.empty.domains in let room = spare.idle.room in omega (arith, none, room)) } }
 
 -- a pool of the machine that is in use no longer

@@ -5,7 +5,7 @@ ghost use Rattle.std.specs.Prelude.{◌≡◌, IfOk};
 ghost use Rattle.sched_model.specs.declared.config.PoolParams.{PoolParams as Params};
 ghost use Rattle.sched_ops.specs.Conditions.{ArePoolParams};
 ghost use Rattle.pool_threads.specs.OpeningPool.{CanOpen};
-ghost use Rattle.pool_core.specs.Seen.{reopened};
+ghost use Rattle.pool_core.specs.Seen.{reopened_pool};
 
 use any_policy::AnyPolicy;
 use pool_core::PoolState;
@@ -33,7 +33,7 @@ pub fn new_pool(alloc: Global, kind: SchedKind) -> Result<AnyPool, NoMemory>
 // The pool, opened with the parameters.
 fn opened(pool: AnyPool, params: PoolParams) -> AnyPool
     requires { CanOpen params pool }
-    ensures { result ≡ reopened params pool }
+    ensures { result ≡ reopened_pool params pool }
 {
     let mut pool = pool;
     pool.open(&params);
@@ -48,8 +48,8 @@ pub fn open_both<R: Threads>(
 ) -> (AnyPool, AnyPool)
     requires left { CanOpen left.1 left.0 }
     requires right { CanOpen right.1 right.0 }
-    ensures left { result.0 ≡ reopened left.1 left.0 }
-    ensures right { result.1 ≡ reopened right.1 right.0 }
+    ensures left { result.0 ≡ reopened_pool left.1 left.0 }
+    ensures right { result.1 ≡ reopened_pool right.1 right.0 }
 {
     let (left, left_params) = left;
     let (right, right_params) = right;

@@ -9,9 +9,7 @@ use sched_base::{DomId, Moment, NoMemory, UnitId};
 use sched_ops::Timer;
 use std::alloc::Global;
 use std::marker::Model;
-
-/// How many ids there are: those of 32 units of each of 64 domains.
-const ID_COUNT: usize = 2048;
+use unit_places::PLACES;
 
 /// The alarms. Contracts see the list of the units' moments by id, none where a unit has none.
 #[derive(Drop)]
@@ -79,8 +77,8 @@ impl Alarms {
     pub fn room(alloc: Global) -> Result<Alarms, NoMemory>
         ensures { IfOk result (λ alarms. alarms ≡ replicate 2048 None) }
     {
-        let heap = DueHeap::room(alloc, ID_COUNT)?;
-        let dues = none_times(alloc, ID_COUNT)?;
+        let heap = DueHeap::room(alloc, PLACES)?;
+        let dues = none_times(alloc, PLACES)?;
         Ok(Alarms { heap, dues })
     }
 

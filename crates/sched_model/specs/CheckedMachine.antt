@@ -1,5 +1,6 @@
 -- The machines whose values pass the checks of the domain file and of the work file. Both readers promise it, and every law needs it.
 use Rattle.std.specs.Prelude.{◌≡◌, ◌≤◌, ◌<◌, ◌⊎◌, ◌*◌, ◌%◌, ◌^◌, ℕ, true, List, [], ◌∷◌, ◌-◌, Option, Some, slice_get, length, sum_by, ⊤}
+pub use Rattle.sched_base.specs.Numbers.{most_span}
 use Rattle.std.specs.List.{All}
 use Rattle.std.specs.Option.{IfSome}
 use Rattle.std.specs.Result.{IfOk, IfErr}
@@ -29,10 +30,6 @@ use Rattle.sched_model.specs.declared.work.CommandLine.{CommandLine}
 use Rattle.sched_model.specs.State.{Machine, has_core}
 use Rattle.sched_model.specs.Opening.{core_count}
 use Rattle.sched_model.specs.Actions.{units_from}
-
--- the latest moment, and the longest span, of any file
-abbrev pub most_span : ℕ
-most_span = 10000000000000
 
 -- a moment that is not before the latest one given, nor past a longest span
 pub record IsFrom (latest t : ℕ) : Type 0 where

@@ -8,11 +8,9 @@ ghost use Rattle.work_file.specs.Line.{is_silent as silent, number_within, stall
 use crate::fault::WorkCause;
 use sched_base::{Moment, ProcId, Span};
 use sched_model::config::Config;
+use sched_model::machine::MOST_SPAN;
 use sched_model::work::{CommandLine, StallLine};
 use xl_words::{next_word, read_command, read_number};
-
-/// The latest moment and the longest span, in nanoseconds.
-const MOST_SPAN: u64 = 10_000_000_000_000;
 
 /// What one line says.
 #[derive(Drop)]
