@@ -15,11 +15,11 @@ ghost use Rattle.sched_ops.specs.Seen.{Tells};
 ghost use Rattle.arinc_frame.specs.Frames.{IsPresent};
 ghost use Rattle.arinc_frame.specs.WaitingUnits.{awaited_unit as awaited_spec, chosen_unit as chosen_spec, if_allowed as if_allowed_spec, if_waits as if_waits_spec, is_other as is_other_spec};
 
-use crate::window::{Present, copy_frame, copy_of, found_at, window_now};
+use crate::window::{Present, found_at, window_now};
 use pool_units::PoolUnits;
 use sched_base::{Cores, DomId, Moment, NoMemory, ResId, UnitId};
 use sched_model::ask::Ask;
-use sched_model::config::{DomParams, Frame, ParamChange, PoolParams};
+use sched_model::config::{DomParams, Frame, ParamChange, PoolParams, same_frame};
 use sched_model::event::Event;
 use sched_model::facts::Stored;
 use sched_model::state::{ArincRecords, Resource};
@@ -149,7 +149,7 @@ fn frame_of(params: &PoolParams) -> Option<Frame>
         ≡ ArincPool (record { frame = result; installed = 0 }) }
 {
     match params {
-        PoolParams::Arinc653 { frame } => copy_of(frame),
+        PoolParams::Arinc653 { frame } => same_frame(frame),
         _ => None,
     }
 }
@@ -273,7 +273,7 @@ impl Policy for Arinc {
         match change {
             ParamChange::Frame { frame } => {
                 self.records = ArincRecords {
-                    frame: Some(copy_frame(frame)),
+                    frame: Some(frame.duplicate()),
                     installed: t.0,
                 };
                 self.present = None;

@@ -9,9 +9,7 @@ ghost use Rattle.plain_policy.specs.Frames.{window_of};
 ghost use Rattle.arinc_frame.specs.Frames.{IsPresent};
 
 use plain_policy::arinc::{Window, present_window};
-use sched_base::{Moment, Span};
-use sched_model::config::{Frame, FrameList};
-use sched_model::short::Short;
+use sched_base::Moment;
 use sched_model::state::ArincRecords;
 
 /// A window, and the moment at which it was found, in nanoseconds.
@@ -48,36 +46,5 @@ pub fn found_at(records: &ArincRecords, present: Option<Present>, t: Moment) -> 
     match window_now(records, present, t) {
         None => None,
         Some(window) => Some(Present { from: t.0, window }),
-    }
-}
-
-/// The same entries.
-fn copy_entries(entries: &FrameList) -> FrameList
-    ensures { result ≡ entries.now }
-{
-    let mut copy = Short::new();
-    for e in entries.as_slice() {
-        copy.push(*e);
-    }
-    copy
-}
-
-/// The same frame. It takes no memory.
-pub fn copy_frame(frame: &Frame) -> Frame
-    ensures { result ≡ frame.now }
-{
-    Frame {
-        major: Span(frame.major.0),
-        entries: copy_entries(&frame.entries),
-    }
-}
-
-/// The same frame, where there is one.
-pub fn copy_of(frame: &Option<Frame>) -> Option<Frame>
-    ensures { result ≡ frame.now }
-{
-    match frame {
-        None => None,
-        Some(frame) => Some(copy_frame(frame)),
     }
 }

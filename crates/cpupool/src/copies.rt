@@ -5,7 +5,7 @@ ghost use Rattle.std.specs.Prelude.{◌≡◌, IfOk};
 use sched_base::NoMemory;
 use sched_model::command::{ArincEntry, ArincList, Command, Which};
 use sched_model::row::Row;
-use sched_model::short::Short;
+use sched_model::short::{Short, same_items};
 use sched_model::work::{CommandLine, Commands, Stalls, Work};
 use std::alloc::Global;
 
@@ -40,19 +40,6 @@ fn same_entries(entries: &ArincList) -> ArincList
             unit: e.unit,
             run: e.run,
         });
-    }
-    all
-}
-
-/// The items once more, where each is copied.
-pub(crate) fn same_items<T: Copy + Default + Drop, const N: usize>(
-    items: &Short<T, N>,
-) -> Short<T, N>
-    ensures { result ≡ items.now }
-{
-    let mut all = Short::new();
-    for item in items.as_slice() {
-        all.push(*item);
     }
     all
 }

@@ -4,7 +4,6 @@ ghost use Rattle.std.specs.Prelude.{◌≡◌, option_map, slice_set};
 ghost use Rattle.sched_model.specs.Places.{at_place};
 ghost use Rattle.cpupool.specs.Steps.{first_end_up};
 
-use crate::copies::same_items;
 use crate::outline::{FreeCores, Way};
 use crate::pools::kind_of;
 use crate::tool::ToolState;
@@ -12,6 +11,7 @@ use sched_base::{DomId, Moment, PoolId, ResId};
 use sched_model::config::SchedKind;
 use sched_model::facts::{ResPart, StallEnds};
 use sched_model::places::item_at;
+use sched_model::short::same_items;
 
 /// What is on its way: a core to a pool, or to none; or a domain to a pool with this scheduler.
 #[derive(Clone, Copy, Debug, PartialEq, Eq)]

@@ -2,31 +2,17 @@
 
 ghost use Rattle.std.specs.Prelude.{◌≡◌, ◌+◌, ◌≤◌, ◌<◌, Some, None, is_some, option_map, length, map};
 ghost use Rattle.std.specs.Option.{ForSome};
-ghost use Rattle.sched_model.specs.Policy.{kind_of as kind_of_spec};
 ghost use Rattle.journal_core.specs.Parts.{outline_of as outline_of_spec, first_answer, core_leaving as core_leaving_spec, domain_moving as domain_moving_spec, core_joining as core_joining_spec, leaving_pool as leaving_pool_spec, under_way_of as under_way_of_spec};
 ghost use Rattle.cpupool.specs.Tool.{way_of, size_of as size_of_spec, ends_of as ends_of_spec};
 ghost use Rattle.cpupool.specs.Fits.{DomainFits, PoolFits, StateFits};
 ghost use Rattle.sched_model.specs.Places.{AllPlaces};
 
-use crate::copies::same_items;
 use crate::outline::{CoreFlags, DomainSizes, FreeCores, Outline, Outlines, PoolNames, Way};
 use sched_base::{DomId, Name, PoolId, ResId};
 use sched_model::config::SchedKind;
-use sched_model::facts::StallEnds;
-use sched_model::short::Short;
+use sched_model::facts::{StallEnds, kind_of};
+use sched_model::short::{Short, same_items};
 use sched_model::state::{Domain, FreeCore, Pool, Records, Resource, State};
-
-/// Which scheduler it is.
-fn kind_of(records: &Records) -> SchedKind
-    ensures { result ≡ kind_of_spec records.now }
-{
-    match records {
-        Records::Credit2Pool(_) => SchedKind::Credit2,
-        Records::RtdsPool(_) => SchedKind::Rtds,
-        Records::ArincPool(_) => SchedKind::Arinc653,
-        Records::NullPool(_) => SchedKind::Null,
-    }
-}
 
 /// Which cores there are.
 #[tactic(auto, using(std::proofs::lemmas::List::map_more))]

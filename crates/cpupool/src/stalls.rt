@@ -3,12 +3,12 @@
 ghost use Rattle.std.specs.Prelude.{◌≡◌, max, slice_get};
 ghost use Rattle.sched_base.specs.Numbers.{moment};
 
-use crate::copies::same_items;
 use crate::moves::{put_end, put_ends};
 use crate::tool::ToolState;
 use sched_base::{Moment, ProcId, ResId};
 use sched_model::facts::StallEnds;
 use sched_model::places::item_at;
+use sched_model::short::same_items;
 
 impl ToolState {
     ghost use Rattle.std.specs.Prelude.{◌≡◌, ◌/◌, ◌%◌, None, IsSome};

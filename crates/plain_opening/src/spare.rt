@@ -8,7 +8,7 @@ ghost use Rattle.plain_opening.specs.OpeningPool.{spare_for as spare_for_spec, s
 use plain_policy::params::default_pool_params;
 use sched_base::NoMemory;
 use sched_model::command::Command;
-use sched_model::config::{Config, Frame, FrameList, PoolParams, SchedKind};
+use sched_model::config::{Config, PoolParams, SchedKind, same_frame};
 use sched_model::machine::Machine;
 use sched_model::row::{Row, empty_places};
 use sched_model::short::Short;
@@ -22,30 +22,6 @@ pub fn core_count(config: &Config) -> u8
     ensures { result ≡ core_count_spec config.now }
 {
     config.processors / config.granularity
-}
-
-/// The entries once more. It takes no memory.
-fn same_entries(entries: &FrameList) -> FrameList
-    ensures { result ≡ entries.now }
-{
-    let mut all = Short::new();
-    for e in entries.as_slice() {
-        all.push(*e);
-    }
-    all
-}
-
-/// The frame once more, where there is one. It takes no memory.
-fn same_frame(frame: &Option<Frame>) -> Option<Frame>
-    ensures { result ≡ frame.now }
-{
-    match frame {
-        None => None,
-        Some(frame) => Some(Frame {
-            major: frame.major,
-            entries: same_entries(&frame.entries),
-        }),
-    }
 }
 
 /// The records of a pool with these parameters and no domain, on a machine of so many domains and cores.

@@ -2,27 +2,14 @@
 
 ghost use Rattle.std.specs.Prelude.{◌≡◌};
 ghost use Rattle.std.specs.Option.{option_copied};
-ghost use Rattle.sched_model.specs.Policy.{kind_of as kind_of_spec, rate_of as rate_of_spec, replenish_due as replenish_due_spec, next_refill as next_refill_spec, rtds_record as rtds_record_spec, credit2_record as credit2_record_spec};
+ghost use Rattle.sched_model.specs.Policy.{rate_of as rate_of_spec, replenish_due as replenish_due_spec, next_refill as next_refill_spec, rtds_record as rtds_record_spec, credit2_record as credit2_record_spec};
 ghost use Rattle.sched_model.specs.Machine.{is_null as is_null_spec};
 
 use crate::rtds::rtds_unit;
 pub use plain_credit2::credit2::periods;
 use sched_base::{DomId, Moment, UnitId};
-use sched_model::config::SchedKind;
 use sched_model::places::item_at;
 use sched_model::state::{Credit2Domain, Records, RtdsUnit};
-
-/// Which scheduler it is.
-pub fn kind_of(records: &Records) -> SchedKind
-    ensures { result ≡ kind_of_spec records.now }
-{
-    match records {
-        Records::Credit2Pool(_) => SchedKind::Credit2,
-        Records::RtdsPool(_) => SchedKind::Rtds,
-        Records::ArincPool(_) => SchedKind::Arinc653,
-        Records::NullPool(_) => SchedKind::Null,
-    }
-}
 
 /// Whether it is the null scheduler.
 pub fn is_null(records: &Records) -> bool

@@ -1,7 +1,6 @@
 //! Domains that are paused or leave for another pool. g is the number of a core's processors.
 
 ghost use Rattle.std.specs.Prelude.{◌≡◌, ◌<◌, ◌≤◌, Some, length, option_map};
-ghost use Rattle.sched_base.specs.Numbers.{pool as pool_number};
 ghost use Rattle.sched_model.specs.declared.state.Domain.{Domain as DomainRecord};
 ghost use Rattle.sched_model.specs.Places.{change_at, change_each, AllPlaces};
 ghost use Rattle.sched_model.specs.Pool.{withdrawn_pool, pause as pause_spec, unpause as unpause_spec, set_moving as set_moving_spec};
@@ -48,7 +47,7 @@ fn is_paused(d: DomId, domains: &[Option<Domain>]) -> bool
 }
 
 /// The domain is paused, or no longer.
-fn set_paused(d: DomId, paused: bool, domains: &mut Row<Option<Domain>>)
+pub fn set_paused(d: DomId, paused: bool, domains: &mut Row<Option<Domain>>)
     ensures { domains.new ≡ change_at d.0 (λ (domain : DomainRecord).
         record domain { paused = paused }) domains.old }
 {
@@ -102,15 +101,15 @@ pub fn unpause(g: u8, d: DomId, pool: &mut Pool)
     }
 }
 
-/// The domain has this pool to move to.
-fn set_target(d: DomId, i: u8, domains: &mut Row<Option<Domain>>)
+/// The domain has this pool to move to, or none any more.
+pub fn set_target(d: DomId, to: Option<PoolId>, domains: &mut Row<Option<Domain>>)
     ensures { domains.new ≡ change_at d.0 (λ (domain : DomainRecord).
-        record domain { moving = Some (pool_number i) }) domains.old }
+        record domain { moving = to }) domains.old }
 {
     if let Some(place) = domains.get_mut(d.0 as usize)
         && let Some(domain) = place
     {
-        domain.moving = Some(PoolId(i));
+        domain.moving = to;
     }
 }
 
@@ -118,6 +117,6 @@ fn set_target(d: DomId, i: u8, domains: &mut Row<Option<Domain>>)
 pub fn set_moving(d: DomId, i: u8, pool: &mut Pool)
     ensures { pool.new ≡ set_moving_spec d.0 i pool.old }
 {
-    set_target(d, i, &mut pool.domains);
+    set_target(d, Some(PoolId(i)), &mut pool.domains);
     withdraw(d, pool);
 }

@@ -7,7 +7,7 @@ ghost use Rattle.sched_model.specs.declared.state.RtdsUnit.{RtdsUnit as RtdsReco
 
 use sched_base::UnitId;
 use sched_model::row::Row;
-use sched_model::short::Short;
+use sched_model::short::same_items;
 use sched_model::state::{Credit2Domain, RtdsUnits};
 
 /// What can be had once more with no memory taken.
@@ -17,17 +17,6 @@ pub trait Again {
         ensures { result ≡ self.now };
 }
 
-/// The units once more.
-fn same_units<T: Copy + Default + Drop>(units: &Short<T, 32>) -> Short<T, 32>
-    ensures { result ≡ units.now }
-{
-    let mut all = Short::new();
-    for u in units.as_slice() {
-        all.push(*u);
-    }
-    all
-}
-
 impl Again for Credit2Domain {
     fn again(&self) -> Credit2Domain {
         Credit2Domain {
@@ -35,14 +24,14 @@ impl Again for Credit2Domain {
             cap: self.cap,
             budget: self.budget,
             refill: self.refill,
-            units: same_units(&self.units),
+            units: same_items(&self.units),
         }
     }
 }
 
 impl Again for RtdsUnits {
     fn again(&self) -> RtdsUnits {
-        same_units(self)
+        same_items(self)
     }
 }
 

@@ -1,7 +1,9 @@
 //! The machine as the domain file describes it.
 
+ghost use Rattle.std.specs.Prelude.{◌≡◌};
+
 use crate::row::Row;
-use crate::short::Short;
+use crate::short::{Short, same_items};
 use sched_base::{Cores, DomId, Moment, Name, PoolId, Span, UnitId};
 
 /// Which scheduler a pool has.
@@ -30,6 +32,30 @@ pub type FrameList = Short<FrameEntry, 64>;
 pub struct Frame {
     pub major: Span,
     pub entries: FrameList,
+}
+
+impl Frame {
+    ghost use Rattle.std.specs.Prelude.{◌≡◌};
+
+    /// The same frame once more. It takes no memory.
+    pub fn duplicate(&self) -> Frame
+        ensures { result ≡ self.now }
+    {
+        Frame {
+            major: self.major,
+            entries: same_items(&self.entries),
+        }
+    }
+}
+
+/// The frame once more, where there is one. It takes no memory.
+pub fn same_frame(frame: &Option<Frame>) -> Option<Frame>
+    ensures { result ≡ frame.now }
+{
+    match frame {
+        None => None,
+        Some(frame) => Some(frame.duplicate()),
+    }
 }
 
 /// The parameters of a pool.

@@ -1,7 +1,24 @@
 //! What a pool tells of itself to those who judge commands and move cores.
 
+ghost use Rattle.std.specs.Prelude.{◌≡◌};
+ghost use Rattle.sched_model.specs.Policy.{kind_of as kind_of_spec};
+
+use crate::config::SchedKind;
 use crate::short::Short;
+use crate::state::Records;
 use sched_base::{DomId, Moment, PoolId, ResId, Span};
+
+/// Which scheduler has these records.
+pub fn kind_of(records: &Records) -> SchedKind
+    ensures { result ≡ kind_of_spec records.now }
+{
+    match records {
+        Records::Credit2Pool(_) => SchedKind::Credit2,
+        Records::RtdsPool(_) => SchedKind::Rtds,
+        Records::ArincPool(_) => SchedKind::Arinc653,
+        Records::NullPool(_) => SchedKind::Null,
+    }
+}
 
 /// The RTDS parameters that a command gives, in nanoseconds; what it does not give stays as it was set.
 #[derive(Clone, Copy, Debug, PartialEq, Eq)]

@@ -112,3 +112,14 @@ pub fn copies<T: Copy + Default + Drop>(item: T, count: u8) -> Short<T, 32>
     }
     items
 }
+
+/// The items once more, where each is copied. It takes no memory.
+pub fn same_items<T: Copy + Default + Drop, const N: usize>(items: &Short<T, N>) -> Short<T, N>
+    ensures { result ≡ items.now }
+{
+    let mut all = Short::new();
+    for item in items.as_slice() {
+        all.push(*item);
+    }
+    all
+}

@@ -10,6 +10,7 @@ use crate::part::DomPart;
 use crate::sleepers::{IDS, rearm, rearm_domain, vcpu_with, wake_moment};
 use due_heap::DueHeap;
 use plain_pool::domains::unit_count;
+use plain_pool::pausing::{set_paused, set_target};
 use plain_pool::runnable::is_runnable;
 use plain_pool::vcpus::{done_at, sleep_vcpu, start_vcpu, stop_vcpu, vcpu_of, wake_vcpu};
 use sched_base::{DomId, Moment, NoMemory, PoolId, UnitId, VcpuId};
@@ -67,30 +68,6 @@ fn home_domains(domains: &[Option<Domain>]) -> u64
         }
     }
     set
-}
-
-/// The domain is paused, or no longer.
-fn pause_at(domains: &mut Row<Option<Domain>>, d: DomId, yes: bool)
-    ensures { domains.new ≡ change_at d.0 (λ (x : DomainRecord). record x { paused = yes })
-        domains.old }
-{
-    if let Some(place) = domains.get_mut(d.0 as usize)
-        && let Some(domain) = place
-    {
-        domain.paused = yes;
-    }
-}
-
-/// The domain is moving to a pool, or no longer.
-fn aim_at(domains: &mut Row<Option<Domain>>, d: DomId, to: Option<PoolId>)
-    ensures { domains.new ≡ change_at d.0 (λ (x : DomainRecord). record x { moving = to })
-        domains.old }
-{
-    if let Some(place) = domains.get_mut(d.0 as usize)
-        && let Some(domain) = place
-    {
-        domain.moving = to;
-    }
 }
 
 /// The domain, which is there, is taken out of its place.
@@ -225,7 +202,7 @@ impl Guests {
               self.old.domains;
         } }
     {
-        pause_at(&mut self.domains, d, yes);
+        set_paused(d, yes, &mut self.domains);
     }
 
     /// A domain is moving to a pool, or no longer. Where it is not there, nothing changes.
@@ -235,7 +212,7 @@ impl Guests {
               self.old.domains;
         } }
     {
-        aim_at(&mut self.domains, d, to);
+        set_target(d, to, &mut self.domains);
     }
 
     /// A domain goes out, and its units leave their room. None of its vCPUs is started.

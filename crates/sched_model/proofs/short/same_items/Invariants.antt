@@ -1,5 +1,5 @@
 use Rattle.std.proofs.Common.{◌≡◌, take}
-use Rattle.cpupool.proofs.copies.same_items.Given as goal
+use Rattle.sched_model.proofs.short.same_items.Given as goal
 
 abbrev pub invariant-loop-item : goal.invariant-loop-item
 invariant-loop-item g l = l.all ≡ take l.item-index l.item-items
