@@ -1,5 +1,5 @@
 -- What callers see of a pool's cores, and what a change of one core or one processor makes of it.
-use Rattle.std.specs.Prelude.{ℕ, zero, suc, ◌/◌, ◌%◌, ◌||◌, true, max, List, [], Option, Some, None, is_some, replicate, slice_get, slice_set}
+use Rattle.std.specs.Prelude.{ℕ, zero, suc, ◌/◌, ◌%◌, true, max, List, [], Option, Some, None, replicate, slice_get, slice_set}
 use Rattle.sched_base.specs.Numbers.{moment}
 use Rattle.sched_base.specs.declared.Moment.{Moment}
 use Rattle.sched_base.specs.declared.UnitId.{UnitId}
@@ -8,7 +8,7 @@ use Rattle.sched_model.specs.declared.state.Processor.{Processor}
 use Rattle.sched_model.specs.declared.state.Records.TheVariants.{NullPool}
 use Rattle.sched_model.specs.declared.state.Resource.{Resource}
 use Rattle.sched_model.specs.EligibleUnits.{Decision}
-use Rattle.sched_model.specs.Places.{at_place, change_at, change_item, clear_at}
+use Rattle.sched_model.specs.Places.{at_place, change_at, clear_at}
 use Rattle.sched_model.specs.Pool.{decided_core}
 pub use Rattle.plain_pool.specs.Cores.{leaving_core, stalled_to, with_sibling}
 

@@ -1,13 +1,8 @@
 //! The sets of moments of one pool's cores and processors. g is the number of a core's processors.
 
-ghost use Rattle.std.specs.Prelude.{◌≡◌, ◌+◌, ◌*◌, ◌<◌, ◌≤◌, ℕ, None, Some, IfOk, length, slice_set, replicate};
-ghost use Rattle.sched_base.specs.declared.Moment.{Moment as MomentRecord};
-ghost use Rattle.sched_model.specs.declared.action.Action.TheVariants.{Moved, Block, Slice, Arrive, Decide, Leave, Save};
-ghost use Rattle.sched_model.specs.CheckedMachine.{IsGranularity};
+ghost use Rattle.std.specs.Prelude.{◌≡◌, ◌+◌, ◌*◌, ◌<◌, ◌≤◌, None, Some, IfOk, length, slice_set, replicate};
 ghost use Rattle.std.specs.Option.{option_copied};
 ghost use Rattle.due_heap.specs.Dues.{due_of};
-ghost use Rattle.core_state.specs.Seen.{Seen};
-ghost use Rattle.core_state.specs.Ends.{ready_among};
 ghost use Rattle.core_state.specs.Firsts.{IsFirstCore, IsFirstProcessor, IsLeast, earlier_moment as earlier_spec};
 ghost use Rattle.core_state.specs.CoreState.{AreArmed, AreEmpty, MayRearm, with_core_ends, with_processor_ends};
 

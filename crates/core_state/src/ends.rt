@@ -2,7 +2,6 @@
 
 ghost use Rattle.std.specs.Prelude.{◌≡◌, ◌<◌, not, true, None, Some};
 ghost use Rattle.std.specs.Option.{option_copied};
-ghost use Rattle.sched_model.specs.declared.state.Processor.{Processor as ProcessorRecord};
 ghost use Rattle.sched_model.specs.Places.{at_place, first_place};
 ghost use Rattle.sched_model.specs.Pool.{is_held as is_held_spec};
 ghost use Rattle.pool_laws.specs.ReadyMoments.{moment_if as when_spec, later_moment as later_spec, end_of, end_where, first_end as first_end_spec, may_move as may_move_spec, gathers as gathers_spec, slice_end as slice_end_spec};

@@ -1,7 +1,6 @@
 //! What the tool finds among the names and the pools that it keeps.
 
 ghost use Rattle.std.specs.Prelude.{◌≡◌, ◌+◌, ◌≤◌, ◌<◌, true, is_some, length, option_map, bytes_eq, count_by};
-ghost use Rattle.std.specs.Option.{option_copied};
 ghost use Rattle.sched_model.specs.Places.{at_place, first_place, first_empty};
 ghost use Rattle.journal_core.specs.Parts.{Outline as PoolOutline};
 ghost use Rattle.cpupool.specs.Tool.{number_of_domain, number_of_pool};

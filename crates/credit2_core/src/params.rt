@@ -1,6 +1,6 @@
 //! Domains that join and part, and changes of parameters. Moments are in nanoseconds.
 
-ghost use Rattle.std.specs.Prelude.{◌≡◌, ◌==◌, ◌&&◌, ◌^◌, ◌≤◌, ◌<◌, ◌+◌, ◌-◌, length, Some, None, true, ℕ};
+ghost use Rattle.std.specs.Prelude.{◌≡◌, ◌==◌, ◌&&◌, ◌^◌, ◌≤◌, ◌<◌, ◌+◌, ◌-◌, length, Some, None, true};
 ghost use Rattle.std.specs.Option.{ForSome};
 ghost use Rattle.sched_base.specs.declared.UnitId.{UnitId as Unit};
 ghost use Rattle.unit_places.specs.Masks.{mask_of};
@@ -9,7 +9,7 @@ ghost use Rattle.sched_model.specs.declared.config.DomParams.TheVariants as dom_
 ghost use Rattle.sched_model.specs.declared.config.ParamChange.TheVariants as changes;
 ghost use Rattle.sched_model.specs.Places.{at_place};
 ghost use Rattle.sched_model.specs.Policy.{join as join_spec, part as part_spec, set_params as set_params_spec};
-ghost use Rattle.sched_ops.specs.Seen.{Seen, seen_at, units_of};
+ghost use Rattle.sched_ops.specs.Seen.{seen_at, units_of};
 ghost use Rattle.sched_ops.specs.Conditions.{IsNow, IsWeight, IsCap, HasNoneBusy, IsChange, has_joined as joined_spec};
 ghost use Rattle.credit2_core.specs.Credit2State.{IsSound, scheduler_in, seen_in};
 ghost use Rattle.arrival_queue.specs.Filters.{first_that, has_domain};

@@ -2,8 +2,7 @@
 
 ghost use Rattle.std.specs.Prelude.{◌≡◌, true, Some, ◌≤◌};
 ghost use Rattle.sched_model.specs.declared.config.PoolParams.TheVariants as pool_params;
-ghost use Rattle.sched_model.specs.Places.{has_unit};
-ghost use Rattle.sched_model.specs.Policy.{enqueue as enqueue_spec, rate_of};
+ghost use Rattle.sched_model.specs.Policy.{enqueue as enqueue_spec};
 ghost use Rattle.sched_ops.specs.Seen.{with_scheduler, restarted_scheduler, dequeue as dequeue_spec};
 ghost use Rattle.sched_ops.specs.Conditions.{IsAway, Keeps, is_member, is_vacant};
 ghost use Rattle.sched_ops.specs.Told.{IsInRange};

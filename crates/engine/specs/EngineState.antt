@@ -1,8 +1,7 @@
 -- What the engine keeps, and that it is of the state that its trail leads to.
-use Rattle.std.specs.Prelude.{ℕ, ◌≡◌, ◌≤◌, List, Option, None, Some, length}
+use Rattle.std.specs.Prelude.{ℕ, ◌≡◌, ◌≤◌, List, Option, None, length}
 use Rattle.sched_base.specs.declared.Moment.{Moment}
 use Rattle.sched_model.specs.declared.action.Action.{Action}
-use Rattle.sched_model.specs.declared.state.State.{State}
 use Rattle.sched_model.specs.Places.{at_place}
 use Rattle.cpupool.specs.Tool.{Tool}
 use Rattle.pool_core.specs.Seen.{Seen}

@@ -1,6 +1,6 @@
 //! A turn of the whole machine: its next entry, under all locks.
 
-ghost use Rattle.std.specs.Prelude.{◌≡◌, ◌<◌, [], None, Some, IfOk, IfErr, length};
+ghost use Rattle.std.specs.Prelude.{◌≡◌, ◌<◌, None, Some, IfOk, IfErr, length};
 ghost use Rattle.sched_model.specs.Machine.{first_enabled};
 ghost use Rattle.lock_moves.specs.Plays.{Current};
 ghost use Rattle.lock_moves.specs.SeatSight.{find_lock};

@@ -1,7 +1,7 @@
 //! An accepted command, carried out on the state at the moment t. The home of a domain is the number of the pool that has it.
 
 ghost use Rattle.sched_model.specs.CheckedMachine.{most_span};
-ghost use Rattle.std.specs.Prelude.{◌≡◌, ◌≤◌, ◌<◌, ◌+◌, ℕ, None, Some, length, slice_set, if◌then◌else◌, ◌==◌};
+ghost use Rattle.std.specs.Prelude.{◌≡◌, ◌≤◌, ◌<◌, ◌+◌, ℕ, None, Some, slice_set, if◌then◌else◌, ◌==◌};
 ghost use Rattle.sched_laws.specs.EachPlace.{EachPlace};
 ghost use Rattle.sched_model.specs.declared.config.ParamChange.TheVariants as changes;
 ghost use Rattle.sched_model.specs.declared.state.FreeCore.{FreeCore as FreeCoreRecord};

@@ -6,7 +6,6 @@ use Rattle.std.proofs.lemmas.Int.{ints}
 use Rattle.std.proofs.lemmas.List.{length-map}
 use Rattle.std.proofs.lemmas.List.Elements.{All-map}
 use Rattle.std.proofs.lemmas.List.Sums.{sum_by-cons}
-use Rattle.std.proofs.lemmas.Nat.{div-add-mod'}
 use Rattle.std.proofs.Math.Nat.{mod-lt, div-le_self, max-le}
 use Rattle.sched_base.specs.Credit2Numbers.{above_zero, charge, burned_credit, burned_residual}
 use Rattle.sched_model.specs.declared.state.Credit2Unit.{Credit2Unit}

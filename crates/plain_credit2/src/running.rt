@@ -2,9 +2,8 @@
 
 ghost use Rattle.sched_model.specs.CheckedMachine.{most_span};
 ghost use Rattle.std.specs.Prelude.{◌≡◌, ◌≤◌, ℕ, map, fold, max, Some};
-ghost use Rattle.std.specs.Option.{option_copied};
 ghost use Rattle.sched_model.specs.declared.state.Credit2Domain.{Credit2Domain as DomainRecord};
-ghost use Rattle.sched_model.specs.Places.{at_place, change_each, change_item, numbered_items};
+ghost use Rattle.sched_model.specs.Places.{change_each, change_item, numbered_items};
 ghost use Rattle.sched_model.specs.Credit2.{max_weight as max_weight_spec, burn_unit as burn_unit_spec, change_unit, burn_cur as burn_cur_spec, reset as reset_spec, take_budget as take_budget_spec, change_domain, set_running as set_running_spec, switch_off as switch_off_spec, credit_of as credit_of_spec, refilled_pool};
 ghost use Rattle.plain_units.specs.Fits.{Credit2Fits};
 ghost use Rattle.plain_credit2.specs.Bounds.{PoolFits, PoolParamsFit, DomainFits, reset_by, credit_at};

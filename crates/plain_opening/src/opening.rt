@@ -1,6 +1,6 @@
 //! The state at the opening.
 
-ghost use Rattle.std.specs.Prelude.{◌≡◌, ℕ, ◌+◌, ◌-◌, ◌≤◌, ◌<◌, ◌*◌, ◌∷◌, ◌++◌, [], List, Option, Some, None, IfOk, OnOk, replicate, length, map, slice_get};
+ghost use Rattle.std.specs.Prelude.{◌≡◌, ◌+◌, ◌-◌, ◌≤◌, ◌<◌, ◌*◌, ◌++◌, [], Option, Some, None, IfOk, OnOk, replicate, length, map};
 ghost use Rattle.sched_model.specs.declared.config.PoolConfig.{PoolConfig as PoolConfigRecord};
 ghost use Rattle.sched_model.specs.CheckedMachine.{IsChecked, IsCheckedConfig};
 ghost use Rattle.sched_model.specs.Opening.{with_pins as with_pins_spec, with_configured as with_configured_spec, with_domains as with_domains_spec, opening_pool as opening_pool_spec, opening_pools as opening_pools_spec, opening};

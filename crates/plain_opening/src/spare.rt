@@ -1,6 +1,6 @@
 //! Pools without domains and cores, and those that the commands of a work file may make.
 
-ghost use Rattle.std.specs.Prelude.{◌≡◌, ◌+◌, ◌≤◌, ◌<◌, ◌/◌, ◌∷◌, [], List, Option, Some, None, IfOk, replicate, length, map};
+ghost use Rattle.std.specs.Prelude.{◌≡◌, ◌<◌, ◌/◌, [], Option, Some, None, IfOk, replicate};
 ghost use Rattle.sched_model.specs.Opening.{empty_pool as empty_pool_spec, core_count as core_count_spec};
 ghost use Rattle.sched_model.specs.Policy.{fresh_records as fresh_records_spec};
 ghost use Rattle.plain_opening.specs.OpeningPool.{spare_for as spare_for_spec, spares_of};

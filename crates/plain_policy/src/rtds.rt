@@ -6,7 +6,7 @@ ghost use Rattle.std.specs.Option.{option_copied};
 ghost use Rattle.sched_base.specs.declared.UnitId.{UnitId as UnitName};
 ghost use Rattle.sched_model.specs.declared.state.RtdsUnit.{RtdsUnit as RtdsRecord};
 ghost use Rattle.sched_model.specs.declared.state.Records.TheVariants.{RtdsPool};
-ghost use Rattle.sched_model.specs.Places.{at_place, change_item};
+ghost use Rattle.sched_model.specs.Places.{change_item};
 ghost use Rattle.sched_model.specs.EligibleUnits.{rtds_unit as rtds_unit_spec, passes as passes_spec, eligible_units};
 ghost use Rattle.sched_model.specs.Rtds.{burn as burn_spec, burn_to as burn_to_spec, replenish as replenish_spec, change_unit, is_before as is_before_spec, unit_before as unit_before_spec, foremost_unit as foremost_spec, budget_left as budget_left_spec, own_candidate as own_candidate_spec, burn_cur as burn_cur_spec, set_running as set_running_spec, choice as choice_spec, decide as decide_spec, rtds_decision, fresh_units as fresh_units_spec};
 ghost use Rattle.sched_laws.specs.RecordRanges.{RtdsInRange};

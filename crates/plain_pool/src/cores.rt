@@ -2,9 +2,8 @@
 
 ghost use Rattle.std.specs.Prelude.{◌≡◌, ℕ, ◌+◌, ◌<◌, ◌≤◌, ◌^◌, ◌||◌, true, length};
 ghost use Rattle.std.specs.List.{list_any, list_all};
-ghost use Rattle.std.specs.Option.{option_copied};
 ghost use Rattle.sched_model.specs.declared.state.Resource.{Resource as ResourceRecord};
-ghost use Rattle.sched_model.specs.Places.{at_place, first_place, numbered_items, is_unit};
+ghost use Rattle.sched_model.specs.Places.{first_place, numbered_items, is_unit};
 ghost use Rattle.sched_model.specs.Pool.{cores_from, is_held as is_held_spec, is_idle as is_idle_spec, is_of_domain as is_of_domain_spec, is_open as is_open_spec, first_up as first_up_spec};
 ghost use Rattle.sched_model.specs.State.{is_up as is_up_spec};
 ghost use Rattle.sched_base.specs.Numbers.{has_come as has_come_spec};

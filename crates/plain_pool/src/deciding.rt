@@ -2,10 +2,9 @@
 
 ghost use Rattle.sched_model.specs.CheckedMachine.{most_span};
 ghost use Rattle.std.specs.Prelude.{◌≡◌, ◌≤◌, ◌<◌, length, IsTrue, false, None, Some};
-ghost use Rattle.std.specs.Option.{option_copied};
 ghost use Rattle.sched_base.specs.Numbers.{span};
 ghost use Rattle.sched_model.specs.declared.action.Action.TheVariants.{Decide};
-ghost use Rattle.sched_model.specs.Places.{at_place, change_at};
+ghost use Rattle.sched_model.specs.Places.{change_at};
 ghost use Rattle.sched_model.specs.Pool.{enabled_in, after_in, event_in, ask_of as ask_of_spec, lateness};
 ghost use Rattle.plain_units.specs.Fits.{RecordsFit};
 ghost use Rattle.plain_pool.specs.Decisions.{decided_by};

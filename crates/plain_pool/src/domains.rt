@@ -1,8 +1,8 @@
 //! Domains that join a pool and part from it, and units that are queued. g is the number of a core's processors, t the moment.
 
 ghost use Rattle.sched_model.specs.CheckedMachine.{most_span};
-ghost use Rattle.std.specs.Prelude.{◌≡◌, ◌<◌, ◌≤◌, None, length};
-ghost use Rattle.sched_model.specs.Places.{at_place, clear_at, numbers_from};
+ghost use Rattle.std.specs.Prelude.{◌≡◌, ◌<◌, ◌≤◌, length};
+ghost use Rattle.sched_model.specs.Places.{at_place, numbers_from};
 ghost use Rattle.sched_model.specs.Pool.{unit_count as unit_count_spec, queue_if_off as queue_if_off_spec, queue_units as queue_units_spec, with_domain as with_domain_spec, without_domain as without_domain_spec};
 ghost use Rattle.plain_policy.specs.Parameters.{ParamsFit};
 

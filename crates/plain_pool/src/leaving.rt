@@ -1,10 +1,6 @@
 //! Cores that join a pool and leave it, and the ends of their stalls. g is the number of a core's processors.
 
-ghost use Rattle.std.specs.Prelude.{◌≡◌, ◌<◌, ◌≤◌, ◌/◌, ◌%◌, ◌^◌, length, map, option_map};
-ghost use Rattle.sched_base.specs.Numbers.{moment};
-ghost use Rattle.sched_model.specs.declared.state.Pool.{Pool as PoolRecord};
-ghost use Rattle.sched_model.specs.declared.state.Processor.{Processor as ProcessorRecord};
-ghost use Rattle.sched_model.specs.declared.state.Resource.{Resource as ResourceRecord};
+ghost use Rattle.std.specs.Prelude.{◌≡◌, ◌<◌, ◌/◌, ◌%◌, map, option_map};
 ghost use Rattle.sched_model.specs.Opening.{fresh_core as fresh_core_spec};
 ghost use Rattle.sched_model.specs.Places.{at_place, put_at, clear_at, change_at, change_item};
 ghost use Rattle.sched_model.specs.Pool.{set_leaving as set_leaving_spec, change_processor};

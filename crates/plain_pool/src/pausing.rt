@@ -1,6 +1,6 @@
 //! Domains that are paused or leave for another pool. g is the number of a core's processors.
 
-ghost use Rattle.std.specs.Prelude.{◌≡◌, ◌<◌, ◌≤◌, Some, length, option_map};
+ghost use Rattle.std.specs.Prelude.{◌≡◌, ◌<◌, ◌≤◌, Some, length};
 ghost use Rattle.sched_model.specs.declared.state.Domain.{Domain as DomainRecord};
 ghost use Rattle.sched_model.specs.Places.{change_at, change_each, AllPlaces};
 ghost use Rattle.sched_model.specs.Pool.{withdrawn_pool, pause as pause_spec, unpause as unpause_spec, set_moving as set_moving_spec};

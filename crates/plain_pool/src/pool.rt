@@ -1,9 +1,8 @@
 //! When the events of one pool may come. g is the number of a core's processors, t the moment.
 
-ghost use Rattle.std.specs.Prelude.{◌≡◌, ◌+◌, ◌<◌, ◌≤◌, ◌^◌, ◌/◌, ◌%◌, length, Some, None, false, is_some};
-ghost use Rattle.std.specs.Option.{option_copied, IfSome, ForSome};
-ghost use Rattle.sched_model.specs.Places.{at_place};
-ghost use Rattle.sched_model.specs.Pool.{enabled_in, processor_of as processor_of_spec, guest_of as guest_of_spec, lowest_up as lowest_up_spec, vcpu_of as vcpu_of_spec, core_of as core_of_spec};
+ghost use Rattle.std.specs.Prelude.{◌≡◌, ◌<◌, ◌≤◌, ◌/◌, ◌%◌, length, Some, None, false};
+ghost use Rattle.std.specs.Option.{option_copied};
+ghost use Rattle.sched_model.specs.Pool.{enabled_in, processor_of as processor_of_spec, guest_of as guest_of_spec, lowest_up as lowest_up_spec};
 ghost use Rattle.sched_model.specs.declared.action.Action.TheVariants.{Moved, DomMoved, Wake, Block, Slice, Repl, Refill, Arrive, Decide, Leave, Save};
 ghost use Rattle.plain_pool.specs.Fits.{PoolFits};
 ghost use Rattle.plain_pool.specs.Rows.{done_among, processor_up};

@@ -1,9 +1,6 @@
 //! The same once more, with no memory taken.
 
 ghost use Rattle.std.specs.Prelude.{◌≡◌, ◌<◌, length, slice_index_or};
-ghost use Rattle.sched_model.specs.declared.state.Credit2Unit.{Credit2Unit as Credit2Record};
-ghost use Rattle.sched_model.specs.declared.state.Credit2Domain.{Credit2Domain as DomainRecord};
-ghost use Rattle.sched_model.specs.declared.state.RtdsUnit.{RtdsUnit as RtdsRecord};
 
 use sched_base::UnitId;
 use sched_model::row::Row;

@@ -1,14 +1,13 @@
 //! What a replenishment and a refill would print, with the scheduler's records left as they are.
 
 ghost use Rattle.sched_model.specs.CheckedMachine.{most_span};
-ghost use Rattle.std.specs.Prelude.{◌≡◌, ◌≤◌, length, pos};
+ghost use Rattle.std.specs.Prelude.{◌≡◌, ◌≤◌, length};
 ghost use Rattle.sched_model.specs.declared.action.Action.TheVariants.{Repl, Refill};
 ghost use Rattle.sched_model.specs.EligibleUnits.{rtds_unit as rtds_unit_spec};
-ghost use Rattle.sched_model.specs.Policy.{rtds_record as rtds_record_spec, credit2_record as credit2_record_spec, replenish as replenish_spec, refill as refill_spec};
-ghost use Rattle.sched_model.specs.Pool.{event_in, replenished_unit as replenished_spec};
+ghost use Rattle.sched_model.specs.Policy.{rtds_record as rtds_record_spec, replenish as replenish_spec};
+ghost use Rattle.sched_model.specs.Pool.{event_in};
 ghost use Rattle.sched_model.specs.Credit2.{refilled_pool as refilled_spec};
 ghost use Rattle.sched_model.specs.Rtds.{change_unit, replenish as replenish_unit};
-ghost use Rattle.sched_model.specs.Places.{at_place};
 ghost use Rattle.plain_units.specs.Fits.{Credit2Fits, RtdsFits, RecordsFit};
 ghost use Rattle.plain_pool.specs.Records.{periods_at};
 ghost use Rattle.plain_telling.specs.Rooms.{AsLarge, HasRoom, budget_in as budget_in_spec, budget_after};

@@ -1,7 +1,6 @@
 //! Units, and the queue in which they wait.
 
-ghost use Rattle.std.specs.Prelude.{◌≡◌, ◌<◌, ◌==◌, ◌++◌, ◌∷◌, [], length, not, filter};
-ghost use Rattle.std.specs.List.{list_any};
+ghost use Rattle.std.specs.Prelude.{◌≡◌, ◌<◌, ◌==◌};
 ghost use Rattle.sched_model.specs.Places.{has_unit as has_unit_spec, without_unit};
 ghost use Rattle.sched_model.specs.Pool.{is_of_domain as is_of_domain_spec};
 

@@ -46,7 +46,7 @@ impl Default for PoolSlot {
 }
 
 impl PoolSlot {
-    ghost use Rattle.std.specs.Prelude.{◌≡◌, ℕ, [], true, false, not, None, Some, is_some, option_map, map};
+    ghost use Rattle.std.specs.Prelude.{◌≡◌, ℕ, [], false, not, None, Some, is_some, option_map, map};
     ghost use Rattle.std.specs.Option.{ForSome};
     ghost use Rattle.sched_model.specs.Places.{at_place};
     ghost use Rattle.sched_model.specs.Policy.{rate_of};

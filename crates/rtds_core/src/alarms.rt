@@ -1,6 +1,6 @@
 //! The moments at which units are replenished: a heap of them, and beside it each unit's own.
 
-ghost use Rattle.std.specs.Prelude.{◌≡◌, ◌≤◌, ◌<◌, length, replicate, IfOk};
+ghost use Rattle.std.specs.Prelude.{◌≡◌, ◌<◌, length, replicate, IfOk};
 ghost use Rattle.rtds_core.specs.Alarms.{unit_of as unit_of_id, timer_of};
 ghost use Rattle.unit_places.specs.Places.{index_of};
 

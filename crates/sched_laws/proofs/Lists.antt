@@ -1,5 +1,5 @@
 -- What holds of each element of a list, and of what stands at a place.
-use Rattle.std.proofs.Common.{arith, length, ◌≡◌, ◌≢◌, ◌<◌, ℕ, zero, suc, Bool, true, false, List, [], ◌∷◌, ◌++◌, refl, subst, ap, ◌⊎◌, inl, inr, ◌≤◌}
+use Rattle.std.proofs.Common.{arith, length, ◌≡◌, ◌≢◌, ◌<◌, ℕ, zero, suc, Bool, true, false, List, [], ◌∷◌, refl, subst, ap, ◌⊎◌, inl, inr, ◌≤◌}
 use Rattle.std.specs.Prelude.{Option, Some, None, is_some, option_map, ◌&&◌, ◌||◌, slice_get, slice_index_or}
 use Rattle.std.proofs.lemmas.Option.{slice_get-get_or}
 use Rattle.std.specs.List.{list_any, AllByRecursion}

@@ -1,10 +1,10 @@
 //! Cores and domains that move from one pool to another. g is the number of a core's processors, t the moment.
 
 ghost use Rattle.sched_model.specs.CheckedMachine.{most_span};
-ghost use Rattle.std.specs.Prelude.{◌≡◌, ◌<◌, ◌≤◌, ◌^◌, length, Some, None, option_map};
+ghost use Rattle.std.specs.Prelude.{◌≡◌, ◌<◌, ◌≤◌, length, Some, None, option_map};
 ghost use Rattle.sched_model.specs.declared.action.Action.TheVariants as actions;
 ghost use Rattle.sched_model.specs.Machine.{event_of, after, after_moved as after_moved_spec};
-ghost use Rattle.sched_model.specs.Places.{at_place, clear_at, change_at};
+ghost use Rattle.sched_model.specs.Places.{at_place, change_at};
 ghost use Rattle.plain_pool.specs.Cores.{ends_of};
 ghost use Rattle.sched_plain.specs.Fits.{PoolFitsAt};
 ghost use Rattle.sched_model.specs.Machine.{with_core};

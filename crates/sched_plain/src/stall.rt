@@ -1,9 +1,8 @@
 //! The stalls of the workload. g is the number of a core's processors.
 
-ghost use Rattle.std.specs.Prelude.{◌≡◌, ◌<◌, ◌≤◌, ◌^◌, length, true};
+ghost use Rattle.std.specs.Prelude.{◌≡◌, ◌<◌, ◌≤◌, length, true};
 ghost use Rattle.sched_base.specs.Numbers.{moment};
 ghost use Rattle.sched_model.specs.declared.action.Action.TheVariants as actions;
-ghost use Rattle.sched_model.specs.declared.work.StallLine.{StallLine as StallRecord};
 ghost use Rattle.sched_model.specs.Machine.{is_enabled, event_of, after, stall_end_of as stall_end_of_spec, with_stall_end as stalled_spec};
 ghost use Rattle.sched_model.specs.Places.{at_place, change_at};
 ghost use Rattle.sched_model.specs.Pool.{change_processor};

@@ -1,19 +1,16 @@
 -- A pool's queue has no more units than the machine.
-use Rattle.std.proofs.Common.{◌≡◌, ◌≢◌, ◌<◌, ◌≤◌, ◌+◌, ◌-◌, ◌*◌, ◌/◌, ℕ, zero, suc, true, false, List, [], ◌∷◌, ◌++◌, refl, arith, subst, sym, ap, cond, length}
+use Rattle.std.proofs.Common.{◌≡◌, ◌<◌, ◌≤◌, ◌+◌, ◌-◌, ◌*◌, ◌/◌, ℕ, zero, suc, List, [], ◌∷◌, arith, subst, sym, ap, length}
 use Rattle.std.specs.Prelude.{Some, slice_get, map}
-use Rattle.std.specs.List.{AllByRecursion}
 use Rattle.std.proofs.Math.Decide.{ℕ_discrete}
 use Rattle.std.proofs.lemmas.Nat.{le-div}
 use Rattle.sched_base.specs.Numbers.{domain as domain_number}
 use Rattle.sched_base.specs.declared.UnitId.{UnitId}
 use Rattle.sched_model.specs.declared.machine.Machine.{Machine}
 use Rattle.sched_model.specs.declared.config.DomConfig.{DomConfig}
-use Rattle.sched_model.specs.Places.{numbers_from, same_unit}
+use Rattle.sched_model.specs.Places.{numbers_from}
 use Rattle.sched_model.specs.Actions.{units_from}
-use Rattle.sched_base.proofs.Lists.{AllByRecursion-map}
-use Rattle.sched_laws.proofs.Choices.{same_unit_same}
 use Rattle.sched_laws.proofs.Counts.{same_unit_refl}
-use Rattle.sched_laws.specs.Counts.{one, times}
+use Rattle.sched_laws.specs.Counts.{times}
 use Rattle.sched_laws.proofs.Fewer.{times-append}
 use Rattle.sched_ranges.specs.Ranges.{IsUnitOf}
 

@@ -1,7 +1,7 @@
 -- What the records of RTDS units keep.
 use Rattle.std.proofs.lemmas.Bool.{ltb-false}
-use Rattle.std.proofs.Common.{◌≡◌, ◌≤◌, ◌+◌, ◌-◌, ◌*◌, ◌/◌, ◌%◌, ℕ, zero, suc, Bool, true, false, List, [], ◌∷◌, refl, arith, subst, ◌∙◌, cond, length}
-use Rattle.std.specs.Prelude.{Option, Some, None, unwrap_or, slice_get, nat_lt}
+use Rattle.std.proofs.Common.{◌≡◌, ◌≤◌, ◌+◌, ◌-◌, ◌*◌, ◌/◌, ◌%◌, ℕ, zero, suc, Bool, true, false, List, refl, arith, subst, ◌∙◌, cond, length}
+use Rattle.std.specs.Prelude.{Option, Some, None, unwrap_or, nat_lt}
 use Rattle.std.specs.List.{AllByRecursion}
 use Rattle.std.proofs.lemmas.Nat.{div-add-mod'}
 use Rattle.sched_base.specs.Numbers.{moment}

@@ -1,7 +1,6 @@
 //! The domains of one pool, and their vCPUs.
 
 ghost use Rattle.std.specs.Prelude.{◌≡◌, ◌≤◌, true, is_some, IfOk, None, Some, length};
-ghost use Rattle.std.specs.Option.{option_copied};
 ghost use Rattle.sched_model.specs.declared.state.Domain.{Domain as DomainRecord};
 ghost use Rattle.sched_model.specs.Places.{at_place, change_at, clear_at};
 ghost use Rattle.unit_state.specs.Seen.{domains_from};

@@ -1,9 +1,8 @@
 //! One line of the work file.
 
 ghost use Rattle.std.specs.Prelude.{◌≡◌, ◌≤◌, ◌^◌, ◌==◌, length, IfOk};
-ghost use Rattle.sched_model.specs.CheckedMachine.{IsCheckedStall, IsCheckedCommandLine};
 ghost use Rattle.xl_words.specs.Parts.{words};
-ghost use Rattle.work_file.specs.Line.{is_silent as silent, number_within, stall_of, command_of, said_at, said_by, line_of, IsCheckedLine};
+ghost use Rattle.work_file.specs.Line.{is_silent as silent, number_within, stall_of, command_of, said_at, line_of, IsCheckedLine};
 
 use crate::fault::WorkCause;
 use sched_base::{Moment, ProcId, Span};

@@ -1,7 +1,7 @@
-use Rattle.std.proofs.Common.{◌≡◌, ℕ, ◌<◌, List, true, false, length, refl, sym, ◌∙◌, ap, subst, arith, set}
+use Rattle.std.proofs.Common.{◌≡◌, List, true, false, length, refl, sym, ◌∙◌, ap, subst, arith, set}
 use Rattle.sched_base.specs.declared.UnitId.{UnitId}
 use Rattle.unit_ring.specs.Lists.{Lists, item, is_live, after_take, put_before as lists_with}
-use Rattle.unit_ring.specs.Chains.{link, IsRing, free_of, lists_of}
+use Rattle.unit_ring.specs.Chains.{IsRing, lists_of}
 use Rattle.unit_ring.proofs.Operations.{live_has, FirstFree, taken_node, chain_has_free}
 use Rattle.unit_ring.proofs.Calls.{free_high, free_below, free_fresh, live_not_free, inserted, free_number, carried, free_low, free_next}
 use Rattle.unit_ring.proofs.Ring.insert_before.Given.{Over}

@@ -1,7 +1,7 @@
-use Rattle.std.proofs.Common.{◌≡◌, ℕ, ◌<◌, List, false, length, refl, sym, ◌∙◌, ap, subst, arith, set}
+use Rattle.std.proofs.Common.{◌≡◌, List, false, length, refl, ◌∙◌, ap, subst, arith, set}
 use Rattle.sched_base.specs.declared.UnitId.{UnitId}
 use Rattle.unit_ring.specs.Lists.{Lists, item, is_live, after_take, after_append}
-use Rattle.unit_ring.specs.Chains.{link, IsRing, free_of, lists_of}
+use Rattle.unit_ring.specs.Chains.{IsRing, lists_of}
 use Rattle.unit_ring.proofs.Operations.{FirstFree, taken_node, chain_has_free}
 use Rattle.unit_ring.proofs.Calls.{free_high, free_below, free_fresh, pushed, chain_has_end, free_number, carried, free_low, free_next}
 use Rattle.unit_ring.proofs.Ring.push_back.Given.{Over}
