@@ -32,7 +32,8 @@ use Rattle.sched_ranges.specs.Fits.{UnitFits, Credit2DomainFits}
 use Rattle.sched_ranges.specs.Fits.{RtdsFits}
 use Rattle.sched_ranges.proofs.Records.{RecordsFit}
 use Rattle.sched_ranges.proofs.Walk.{DomFits, CoreFits, PoolFits}
-use Rattle.sched_ranges.proofs.Queue.{no_longer, unit_is_there}
+use Rattle.sched_laws.proofs.Fewer.{no_longer}
+use Rattle.sched_ranges.proofs.Queue.{unit_is_there}
 use Rattle.sched_ranges.proofs.Places.{places_in_runs}
 use Rattle.sched_ranges.proofs.Law.{StateFits, fits_in_runs}
 use Rattle.std.proofs.lemmas.Nat.{div-add-mod'}
