@@ -21,7 +21,7 @@ use crate::line::{Ready, follow};
 use crate::state::Credit2State;
 use plain_credit2::credit2;
 use plain_credit2::running::max_weight;
-use plain_policy::params;
+use plain_units::pins;
 use sched_base::{Cores, DomId, Moment};
 use sched_model::config::{ParamChange, Pins};
 use sched_model::places::{item_at, set_place};
@@ -173,7 +173,7 @@ pub fn pin(state: &mut Credit2State, d: DomId, unit: Option<u8>, cores: Cores, t
       unpinned = state.new.unpinned;
     } }
 {
-    params::pin(d, unit, cores, &mut state.affinity);
+    pins::pin(d, unit, cores, &mut state.affinity);
     refresh(&mut state.masks, state.affinity.as_slice(), d);
     state.unpinned = stay_unpinned(state.unpinned, cores);
     state.latest = t.0;

@@ -8,7 +8,7 @@ invariant_of-self c =
     let r = rw (← c.self.view_is) at c.requires in
     let i = c.self.inside in
     elim c.match-change.branch [
-      | in-Frame w ↦ (let fits : IsFrame w.in-Frame.frame = rw w.in-Frame.is at r.change in rw (w.self-inside-is, w.copy_frame.ensures) (ready_installed w.in-Frame.frame c.args.t.0 fits))
+      | in-Frame w ↦ (let fits : IsFrame w.in-Frame.frame = rw w.in-Frame.is at r.change in rw (w.self-inside-is, w.duplicate.ensures) (ready_installed w.in-Frame.frame c.args.t.0 fits))
       | in-Pin w ↦ rw w.self-inside-is (ready_later i.records i.present i.latest c.args.t.0 r.now.after c.self.invariant)
       | in_default w ↦ rw w.self-inside-is (ready_later i.records i.present i.latest c.args.t.0 r.now.after c.self.invariant)
     ]
