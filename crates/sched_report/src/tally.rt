@@ -1,6 +1,7 @@
 //! What a report keeps of each core and of each unit, and how a choice changes it.
 
 ghost use Rattle.std.specs.Prelude.{◌≡◌, ◌+◌, ◌*◌, ◌^◌, ◌<◌, ◌≤◌, IfSome, length, sum_by, true, Some, None};
+ghost use Rattle.sched_model.specs.Places.{same_unit};
 ghost use Rattle.sched_report.specs.Stays.{choice_in, renewed_by};
 ghost use Rattle.sched_report.specs.Tallies.{UnitsWithin, CoresWithin, IsShort};
 ghost use Rattle.sched_report.specs.Tallies as tallies;
