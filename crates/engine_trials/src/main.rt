@@ -7,13 +7,12 @@
 
 mod example;
 mod step;
-mod stop;
 
 use example::goes_through;
 use sched_io::{FileStore, OutSink, Sink, Store};
 use std::alloc::Global;
 use std::process::ExitCode;
-use stop::Stop;
+use trial_machine::Stop;
 
 /// The words behind the program's own name.
 fn words_of(rt: &HostRuntime, words: &mut Vec<String>) -> Result<(), Stop> {
@@ -63,7 +62,7 @@ fn main(rt: HostRuntime) -> ExitCode {
     match run(&rt) {
         Ok(()) => ExitCode::SUCCESS,
         Err(stop) => {
-            let _ = eprintln!(rt; "{stop}");
+            let _ = eprintln!(rt; "engine_trials: {stop}");
             ExitCode::FAILURE
         }
     }

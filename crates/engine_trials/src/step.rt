@@ -3,12 +3,12 @@
 ghost use Rattle.std.specs.Prelude.{◌≡◌, true, None, Some};
 ghost use Rattle.sched_model.specs.Machine.{first_enabled, is_enabled};
 
-use crate::stop::Stop;
 use engine::Engine;
 use sched_base::Moment;
 use sched_model::action::Action;
 use sched_model::event::{Entry, Event};
 use sched_plain::plain::Plain;
+use trial_machine::Stop;
 
 /// The event, where both did it.
 fn same_event(event: Event, other: Event) -> Result<Event, Stop> {

@@ -14,7 +14,7 @@ use sched_base::{DomId, ProcId};
 use sched_model::action::Actor;
 use std::io;
 use std::sync::Wait;
-use xensched_top::status::Status;
+use trial_machine::Stop;
 
 /// What a seat is to do.
 #[derive(Clone, Copy, Debug)]
@@ -162,7 +162,7 @@ pub fn run_calls<R: Wait + Print>(
     seat: HallSeat,
     actors: Actors,
     texts: &str,
-) -> Result<Book, Status>
+) -> Result<Book, Stop>
     requires of { IsOf hall seat }
     requires all { seat.sitting.view.shares ≡ 1024 }
     requires actors { AreActors hall.opened.input.config actors }
@@ -177,7 +177,7 @@ pub fn run_calls<R: Wait + Print>(
         Ok(()) => Ok(book),
         Err(_) => {
             drop(book);
-            Err(Status::WriteFault)
+            Err(Stop::WriteFault)
         }
     }
 }

@@ -24,8 +24,7 @@ use std::alloc::Global;
 use std::io;
 use std::sync::Wait;
 use std::thread::Threads;
-use xensched_top::machine::machine_of;
-use xensched_top::status::Status;
+use trial_machine::{Stop, machine_of};
 
 /// The words of a line.
 fn words_of(alloc: Global, line: &str) -> io::Result<Vec<String>> {
@@ -36,21 +35,21 @@ fn words_of(alloc: Global, line: &str) -> io::Result<Vec<String>> {
     Ok(words)
 }
 
-/// The answer to a print, as a status.
-fn printed(answer: io::Result<()>) -> Result<(), Status> {
+/// The answer to a print.
+fn printed(answer: io::Result<()>) -> Result<(), Stop> {
     match answer {
         Ok(()) => Ok(()),
-        Err(_) => Err(Status::WriteFault),
+        Err(_) => Err(Stop::WriteFault),
     }
 }
 
 /// How many entries a book is to have room for, 1 to 4,000,000.
-fn limit_of(word: &str) -> Result<u32, Status>
+fn limit_of(word: &str) -> Result<u32, Stop>
     ensures { IfOk result (λ events. (1 ≤ events) × (events ≤ 4000000)) }
 {
     match word.parse::<u32>() {
         Ok(events) if 1 <= events && events <= 4_000_000 => Ok(events),
-        _ => Err(Status::Usage),
+        _ => Err(Stop::Usage),
     }
 }
 
@@ -59,7 +58,7 @@ fn open_hall(
     alloc: Global,
     machine: &Machine,
     events: u32,
-) -> Result<(Hall, HallSeat, Actors), Status>
+) -> Result<(Hall, HallSeat, Actors), Stop>
     requires checked { IsChecked machine.now }
     requires few { (1 ≤ events) × (events ≤ 4000000) }
     ensures of { IfOk result (λ r. IsOf r.0 r.1) }
@@ -70,7 +69,7 @@ fn open_hall(
 {
     match Hall::open(alloc, &machine.config, &machine.work, events) {
         Ok((hall, seat)) => Ok((hall, seat, actors_of(&machine.config))),
-        Err(NoMemory) => Err(Status::NoMemory),
+        Err(NoMemory) => Err(Stop::NoMemory),
     }
 }
 
@@ -81,23 +80,23 @@ fn book_of_calls<R: Wait + Print>(
     machine: &Machine,
     events: u32,
     texts: &str,
-) -> Result<Book, Status>
+) -> Result<Book, Stop>
     requires checked { IsChecked machine.now }
     requires few { (1 ≤ events) × (events ≤ 4000000) }
 {
     match open_hall(alloc, machine, events) {
         Ok((hall, seat, actors)) => run_calls(rt, hall, seat, actors, texts),
-        Err(status) => Err(status),
+        Err(stop) => Err(stop),
     }
 }
 
 /// Prints how many entries a book has, and what the checker says of them.
-fn tell_book<R: Print>(rt: &R, alloc: Global, machine: Machine, book: &Book) -> Result<(), Status>
+fn tell_book<R: Print>(rt: &R, alloc: Global, machine: Machine, book: &Book) -> Result<(), Stop>
     requires { IsChecked machine }
 {
     match judge(alloc, machine, book) {
         Ok(judged) => printed(println!(rt; "{} entries: {judged}", book.len())),
-        Err(NoMemory) => Err(Status::NoMemory),
+        Err(NoMemory) => Err(Stop::NoMemory),
     }
 }
 
@@ -108,15 +107,15 @@ fn try_calls<R: Wait + Print>(
     machine: Machine,
     events: u32,
     texts: &str,
-) -> Result<(), Status>
+) -> Result<(), Stop>
     requires checked { IsChecked machine }
     requires few { (1 ≤ events) × (events ≤ 4000000) }
 {
     match book_of_calls(rt, alloc, &machine, events, texts) {
         Ok(book) => tell_book(rt, alloc, machine, &book),
-        Err(status) => {
+        Err(stop) => {
             drop(machine);
-            Err(status)
+            Err(stop)
         }
     }
 }
@@ -151,13 +150,13 @@ fn counts_alone<R: Wait>(
     machine: &Machine,
     events: u32,
     way: Way,
-) -> Result<Counts, Status>
+) -> Result<Counts, Stop>
     requires checked { IsChecked machine.now }
     requires few { (1 ≤ events) × (events ≤ 4000000) }
 {
     match open_hall(alloc, machine, events) {
         Ok((hall, seat, actors)) => Ok(run_alone(rt, hall, seat, actors, way)),
-        Err(status) => Err(status),
+        Err(stop) => Err(stop),
     }
 }
 
@@ -168,7 +167,7 @@ fn try_alone<R: Wait + Print>(
     machine: Machine,
     events: u32,
     way: Way,
-) -> Result<(), Status>
+) -> Result<(), Stop>
     requires checked { IsChecked machine }
     requires few { (1 ≤ events) × (events ≤ 4000000) }
 {
@@ -189,23 +188,23 @@ fn book_of_threads<R: Threads + Wait + Sync>(
     machine: &Machine,
     events: u32,
     way: Way,
-) -> Result<Book, Status>
+) -> Result<Book, Stop>
     requires checked { IsChecked machine.now }
     requires few { (1 ≤ events) × (events ≤ 4000000) }
 {
     match open_hall(alloc, machine, events) {
         Ok((hall, seat, actors)) => Ok(run_side_by_side(rt, hall, seat, actors, way)),
-        Err(status) => Err(status),
+        Err(stop) => Err(stop),
     }
 }
 
 /// Whether the checker takes the history of the book as a whole run of the machine.
-fn is_whole(alloc: Global, machine: Machine, book: &Book) -> Result<bool, Status>
+fn is_whole(alloc: Global, machine: Machine, book: &Book) -> Result<bool, Stop>
     requires { IsChecked machine }
 {
     match judge(alloc, machine, book) {
         Ok(judged) => Ok(judged == Judged::Whole),
-        Err(NoMemory) => Err(Status::NoMemory),
+        Err(NoMemory) => Err(Stop::NoMemory),
     }
 }
 
@@ -216,15 +215,15 @@ fn make_whole_run<R: Threads + Wait + Sync>(
     machine: Machine,
     events: u32,
     way: Way,
-) -> Result<bool, Status>
+) -> Result<bool, Stop>
     requires checked { IsChecked machine }
     requires few { (1 ≤ events) × (events ≤ 4000000) }
 {
     match book_of_threads(rt, alloc, &machine, events, way) {
         Ok(book) => is_whole(alloc, machine, &book),
-        Err(status) => {
+        Err(stop) => {
             drop(machine);
-            Err(status)
+            Err(stop)
         }
     }
 }
@@ -245,7 +244,7 @@ fn try_threads<R: Threads + Wait + Sync + Print, S: Store>(
     events: u32,
     way: Way,
     times: u32,
-) -> Result<(), Status>
+) -> Result<(), Stop>
     requires few { (1 ≤ events) × (events ≤ 4000000) }
 {
     let mut whole = 0u32;
@@ -265,14 +264,14 @@ fn book_of_workers<R: Threads + Wait + Sync, G: Gate + Sync>(
     machine: &Machine,
     events: u32,
     gate: &G,
-) -> Result<Book, Status>
+) -> Result<Book, Stop>
     requires checked { IsChecked machine.now }
     requires few { (1 ≤ events) × (events ≤ 4000000) }
 {
     let (hall, seat, actors) = open_hall(alloc, machine, events)?;
     match run_by_workers(rt, alloc, hall, seat, actors, gate) {
         Ok(book) => Ok(book),
-        Err(NoMemory) => Err(Status::NoMemory),
+        Err(NoMemory) => Err(Stop::NoMemory),
     }
 }
 
@@ -283,15 +282,15 @@ fn workers_make_whole_run<R: Threads + Wait + Sync, G: Gate + Sync>(
     machine: Machine,
     events: u32,
     gate: &G,
-) -> Result<bool, Status>
+) -> Result<bool, Stop>
     requires checked { IsChecked machine }
     requires few { (1 ≤ events) × (events ≤ 4000000) }
 {
     match book_of_workers(rt, alloc, &machine, events, gate) {
         Ok(book) => is_whole(alloc, machine, &book),
-        Err(status) => {
+        Err(stop) => {
             drop(machine);
-            Err(status)
+            Err(stop)
         }
     }
 }
@@ -304,7 +303,7 @@ fn try_free<R: Threads + Wait + Sync + Print, S: Store>(
     files: Files<'_>,
     events: u32,
     times: u32,
-) -> Result<(), Status>
+) -> Result<(), Stop>
     requires few { (1 ≤ events) × (events ≤ 4000000) }
 {
     let mut whole = 0u32;
@@ -326,7 +325,7 @@ fn try_crossing<R: Threads + Wait + Sync + Print, S: Store>(
     files: Files<'_>,
     events: u32,
     times: u32,
-) -> Result<(), Status>
+) -> Result<(), Stop>
     requires few { (1 ≤ events) × (events ≤ 4000000) }
 {
     let mut crossed = 0u32;
@@ -347,7 +346,7 @@ fn try_round<R: Threads + Wait + Sync + Print>(
     alloc: Global,
     machine: Machine,
     events: u32,
-) -> Result<(), Status>
+) -> Result<(), Stop>
     requires checked { IsChecked machine }
     requires few { (1 ≤ events) × (events ≤ 4000000) }
 {
@@ -356,7 +355,7 @@ fn try_round<R: Threads + Wait + Sync + Print>(
     let (hall, seat, actors) = opened?;
     match passes_of_one_round(rt, alloc, hall, seat, actors) {
         Ok(passes) => printed(println!(rt; "{passes} passes of the gate")),
-        Err(NoMemory) => Err(Status::NoMemory),
+        Err(NoMemory) => Err(Stop::NoMemory),
     }
 }
 
@@ -366,17 +365,17 @@ fn watch_machine<R: Threads + Wait + Sync>(
     alloc: Global,
     machine: &Machine,
     events: u32,
-) -> Result<(Book, Looks), Status>
+) -> Result<(Book, Looks), Stop>
     requires checked { IsChecked machine.now }
     requires few { (1 ≤ events) × (events ≤ 4000000) }
 {
     let Ok(looks) = Looks::room(alloc, events + 1) else {
-        return Err(Status::NoMemory);
+        return Err(Stop::NoMemory);
     };
     let (hall, seat, actors) = open_hall(alloc, machine, events)?;
     match run_with_looks(rt, alloc, hall, seat, actors, looks) {
         Ok(watched) => Ok(watched),
-        Err(NoMemory) => Err(Status::NoMemory),
+        Err(NoMemory) => Err(Stop::NoMemory),
     }
 }
 
@@ -386,7 +385,7 @@ fn is_watched<R: Threads + Wait + Sync>(
     alloc: Global,
     machine: Machine,
     events: u32,
-) -> Result<bool, Status>
+) -> Result<bool, Stop>
     requires checked { IsChecked machine }
     requires few { (1 ≤ events) × (events ≤ 4000000) }
 {
@@ -395,12 +394,12 @@ fn is_watched<R: Threads + Wait + Sync>(
             let are = are_looks(&book, &looks);
             match is_whole(alloc, machine, &book) {
                 Ok(is_whole) => Ok(is_whole && are),
-                Err(status) => Err(status),
+                Err(stop) => Err(stop),
             }
         }
-        Err(status) => {
+        Err(stop) => {
             drop(machine);
-            Err(status)
+            Err(stop)
         }
     }
 }
@@ -413,7 +412,7 @@ fn try_watched<R: Threads + Wait + Sync + Print, S: Store>(
     files: Files<'_>,
     events: u32,
     times: u32,
-) -> Result<(), Status>
+) -> Result<(), Stop>
     requires few { (1 ≤ events) × (events ≤ 4000000) }
 {
     let mut watched = 0u32;
@@ -427,8 +426,8 @@ fn try_watched<R: Threads + Wait + Sync + Print, S: Store>(
 }
 
 /// The way that a word names.
-fn way_of(word: &str) -> Result<Way, Status> {
-    Way::named(word).ok_or(Status::Usage)
+fn way_of(word: &str) -> Result<Way, Stop> {
+    Way::named(word).ok_or(Stop::Usage)
 }
 
 /// Does what the words say; the texts are those of calls.
@@ -438,7 +437,7 @@ fn do_words<R: Threads + Wait + Sync + Print, S: Store>(
     store: &mut S,
     words: &[String],
     texts: &str,
-) -> Result<(), Status> {
+) -> Result<(), Stop> {
     match words {
         [word, domains, work, events] if word.as_str() == "calls" => {
             let events = limit_of(events.as_str())?;
@@ -493,7 +492,7 @@ fn do_words<R: Threads + Wait + Sync + Print, S: Store>(
             let machine = machine_of(alloc, domains.as_str(), work.as_str(), store)?;
             try_round(rt, alloc, machine, events)
         }
-        _ => Err(Status::Usage),
+        _ => Err(Stop::Usage),
     }
 }
 
@@ -509,6 +508,6 @@ pub fn try_line<R: Threads + Wait + Sync + Print, S: Store>(
     let words = words_of(alloc, head)?;
     match do_words(rt, alloc, store, words.as_slice(), texts) {
         Ok(()) => Ok(()),
-        Err(status) => println!(rt; "-- {status}"),
+        Err(stop) => println!(rt; "-- {stop}"),
     }
 }
