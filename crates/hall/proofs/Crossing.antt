@@ -4,7 +4,7 @@ use denote.Struct.Declared.{shape}
 use Rattle.std.proofs.Crossing.{crosses}
 use Rattle.pool_slots.specs.contracts.slot.PoolSlot.{the_row as slot_row}
 use Rattle.pool_slots.specs.contracts.spares.Spares.{the_row as spares_row}
-use Rattle.pool_threads.proofs.Crossing.{pool_send, tool_send}
+use Rattle.hall.proofs.PoolCrossing.{pool_send, tool_send}
 use Rattle.lock_moves.proofs.Crossing.{set_send, set_sync}
 use Rattle.lock_moves.proofs.seat.LockSeat.TheSendSync as lock_seat
 use Rattle.hall.specs.contracts.hall.Hall.{the_row as hall_row}

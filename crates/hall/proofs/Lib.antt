@@ -8,6 +8,7 @@ pub mod Locking
 pub mod Opening
 pub mod Parting
 pub mod Performing
+mod PoolCrossing
 pub mod Processors
 pub mod Resting
 pub mod Turning

@@ -1,4 +1,4 @@
--- Which pools may go to another thread.
+-- Which pools may go to another thread, and what the tool keeps.
 use denote.RattleType.{RattleType}
 use denote.Param.Send.{IsSend, AllSend, sendable, recorded_send, struct_send, view_send}
 use denote.Struct.Declared.{shape}

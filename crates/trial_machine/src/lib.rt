@@ -1,9 +1,10 @@
 //! The machine of two files, for the programs of worked examples.
 #![tactic(auto)]
 
-ghost use Rattle.std.specs.Prelude.{◌≤◌, IfOk, length};
+ghost use Rattle.std.specs.Prelude.{◌≡◌, ◌≤◌, ℕ, List, IfOk, IfSome, length};
 ghost use Rattle.sched_io.specs.HeldBytes.{most_bytes};
 ghost use Rattle.sched_model.specs.CheckedMachine.{IsChecked, IsCheckedConfig, IsCheckedWork};
+ghost use Rattle.trial_machine.specs.Files.{IsConfigOf, IsWorkOf, IsMachineOf};
 
 mod stop;
 
@@ -18,7 +19,10 @@ use work_file::read_work;
 
 /// The bytes of the file.
 fn bytes_of<S: Store>(alloc: Global, name: &str, store: &mut S) -> Result<Vec<u8>, Stop>
-    ensures { IfOk result (λ bytes. length bytes.items ≤ most_bytes) }
+    ensures bytes { IfOk result (λ bytes.
+        IfSome (S.held store.old name.now) (λ all. bytes.items ≡ all)) }
+    ensures bound { IfOk result (λ bytes. length bytes.items ≤ most_bytes) }
+    ensures same { (other : List ℕ) → S.held store.new other ≡ S.held store.old other }
 {
     match store.read_all(alloc, name) {
         Ok(bytes) => Ok(bytes),
@@ -29,7 +33,10 @@ fn bytes_of<S: Store>(alloc: Global, name: &str, store: &mut S) -> Result<Vec<u8
 
 /// What the domain file says.
 fn config_of<S: Store>(alloc: Global, name: &str, store: &mut S) -> Result<Config, Stop>
-    ensures { IfOk result IsCheckedConfig }
+    ensures config { IfOk result (λ config.
+        IfSome (S.held store.old name.now) (IsConfigOf config)) }
+    ensures checked { IfOk result IsCheckedConfig }
+    ensures same { (other : List ℕ) → S.held store.new other ≡ S.held store.old other }
 {
     let bytes = bytes_of(alloc, name, store)?;
     match read_domains(alloc, bytes.as_slice()) {
@@ -45,7 +52,9 @@ fn work_of<S: Store>(
     config: &Config,
     store: &mut S,
 ) -> Result<Work, Stop>
-    ensures { IfOk result (IsCheckedWork config.now) }
+    ensures work { IfOk result (λ work.
+        IfSome (S.held store.old name.now) (IsWorkOf config.now work)) }
+    ensures checked { IfOk result (IsCheckedWork config.now) }
 {
     let bytes = bytes_of(alloc, name, store)?;
     match read_work(alloc, bytes.as_slice(), config) {
@@ -54,14 +63,16 @@ fn work_of<S: Store>(
     }
 }
 
-/// Reads the machine that a domain file and a work file make, the domain file first.
+/// Reads the machine that a domain file and a work file make, the domain file first. Where the store tells what they hold, it is the machine of these bytes.
 pub fn machine_of<S: Store>(
     alloc: Global,
     domains: &str,
     work: &str,
     store: &mut S,
 ) -> Result<Machine, Stop>
-    ensures { IfOk result IsChecked }
+    ensures machine { IfOk result (λ machine. IfSome (S.held store.old domains.now)
+        (λ text. IfSome (S.held store.old work.now) (IsMachineOf machine text))) }
+    ensures checked { IfOk result IsChecked }
 {
     let config = config_of(alloc, domains, store)?;
     let work = work_of(alloc, work, &config, store)?;
