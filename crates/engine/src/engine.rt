@@ -1,15 +1,17 @@
 //! The engine: a machine that steps from one entry of its run to the next.
 
-use crate::keeping::{busy_places, none_times, read_all, read_one};
+use crate::keeping::{busy_places, read_all, read_one};
+use crate::opening::{open_pools, open_tool};
 use cpupool::ToolState;
 use machine_parts::places::read_firsts;
 use machine_parts::{pool_of_event, whole_first, whole_next};
-use parts_opening::{open_slots, open_spares};
 use pool_slots::{PoolSlot, Spares, Trail, perform_among};
 use sched_base::{Moment, NoMemory};
 use sched_model::action::Action;
+use sched_model::config::Config;
 use sched_model::event::{Entry, Event};
-use sched_model::machine::{MOST_POOLS, Machine};
+use sched_model::machine::Machine;
+use sched_model::work::Work;
 use std::alloc::Global;
 use std::marker::Model;
 use tool_acts::act_of_tool;
@@ -49,6 +51,7 @@ impl Model for Engine {
 impl Engine {
     ghost use Rattle.std.specs.Prelude.{◌≡◌, true, false, None, Some, IfOk, option_map};
     ghost use Rattle.sched_model.specs.declared.action.Action.TheVariants as actions;
+    ghost use Rattle.sched_model.specs.declared.machine.Machine.{Machine};
     ghost use Rattle.sched_base.specs.Numbers.{moment};
     ghost use Rattle.sched_model.specs.Opening.{opening};
     ghost use Rattle.sched_model.specs.CheckedMachine.{IsChecked};
@@ -60,25 +63,24 @@ impl Engine {
         requires { IsChecked machine }
         ensures { IfOk result (λ e. e ≡ record { machine = machine; state = opening machine }) }
     {
-        let places = usize::from(MOST_POOLS);
-        let mut firsts = none_times(alloc, places)?;
-        let mut nexts = none_times(alloc, places)?;
         let Machine { config, work } = machine;
-        let trail = Trail::opened(&config, &work);
-        let spares = open_spares(alloc, &config, &work)?;
-        let slots = open_slots(alloc, &config)?;
-        let tool = ToolState::open_with(alloc, &config, work)?;
-        let now = Moment(0);
-        read_all(
-            slots.as_slice(),
-            now,
-            firsts.as_mut_slice(),
-            nexts.as_mut_slice(),
-        );
+        let engine = Engine::opened(alloc, &config, work);
+        drop(config);
+        engine
+    }
+
+    /// The same, of a workload that the engine takes over.
+    fn opened(alloc: Global, config: &Config, work: Work) -> Result<Engine, NoMemory>
+        requires { IsChecked (record { config = config.now; work = work }) }
+        ensures { let m : Machine = record { config = config.now; work = work } in IfOk result
+            (λ e. e ≡ record { machine = m; state = opening m }) }
+    {
+        let (slots, firsts, nexts) = open_pools(alloc, config)?;
+        let (trail, tool, spares) = open_tool(alloc, config, work)?;
         let busy = busy_places(firsts.as_slice());
         Ok(Engine {
             trail,
-            moment: now,
+            moment: Moment(0),
             horizon: config.horizon,
             granularity: config.granularity,
             slots,

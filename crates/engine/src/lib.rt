@@ -6,5 +6,6 @@
 
 pub mod engine;
 pub mod keeping;
+mod opening;
 
 pub use engine::Engine;

@@ -2,6 +2,7 @@
 //! need in a run is taken here.
 #![tactic(auto)]
 
+mod boxed;
 mod counts;
 pub mod slots;
 pub mod spares;

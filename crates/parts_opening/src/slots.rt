@@ -8,13 +8,13 @@ ghost use Rattle.pool_slots.specs.Told.{told_new};
 ghost use Rattle.pool_slots.specs.Places.{AllStand, StandsAt};
 ghost use Rattle.parts_opening.specs.OpeningPool.{IsOpened};
 
+use crate::boxed::boxed;
 use any_policy::AnyPolicy;
 use pool_opening::opened;
 use pool_slots::{AnyPool, PoolSlot};
 use sched_base::NoMemory;
 use sched_model::config::{Config, SchedKind};
 use std::alloc::Global;
-use std::boxed::Box;
 use std::vec::Vec;
 
 /// The pool i of the file, which has this scheduler, with its cores and its domains.
@@ -24,7 +24,7 @@ fn open_pool(alloc: Global, config: &Config, i: u8, kind: SchedKind) -> Result<A
     ensures { IfOk result (λ pool. IsOpened config.now i pool.value) }
 {
     let pool = opened(alloc, config, i, AnyPolicy::empty(kind))?;
-    Ok(Box::new(alloc, pool)?)
+    boxed(alloc, pool)
 }
 
 /// The place i: the file's pool of that number, or none.

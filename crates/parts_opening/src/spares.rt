@@ -10,6 +10,7 @@ ghost use Rattle.pool_slots.specs.Kinds.{count_of};
 ghost use Rattle.pool_slots.specs.Spares.{shelf_of};
 ghost use Rattle.parts_opening.specs.OpeningShelves.{CanFill, filled_shelves, filled_for, filled_up, spare_seen};
 
+use crate::boxed::boxed;
 use crate::counts::{configured, most_of_each};
 use any_policy::AnyPolicy;
 use pool_opening::spare;
@@ -18,7 +19,6 @@ use sched_base::NoMemory;
 use sched_model::config::{Config, SchedKind};
 use sched_model::work::Work;
 use std::alloc::Global;
-use std::boxed::Box;
 
 /// A pool of the scheduler that is not in use.
 fn spare_pool(alloc: Global, config: &Config, kind: SchedKind) -> Result<AnyPool, NoMemory>
@@ -26,7 +26,7 @@ fn spare_pool(alloc: Global, config: &Config, kind: SchedKind) -> Result<AnyPool
     ensures { IfOk result (λ pool. pool.value ≡ spare_seen config.now kind) }
 {
     let pool = spare(alloc, config, AnyPolicy::empty(kind))?;
-    Ok(Box::new(alloc, pool)?)
+    boxed(alloc, pool)
 }
 
 /// So many spare pools of the scheduler come in.
@@ -91,6 +91,11 @@ pub fn open_spares(alloc: Global, config: &Config, work: &Work) -> Result<Spares
 {
     let most = most_of_each(config, work);
     let mut spares = Spares::room(alloc, most)?;
-    fill_up(alloc, config, most, &mut spares)?;
-    Ok(spares)
+    match fill_up(alloc, config, most, &mut spares) {
+        Ok(()) => Ok(spares),
+        Err(full) => {
+            drop(spares);
+            Err(full)
+        }
+    }
 }

@@ -7,8 +7,8 @@ fill_up-requires-clause-room c =
     let m : Machine = record { config = c.args.config.now; work = c.args.work.now } in
     can_fill m c.requires.checked c.most_of_each-most.result c.in_ok-spares.spares c.most_of_each-most.ensures c.in_ok-spares.ensures.pools c.in_ok-spares.ensures.capacity
 
-pub returns : goal.returns
-returns c =
+pub returns-in-Ok : goal.returns-in-Ok
+returns-in-Ok c =
     let m : Machine = record { config = c.args.config.now; work = c.args.work.now } in
     spares_new m c.requires.checked c.most_of_each-most.result c.in_ok-spares.spares c.fill_up.new.spares c.most_of_each-most.ensures
-    (can_fill m c.requires.checked c.most_of_each-most.result c.in_ok-spares.spares c.most_of_each-most.ensures c.in_ok-spares.ensures.pools c.in_ok-spares.ensures.capacity) c.in_ok-fill_up.ensures
+    (can_fill m c.requires.checked c.most_of_each-most.result c.in_ok-spares.spares c.most_of_each-most.ensures c.in_ok-spares.ensures.pools c.in_ok-spares.ensures.capacity) c.in-Ok.ensures
