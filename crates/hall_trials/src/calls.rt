@@ -17,7 +17,7 @@ use std::sync::Wait;
 use trial_machine::Stop;
 
 /// What a seat is to do.
-#[derive(Clone, Copy, Debug)]
+#[derive(Clone, Copy)]
 enum Call {
     Act(Actor),
     Close,
@@ -25,17 +25,24 @@ enum Call {
     Entry(u32),
 }
 
+/// The call that a word names for the processor or the domain with this number.
+fn call_for(word: &str, n: u8) -> Option<Call> {
+    match word {
+        "proc" => Some(Call::Act(Actor::Proc(ProcId(n)))),
+        "dom" => Some(Call::Act(Actor::Dom(DomId(n)))),
+        "waits" => Some(Call::Waits(ProcId(n))),
+        _ => None,
+    }
+}
+
 /// The call that the text names.
 fn read_call(text: &str) -> Option<Call> {
     let (word, number) = text.split_once(' ').unwrap_or((text, ""));
-    match word.as_bytes() {
-        b"proc" => Some(Call::Act(Actor::Proc(ProcId(number.parse().ok()?)))),
-        b"dom" => Some(Call::Act(Actor::Dom(DomId(number.parse().ok()?)))),
-        b"tool" => Some(Call::Act(Actor::Tool)),
-        b"close" => Some(Call::Close),
-        b"waits" => Some(Call::Waits(ProcId(number.parse().ok()?))),
-        b"entry" => Some(Call::Entry(number.parse().ok()?)),
-        _ => None,
+    match word {
+        "tool" => Some(Call::Act(Actor::Tool)),
+        "close" => Some(Call::Close),
+        "entry" => Some(Call::Entry(number.parse().ok()?)),
+        _ => call_for(word, number.parse().ok()?),
     }
 }
 

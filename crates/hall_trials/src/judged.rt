@@ -10,7 +10,7 @@ use std::alloc::Global;
 use std::fmt;
 
 /// What the checker says of a history.
-#[derive(Clone, Copy, Debug, PartialEq, Eq)]
+#[derive(Clone, Copy, PartialEq, Eq)]
 pub enum Judged {
     Whole,
     Beginning,

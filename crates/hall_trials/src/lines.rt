@@ -7,18 +7,16 @@ ghost use Rattle.hall_trials.specs.TrialSeats.{AreActors};
 
 use crate::calls::run_calls;
 use crate::counting::CountingGate;
-use crate::crossing::CrossingGate;
 use crate::judged::{Judged, judge};
 use crate::numbering::{Actors, actors_of};
 use crate::serving::{Way, go_to_the_end};
 use crate::side_by_side::run_side_by_side;
-use crate::watched::{are_looks, run_with_looks};
-use crate::workers::{passes_of_one_round, run_by_workers};
+use crate::watched::run_watched;
+use crate::workers::{passes_of_one_round, run_by_workers, run_crossing};
 use hall::{Hall, HallSeat};
 use journal_core::Book;
-use pcpu_watch::Looks;
 use sched_base::NoMemory;
-use sched_io::{Gate, OpenGate, Store};
+use sched_io::{OpenGate, Store};
 use sched_model::machine::Machine;
 use std::alloc::Global;
 use std::io;
@@ -26,13 +24,12 @@ use std::sync::Wait;
 use std::thread::Threads;
 use trial_machine::{Stop, machine_of};
 
-/// The words of a line.
-fn words_of(alloc: Global, line: &str) -> io::Result<Vec<String>> {
-    let mut words = Vec::new(alloc);
+/// Adds the words of a line.
+fn put_words(alloc: Global, line: &str, words: &mut Vec<String>) -> io::Result<()> {
     for word in line.split(' ') {
         words.push(String::from_str(alloc, word)?)?;
     }
-    Ok(words)
+    Ok(())
 }
 
 /// The answer to a print.
@@ -43,13 +40,18 @@ fn printed(answer: io::Result<()>) -> Result<(), Stop> {
     }
 }
 
+/// The most entries that a book has room for.
+const MOST_ENTRIES: u32 = 4_000_000;
+
 /// How many entries a book is to have room for, 1 to 4,000,000.
 fn limit_of(word: &str) -> Result<u32, Stop>
     ensures { IfOk result (λ events. (1 ≤ events) × (events ≤ 4000000)) }
 {
-    match word.parse::<u32>() {
-        Ok(events) if 1 <= events && events <= 4_000_000 => Ok(events),
-        _ => Err(Stop::Usage),
+    let events: u32 = word.parse().unwrap_or(0);
+    if 1 <= events && events <= MOST_ENTRIES {
+        Ok(events)
+    } else {
+        Err(Stop::Usage)
     }
 }
 
@@ -143,23 +145,6 @@ fn run_alone<R: Wait>(rt: &R, hall: Hall, seat: HallSeat, actors: Actors, way: W
     }
 }
 
-/// Goes to the end of a run of the machine with one seat, and counts what it did.
-fn counts_alone<R: Wait>(
-    rt: &R,
-    alloc: Global,
-    machine: &Machine,
-    events: u32,
-    way: Way,
-) -> Result<Counts, Stop>
-    requires checked { IsChecked machine.now }
-    requires few { (1 ≤ events) × (events ≤ 4000000) }
-{
-    match open_hall(alloc, machine, events) {
-        Ok((hall, seat, actors)) => Ok(run_alone(rt, hall, seat, actors, way)),
-        Err(stop) => Err(stop),
-    }
-}
-
 /// Goes to the end of a run of the machine with one seat, and prints what it did.
 fn try_alone<R: Wait + Print>(
     rt: &R,
@@ -171,123 +156,86 @@ fn try_alone<R: Wait + Print>(
     requires checked { IsChecked machine }
     requires few { (1 ≤ events) × (events ≤ 4000000) }
 {
-    let counts = counts_alone(rt, alloc, &machine, events, way);
+    let opened = open_hall(alloc, &machine, events);
     drop(machine);
+    let (hall, seat, actors) = opened?;
     let Counts {
         entries,
         passes,
         turns,
-    } = counts?;
+    } = run_alone(rt, hall, seat, actors, way);
     printed(println!(rt; "{entries} entries, {passes} passes of the gate, {turns} turns"))
 }
 
-/// The book of a hall, after a run by four seats in threads of their own.
-fn book_of_threads<R: Threads + Wait + Sync>(
-    rt: &R,
-    alloc: Global,
-    machine: &Machine,
-    events: u32,
-    way: Way,
-) -> Result<Book, Stop>
-    requires checked { IsChecked machine.now }
-    requires few { (1 ≤ events) × (events ≤ 4000000) }
-{
-    match open_hall(alloc, machine, events) {
-        Ok((hall, seat, actors)) => Ok(run_side_by_side(rt, hall, seat, actors, way)),
-        Err(stop) => Err(stop),
-    }
-}
-
-/// Whether the checker takes the history of the book as a whole run of the machine.
-fn is_whole(alloc: Global, machine: Machine, book: &Book) -> Result<bool, Stop>
-    requires { IsChecked machine }
-{
-    match judge(alloc, machine, book) {
-        Ok(judged) => Ok(judged == Judged::Whole),
-        Err(NoMemory) => Err(Stop::NoMemory),
-    }
-}
-
-/// Whether four seats in threads of their own make a whole run of the machine.
-fn make_whole_run<R: Threads + Wait + Sync>(
-    rt: &R,
-    alloc: Global,
-    machine: Machine,
-    events: u32,
-    way: Way,
-) -> Result<bool, Stop>
-    requires checked { IsChecked machine }
-    requires few { (1 ≤ events) × (events ≤ 4000000) }
-{
-    match book_of_threads(rt, alloc, &machine, events, way) {
-        Ok(book) => is_whole(alloc, machine, &book),
-        Err(stop) => {
-            drop(machine);
-            Err(stop)
-        }
-    }
-}
-
-/// The two files of a machine.
+/// What goes through a run that is tried so many times.
 #[derive(Clone, Copy)]
-struct Files<'a> {
-    domains: &'a str,
-    work: &'a str,
+enum Runner {
+    Threads(Way),
+    Free,
+    Crossing,
+    Watched,
 }
 
-/// Has four seats in threads of their own go through the run so many times, and prints how often the checker took the history as a whole run.
-fn try_threads<R: Threads + Wait + Sync + Print, S: Store>(
-    rt: &R,
-    alloc: Global,
-    store: &mut S,
-    files: Files<'_>,
-    events: u32,
-    way: Way,
-    times: u32,
-) -> Result<(), Stop>
-    requires few { (1 ≤ events) × (events ≤ 4000000) }
-{
-    let mut whole = 0u32;
-    for _ in 0..times {
-        let machine = machine_of(alloc, files.domains, files.work, store)?;
-        if make_whole_run(rt, alloc, machine, events, way)? {
-            whole = whole.saturating_add(1);
+impl Runner {
+    /// The runner with this name that needs no way.
+    fn named(name: &str) -> Option<Runner> {
+        match name {
+            "free" => Some(Runner::Free),
+            "crossing" => Some(Runner::Crossing),
+            "watched" => Some(Runner::Watched),
+            _ => None,
         }
     }
-    printed(println!(rt; "{whole} of {times} are whole runs"))
+
+    /// What is told of the runs that went well.
+    fn told(self) -> &'static str {
+        match self {
+            Runner::Threads(_) | Runner::Free => "are whole runs",
+            Runner::Crossing => "were crossed",
+            Runner::Watched => "are whole runs with a look for each moment",
+        }
+    }
 }
 
-/// The book of a hall, after a run by a worker for each processor.
-fn book_of_workers<R: Threads + Wait + Sync, G: Gate + Sync>(
+/// Goes through a run of the machine. It answers the book, and whether the run had what the runner asks for beside a whole run.
+fn run_once<R: Threads + Wait + Sync>(
     rt: &R,
     alloc: Global,
     machine: &Machine,
     events: u32,
-    gate: &G,
-) -> Result<Book, Stop>
+    runner: Runner,
+) -> Result<(Book, bool), Stop>
     requires checked { IsChecked machine.now }
     requires few { (1 ≤ events) × (events ≤ 4000000) }
 {
     let (hall, seat, actors) = open_hall(alloc, machine, events)?;
-    match run_by_workers(rt, alloc, hall, seat, actors, gate) {
-        Ok(book) => Ok(book),
-        Err(NoMemory) => Err(Stop::NoMemory),
+    match runner {
+        Runner::Threads(way) => Ok((run_side_by_side(rt, hall, seat, actors, way), true)),
+        Runner::Free => match run_by_workers(rt, alloc, hall, seat, actors, &OpenGate) {
+            Ok(book) => Ok((book, true)),
+            Err(NoMemory) => Err(Stop::NoMemory),
+        },
+        Runner::Crossing => run_crossing(rt, alloc, hall, seat, actors),
+        Runner::Watched => run_watched(rt, alloc, hall, seat, actors, events),
     }
 }
 
-/// Whether a worker for each processor make a whole run of the machine.
-fn workers_make_whole_run<R: Threads + Wait + Sync, G: Gate + Sync>(
+/// Goes through a run of the machine. It answers whether the checker takes its history as a whole run, and it had what the runner asks for.
+fn goes_well<R: Threads + Wait + Sync>(
     rt: &R,
     alloc: Global,
     machine: Machine,
     events: u32,
-    gate: &G,
+    runner: Runner,
 ) -> Result<bool, Stop>
     requires checked { IsChecked machine }
     requires few { (1 ≤ events) × (events ≤ 4000000) }
 {
-    match book_of_workers(rt, alloc, &machine, events, gate) {
-        Ok(book) => is_whole(alloc, machine, &book),
+    match run_once(rt, alloc, &machine, events, runner) {
+        Ok((book, has_more)) => match judge(alloc, machine, &book) {
+            Ok(judged) => Ok(has_more && judged == Judged::Whole),
+            Err(NoMemory) => Err(Stop::NoMemory),
+        },
         Err(stop) => {
             drop(machine);
             Err(stop)
@@ -295,49 +243,28 @@ fn workers_make_whole_run<R: Threads + Wait + Sync, G: Gate + Sync>(
     }
 }
 
-/// Has a worker for each processor go through the run so many times, and prints how often the checker took the history as a whole run.
-fn try_free<R: Threads + Wait + Sync + Print, S: Store>(
+/// Goes through a run so many times, and prints how often that went well. The words are the two files of the machine, how many entries a book is to have room
+/// for, and how many times.
+fn try_runs<R: Threads + Wait + Sync + Print, S: Store>(
     rt: &R,
     alloc: Global,
     store: &mut S,
-    files: Files<'_>,
-    events: u32,
-    times: u32,
-) -> Result<(), Stop>
-    requires few { (1 ≤ events) × (events ≤ 4000000) }
-{
-    let mut whole = 0u32;
+    runner: Runner,
+    words: &[String],
+) -> Result<(), Stop> {
+    let [domains, work, events, times] = words else {
+        return Err(Stop::Usage);
+    };
+    let events = limit_of(events.as_str())?;
+    let times: u32 = times.parse().unwrap_or(0);
+    let mut well = 0u32;
     for _ in 0..times {
-        let machine = machine_of(alloc, files.domains, files.work, store)?;
-        if workers_make_whole_run(rt, alloc, machine, events, &OpenGate)? {
-            whole = whole.saturating_add(1);
+        let machine = machine_of(alloc, domains.as_str(), work.as_str(), store)?;
+        if goes_well(rt, alloc, machine, events, runner)? {
+            well = well.saturating_add(1);
         }
     }
-    printed(println!(rt; "{whole} of {times} are whole runs"))
-}
-
-/// Has a worker for each processor go through the run so many times, at a gate where two of them meet, and prints how often both came and the checker took the
-/// history as a whole run.
-fn try_crossing<R: Threads + Wait + Sync + Print, S: Store>(
-    rt: &R,
-    alloc: Global,
-    store: &mut S,
-    files: Files<'_>,
-    events: u32,
-    times: u32,
-) -> Result<(), Stop>
-    requires few { (1 ≤ events) × (events ≤ 4000000) }
-{
-    let mut crossed = 0u32;
-    for _ in 0..times {
-        let machine = machine_of(alloc, files.domains, files.work, store)?;
-        let gate = CrossingGate::new();
-        let is_whole = workers_make_whole_run(rt, alloc, machine, events, &gate)?;
-        if is_whole && gate.was_crossed() {
-            crossed = crossed.saturating_add(1);
-        }
-    }
-    printed(println!(rt; "{crossed} of {times} were crossed"))
+    printed(println!(rt; "{well} of {times} {}", runner.told()))
 }
 
 /// Has the workers act once each, in one thread, and prints how often they passed the gate.
@@ -357,72 +284,6 @@ fn try_round<R: Threads + Wait + Sync + Print>(
         Ok(passes) => printed(println!(rt; "{passes} passes of the gate")),
         Err(NoMemory) => Err(Stop::NoMemory),
     }
-}
-
-/// The book and the looks of a watched run of the machine.
-fn watch_machine<R: Threads + Wait + Sync>(
-    rt: &R,
-    alloc: Global,
-    machine: &Machine,
-    events: u32,
-) -> Result<(Book, Looks), Stop>
-    requires checked { IsChecked machine.now }
-    requires few { (1 ≤ events) × (events ≤ 4000000) }
-{
-    let Ok(looks) = Looks::room(alloc, events + 1) else {
-        return Err(Stop::NoMemory);
-    };
-    let (hall, seat, actors) = open_hall(alloc, machine, events)?;
-    match run_with_looks(rt, alloc, hall, seat, actors, looks) {
-        Ok(watched) => Ok(watched),
-        Err(NoMemory) => Err(Stop::NoMemory),
-    }
-}
-
-/// Whether a watched run of the machine is whole, and has a look for each moment.
-fn is_watched<R: Threads + Wait + Sync>(
-    rt: &R,
-    alloc: Global,
-    machine: Machine,
-    events: u32,
-) -> Result<bool, Stop>
-    requires checked { IsChecked machine }
-    requires few { (1 ≤ events) × (events ≤ 4000000) }
-{
-    match watch_machine(rt, alloc, &machine, events) {
-        Ok((book, looks)) => {
-            let are = are_looks(&book, &looks);
-            match is_whole(alloc, machine, &book) {
-                Ok(is_whole) => Ok(is_whole && are),
-                Err(stop) => Err(stop),
-            }
-        }
-        Err(stop) => {
-            drop(machine);
-            Err(stop)
-        }
-    }
-}
-
-/// Goes through so many watched runs, and prints how many were whole and had a look for each moment.
-fn try_watched<R: Threads + Wait + Sync + Print, S: Store>(
-    rt: &R,
-    alloc: Global,
-    store: &mut S,
-    files: Files<'_>,
-    events: u32,
-    times: u32,
-) -> Result<(), Stop>
-    requires few { (1 ≤ events) × (events ≤ 4000000) }
-{
-    let mut watched = 0u32;
-    for _ in 0..times {
-        let machine = machine_of(alloc, files.domains, files.work, store)?;
-        if is_watched(rt, alloc, machine, events)? {
-            watched = watched.saturating_add(1);
-        }
-    }
-    printed(println!(rt; "{watched} of {times} are whole runs with a look for each moment"))
 }
 
 /// The way that a word names.
@@ -450,47 +311,18 @@ fn do_words<R: Threads + Wait + Sync + Print, S: Store>(
             let machine = machine_of(alloc, domains.as_str(), work.as_str(), store)?;
             try_alone(rt, alloc, machine, events, way)
         }
-        [word, way, domains, work, events, times] if word.as_str() == "threads" => {
-            let way = way_of(way.as_str())?;
-            let events = limit_of(events.as_str())?;
-            let times = times.parse().unwrap_or(0);
-            let files = Files {
-                domains: domains.as_str(),
-                work: work.as_str(),
-            };
-            try_threads(rt, alloc, store, files, events, way, times)
-        }
-        [word, domains, work, events, times] if word.as_str() == "free" => {
-            let events = limit_of(events.as_str())?;
-            let times = times.parse().unwrap_or(0);
-            let files = Files {
-                domains: domains.as_str(),
-                work: work.as_str(),
-            };
-            try_free(rt, alloc, store, files, events, times)
-        }
-        [word, domains, work, events, times] if word.as_str() == "crossing" => {
-            let events = limit_of(events.as_str())?;
-            let times = times.parse().unwrap_or(0);
-            let files = Files {
-                domains: domains.as_str(),
-                work: work.as_str(),
-            };
-            try_crossing(rt, alloc, store, files, events, times)
-        }
-        [word, domains, work, events, times] if word.as_str() == "watched" => {
-            let events = limit_of(events.as_str())?;
-            let times = times.parse().unwrap_or(0);
-            let files = Files {
-                domains: domains.as_str(),
-                work: work.as_str(),
-            };
-            try_watched(rt, alloc, store, files, events, times)
-        }
         [word, domains, work, events] if word.as_str() == "round" => {
             let events = limit_of(events.as_str())?;
             let machine = machine_of(alloc, domains.as_str(), work.as_str(), store)?;
             try_round(rt, alloc, machine, events)
+        }
+        [word, way, words @ ..] if word.as_str() == "threads" => {
+            let runner = Runner::Threads(way_of(way.as_str())?);
+            try_runs(rt, alloc, store, runner, words)
+        }
+        [word, words @ ..] => {
+            let runner = Runner::named(word.as_str()).ok_or(Stop::Usage)?;
+            try_runs(rt, alloc, store, runner, words)
         }
         _ => Err(Stop::Usage),
     }
@@ -505,7 +337,8 @@ pub fn try_line<R: Threads + Wait + Sync + Print, S: Store>(
 ) -> io::Result<()> {
     let (head, texts) = line.split_once(',').unwrap_or((line, ""));
     println!(rt; "== {head}")?;
-    let words = words_of(alloc, head)?;
+    let mut words: Vec<String> = Vec::new(alloc);
+    put_words(alloc, head, &mut words)?;
     match do_words(rt, alloc, store, words.as_slice(), texts) {
         Ok(()) => Ok(()),
         Err(stop) => println!(rt; "-- {stop}"),

@@ -11,7 +11,7 @@ use sched_model::action::Actor;
 use sched_model::config::Config;
 
 /// How many processors and domains a machine has. Its actors have numbers from 0: first its processors, then its domains, and last the tool.
-#[derive(Clone, Copy, Debug, PartialEq, Eq)]
+#[derive(Clone, Copy)]
 pub struct Actors {
     pub processors: u8,
     pub domains: u8,

@@ -1,14 +1,12 @@
 //! What a seat does for the actors of a machine, up to the end of its run.
 
-ghost use Rattle.std.specs.Prelude.{◌≡◌, ◌≤◌, ◌+◌, true};
+ghost use Rattle.std.specs.Prelude.{◌≡◌, ◌≤◌, ◌+◌};
 ghost use Rattle.hall.specs.Seats.{IsOf};
-ghost use Rattle.hall.specs.Turns.{is_actor};
 ghost use Rattle.hall_trials.specs.TrialSeats.{AreActors};
 
 use crate::numbering::Actors;
 use hall::{Done, Hall, HallSeat, Turn};
 use sched_io::Gate;
-use sched_model::action::Actor;
 use std::sync::Wait;
 
 /// More turns than a run has entries.
@@ -16,7 +14,7 @@ pub const MOST_TURNS: u32 = 4_000_001;
 
 /// Which calls the seats make: each acts for every fourth actor, or for all, and takes a turn of the whole machine where none of them has an
 /// event; or it takes turns alone; or it acts for every fourth actor, and the turns are taken by another seat.
-#[derive(Clone, Copy, Debug, PartialEq, Eq)]
+#[derive(Clone, Copy)]
 pub enum Way {
     Parted,
     Each,
@@ -46,16 +44,6 @@ impl Way {
     }
 }
 
-/// Acts for the actor. It answers whether that did an event.
-fn acts<R: Wait, G: Gate>(rt: &R, hall: &Hall, seat: &mut HallSeat, actor: Actor, gate: &G) -> bool
-    requires of { IsOf hall.now seat.old }
-    requires actor { is_actor hall.now.opened.input.config actor ≡ true }
-    ensures of { IsOf hall.now seat.new }
-    ensures parts { seat.new.sitting.view.shares ≡ seat.old.sitting.view.shares }
-{
-    matches!(hall.act(rt, seat, actor, gate), Ok(Done::Event { .. }))
-}
-
 /// Acts for the actor with the number k, where the way has the seat i act for it. It answers whether that did an event.
 fn acts_at<R: Wait, G: Gate>(
     rt: &R,
@@ -73,7 +61,11 @@ fn acts_at<R: Wait, G: Gate>(
     ensures parts { seat.new.sitting.view.shares ≡ seat.old.sitting.view.shares }
 {
     let (way, i) = mine;
-    way.acts(i, k) && acts(rt, hall, seat, actors.nth(k), gate)
+    way.acts(i, k)
+        && matches!(
+            hall.act(rt, seat, actors.nth(k), gate),
+            Ok(Done::Event { .. })
+        )
 }
 
 /// Acts once for each actor of the seat i. It answers whether one of them did an event.
@@ -130,61 +122,8 @@ pub fn is_last_turn<R: Wait>(rt: &R, hall: &Hall, seat: &mut HallSeat) -> bool
     )
 }
 
-/// Takes turns of the whole machine, until none follows. It answers how many.
-fn take_turns<R: Wait>(rt: &R, hall: &Hall, seat: &mut HallSeat) -> u32
-    requires of { IsOf hall.now seat.old }
-    ensures of { IsOf hall.now seat.new }
-    ensures parts { seat.new.sitting.view.shares ≡ seat.old.sitting.view.shares }
-{
-    for turn in 1..MOST_TURNS {
-        if is_last_turn(rt, hall, seat) {
-            return turn;
-        }
-    }
-    MOST_TURNS
-}
-
-/// Acts for the actors of the seat i until none does an event, and then takes a turn. It answers whether none follows.
-fn goes_last_round<R: Wait, G: Gate>(
-    rt: &R,
-    hall: &Hall,
-    actors: Actors,
-    seat: &mut HallSeat,
-    mine: (Way, usize),
-    gate: &G,
-) -> bool
-    requires of { IsOf hall.now seat.old }
-    requires actors { AreActors hall.now.opened.input.config actors }
-    ensures of { IsOf hall.now seat.new }
-    ensures parts { seat.new.sitting.view.shares ≡ seat.old.sitting.view.shares }
-{
-    act_all(rt, hall, actors, seat, mine, gate);
-    is_last_turn(rt, hall, seat)
-}
-
-/// Acts for the actors of the seat i and takes turns, until none follows. It answers how many turns were taken.
-fn act_and_turn<R: Wait, G: Gate>(
-    rt: &R,
-    hall: &Hall,
-    actors: Actors,
-    seat: &mut HallSeat,
-    mine: (Way, usize),
-    gate: &G,
-) -> u32
-    requires of { IsOf hall.now seat.old }
-    requires actors { AreActors hall.now.opened.input.config actors }
-    ensures of { IsOf hall.now seat.new }
-    ensures parts { seat.new.sitting.view.shares ≡ seat.old.sitting.view.shares }
-{
-    for turn in 1..MOST_TURNS {
-        if goes_last_round(rt, hall, actors, seat, mine, gate) {
-            return turn;
-        }
-    }
-    MOST_TURNS
-}
-
-/// Goes to the end of the run as the seat i, by acting and turns or by turns alone. It answers how many turns were taken.
+/// Goes to the end of the run as the seat i: acts for its actors until none does an event and takes a turn, until none follows. It answers how many turns
+/// were taken.
 pub fn go_to_the_end<R: Wait, G: Gate>(
     rt: &R,
     hall: &Hall,
@@ -198,8 +137,11 @@ pub fn go_to_the_end<R: Wait, G: Gate>(
     ensures of { IsOf hall.now seat.new }
     ensures parts { seat.new.sitting.view.shares ≡ seat.old.sitting.view.shares }
 {
-    match mine.0 {
-        Way::Turns => take_turns(rt, hall, seat),
-        _ => act_and_turn(rt, hall, actors, seat, mine, gate),
+    for turn in 1..MOST_TURNS {
+        act_all(rt, hall, actors, seat, mine, gate);
+        if is_last_turn(rt, hall, seat) {
+            return turn;
+        }
     }
+    MOST_TURNS
 }

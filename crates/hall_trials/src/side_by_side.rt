@@ -51,26 +51,7 @@ fn act_side_by_side<R: Threads + Wait + Sync>(
     );
 }
 
-/// Lets the seats act side by side, and then takes a turn by the first one. It answers whether none follows.
-fn goes_last_round<R: Threads + Wait + Sync>(
-    rt: &R,
-    hall: &Hall,
-    actors: Actors,
-    way: Way,
-    first: &mut HallSeat,
-    seats: &mut [HallSeat],
-) -> bool
-    requires of { IsOf hall.now first.old }
-    requires serve { All (MayServe hall.now actors) seats.old }
-    ensures of { IsOf hall.now first.new }
-    ensures parts { first.new.sitting.view.shares ≡ first.old.sitting.view.shares }
-    ensures serve { All (MayServe hall.now actors) seats.new }
-{
-    act_side_by_side(rt, hall, actors, way, seats);
-    is_last_turn(rt, hall, first)
-}
-
-/// Goes on in rounds to the end of the run, or until the book is full.
+/// Goes on in rounds to the end of the run, or until the book is full: the seats act side by side, and then the first one takes a turn.
 fn go_in_rounds<R: Threads + Wait + Sync>(
     rt: &R,
     hall: &Hall,
@@ -86,7 +67,8 @@ fn go_in_rounds<R: Threads + Wait + Sync>(
     ensures serve { All (MayServe hall.now actors) seats.new }
 {
     for _ in 0..MOST_TURNS {
-        if goes_last_round(rt, hall, actors, way, first, seats) {
+        act_side_by_side(rt, hall, actors, way, seats);
+        if is_last_turn(rt, hall, first) {
             return;
         }
     }

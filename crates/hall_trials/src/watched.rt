@@ -1,6 +1,6 @@
 //! Watched runs: beside the workers a board is written and looked at.
 
-ghost use Rattle.std.specs.Prelude.{◌≡◌, ◌≤◌, ◌<◌, []};
+ghost use Rattle.std.specs.Prelude.{◌≡◌, ◌≤◌};
 ghost use Rattle.hall.specs.Seats.{IsOf};
 ghost use Rattle.hall_trials.specs.TrialSeats.{AreActors};
 
@@ -14,32 +14,7 @@ use sched_model::event::Event;
 use std::alloc::Global;
 use std::sync::Wait;
 use std::thread::Threads;
-
-/// Goes through the run with a worker for each processor, a writer of a board and a reader, and answers the book and the looks.
-pub fn run_with_looks<R: Threads + Wait + Sync>(
-    rt: &R,
-    alloc: Global,
-    hall: Hall,
-    seat: HallSeat,
-    actors: Actors,
-    looks: Looks,
-) -> Result<(Book, Looks), NoMemory>
-    requires of { IsOf hall seat }
-    requires all { seat.sitting.view.shares ≡ 1024 }
-    requires actors { AreActors hall.opened.input.config actors }
-    requires few { (1 ≤ actors.processors) × (actors.processors ≤ 64) }
-    requires looks { looks.items ≡ [] }
-    requires room { hall.opened.limit < looks.room }
-{
-    let Actors {
-        processors,
-        domains,
-    } = actors;
-    match watch_run(rt, alloc, hall, seat, processors, domains, looks, &OpenGate) {
-        Ok((book, _, looks)) => Ok((book, looks)),
-        Err(e) => Err(e),
-    }
-}
+use trial_machine::Stop;
 
 /// How many moments end with the history of the book.
 fn ends_of(book: &Book) -> u32 {
@@ -73,6 +48,39 @@ fn rise(book: &Book, looks: &Looks) -> bool {
 }
 
 /// Whether there is one look for each moment of the history, as a watched run has them.
-pub fn are_looks(book: &Book, looks: &Looks) -> bool {
+fn are_looks(book: &Book, looks: &Looks) -> bool {
     looks.len() == ends_of(book).saturating_add(1) && rise(book, looks)
+}
+
+/// Goes through the run with a worker for each processor, a writer of a board and a reader. It answers the book, and whether there is one look for each moment
+/// of the history.
+pub fn run_watched<R: Threads + Wait + Sync>(
+    rt: &R,
+    alloc: Global,
+    hall: Hall,
+    seat: HallSeat,
+    actors: Actors,
+    events: u32,
+) -> Result<(Book, bool), Stop>
+    requires of { IsOf hall seat }
+    requires all { seat.sitting.view.shares ≡ 1024 }
+    requires actors { AreActors hall.opened.input.config actors }
+    requires few { (1 ≤ actors.processors) × (actors.processors ≤ 64) }
+    requires limit { hall.opened.limit ≡ events }
+    requires bound { events ≤ 4000000 }
+{
+    let Actors {
+        processors,
+        domains,
+    } = actors;
+    let Ok(looks) = Looks::room(alloc, events + 1) else {
+        return Err(Stop::NoMemory);
+    };
+    match watch_run(rt, alloc, hall, seat, processors, domains, looks, &OpenGate) {
+        Ok((book, _, looks)) => {
+            let are = are_looks(&book, &looks);
+            Ok((book, are))
+        }
+        Err(NoMemory) => Err(Stop::NoMemory),
+    }
 }

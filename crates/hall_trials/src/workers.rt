@@ -6,6 +6,7 @@ ghost use Rattle.pcpu_threads.specs.Workers.{AreWorkers};
 ghost use Rattle.hall_trials.specs.TrialSeats.{AreActors};
 
 use crate::counting::CountingGate;
+use crate::crossing::CrossingGate;
 use crate::numbering::Actors;
 use hall::{Hall, HallSeat};
 use journal_core::Book;
@@ -15,6 +16,7 @@ use sched_io::Gate;
 use std::alloc::Global;
 use std::sync::Wait;
 use std::thread::Threads;
+use trial_machine::Stop;
 
 /// Goes through the run with a worker for each processor, and answers the book.
 pub fn run_by_workers<R: Threads + Wait + Sync, G: Gate + Sync>(
@@ -41,6 +43,26 @@ pub fn run_by_workers<R: Threads + Wait + Sync, G: Gate + Sync>(
             drop(hall);
             Err(e)
         }
+    }
+}
+
+/// Goes through the run with a worker for each processor, at a gate where two of them meet. It answers the book, and whether both came.
+pub fn run_crossing<R: Threads + Wait + Sync>(
+    rt: &R,
+    alloc: Global,
+    hall: Hall,
+    seat: HallSeat,
+    actors: Actors,
+) -> Result<(Book, bool), Stop>
+    requires of { IsOf hall seat }
+    requires all { seat.sitting.view.shares ≡ 1024 }
+    requires actors { AreActors hall.opened.input.config actors }
+    requires few { (1 ≤ actors.processors) × (actors.processors ≤ 64) }
+{
+    let gate = CrossingGate::new();
+    match run_by_workers(rt, alloc, hall, seat, actors, &gate) {
+        Ok(book) => Ok((book, gate.was_crossed())),
+        Err(NoMemory) => Err(Stop::NoMemory),
     }
 }
 

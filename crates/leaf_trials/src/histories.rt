@@ -1,7 +1,7 @@
 //! The history of a run of one free core, which stalls once.
 
 ghost use Rattle.std.specs.Prelude.{◌≡◌, IfOk};
-ghost use Rattle.leaf_trials.specs.Example.{stalling_machine};
+ghost use Rattle.leaf_trials.specs.Example.{stalling_book};
 
 use journal_core::Book;
 use sched_base::{Moment, NoMemory, ProcId, ResId, Span};
@@ -10,17 +10,19 @@ use sched_model::event::{Entry, Event};
 use sched_model::row::Row;
 use sched_model::work::{StallLine, Work};
 use std::alloc::Global;
+use std::process::Abort;
 use std::test::Fail;
 
-/// One core, no pool and no domain, and a stall of 2 nanoseconds at 3.
-fn input(alloc: Global) -> Result<(Config, Work), NoMemory>
-    ensures { IfOk result (λ r. record { config = r.0; work = r.1 } ≡ stalling_machine) }
+/// A book for three entries of the run of one core, with no pool and no domain, and a stall of 2 nanoseconds at 3.
+fn empty_book(alloc: Global) -> Result<Book, NoMemory>
+    ensures { IfOk result (λ book. book ≡ stalling_book) }
 {
     let stall = StallLine {
         at: Moment(3),
         cpu: ProcId(0),
         span: Span(2),
     };
+    let stalls = vec![in alloc; stall]?;
     let config = Config {
         granularity: 1,
         processors: 1,
@@ -29,10 +31,10 @@ fn input(alloc: Global) -> Result<(Config, Work), NoMemory>
         domains: Row::from_vec(Vec::new(alloc)),
     };
     let work = Work {
-        stalls: Row::from_vec(vec![in alloc; stall]?),
+        stalls: Row::from_vec(stalls),
         commands: Row::from_vec(Vec::new(alloc)),
     };
-    Ok((config, work))
+    Book::room(alloc, &config, &work, 3)
 }
 
 fn entry(at: u64, event: Event) -> Entry
@@ -44,12 +46,10 @@ fn entry(at: u64, event: Event) -> Entry
     }
 }
 
-#[test]
-fn a_book_has_what_was_committed(rt: HostRuntime) -> Result<(), Fail> {
-    let alloc = rt.alloc();
-    let (config, work) = input(alloc)?;
-    let mut book = Book::room(alloc, &config, &work, 3)?;
-    assert_eq!(rt; book.now(), Moment(0));
+/// Commits the whole run, and holds what the book tells against it.
+fn commit_all(rt: &impl Abort, book: &mut Book)
+    requires { book.old ≡ stalling_book }
+{
     let end = entry(0, Event::End { next: Moment(3) });
     let stall = entry(
         3,
@@ -59,20 +59,30 @@ fn a_book_has_what_was_committed(rt: HostRuntime) -> Result<(), Fail> {
         },
     );
     let finish = entry(3, Event::Finish);
+    let start = book.now();
     book.commit(end);
-    assert_eq!(rt; book.now(), Moment(3));
+    let later = book.now();
     book.commit(stall);
-    assert!(rt; book.room_left());
+    let room_for_last = book.room_left();
     book.commit(finish);
-    assert!(rt; !book.room_left());
     assert_eq!(rt;
-        (book.len(), book.limit(), book.decides(ResId(0))),
-        (3, 3, 0)
+        [start, later, book.now()],
+        [Moment(0), Moment(3), Moment(3)]
+    );
+    assert_eq!(rt; [room_for_last, book.room_left()], [true, false]);
+    assert_eq!(rt;
+        [book.len(), book.limit(), book.decides(ResId(0))],
+        [3, 3, 0]
     );
     assert_eq!(rt;
-        (book.get(0), book.get(1), book.get(2)),
-        (end, stall, finish)
+        [book.get(0), book.get(1), book.get(2)],
+        [end, stall, finish]
     );
-    assert_eq!(rt; book.now(), Moment(3));
+}
+
+#[test]
+fn a_book_has_what_was_committed(rt: HostRuntime) -> Result<(), Fail> {
+    let mut book = empty_book(rt.alloc())?;
+    commit_all(&rt, &mut book);
     Ok(())
 }

@@ -1,9 +1,9 @@
 //! Two lists on one ring of nodes.
 
 ghost use Rattle.std.specs.Prelude.{◌≡◌};
+ghost use Rattle.unit_ring.specs.Lists.{empty_lists};
 
 use sched_base::{DomId, Steps, UnitId};
-use std::alloc::Global;
 use std::marker::Brand;
 use std::process::Abort;
 use std::sync::ledger::{Blank, Ledger};
@@ -25,37 +25,51 @@ const C: UnitId = UnitId {
     n: 0,
 };
 
-fn counted<L: Ledger, R: Abort>(rt: &R, alloc: Global, blank: Blank) -> Result<(), Fail>
+/// Links, moves and unlinks nodes on an empty ring of four, and holds each list against what it must be.
+fn counted<L: Ledger, R: Abort>(rt: &R, ring: &mut Ring, blank: Blank)
+    requires empty { ring.old ≡ empty_lists 4 }
     requires name { blank.name ≡ L.name }
     requires parts { blank.parts ≡ L.parts }
     requires one { blank.parts ≡ 1 }
 {
-    let mut steps = Steps::<L>::new(blank);
-    let mut ring = Ring::room(alloc, 4)?;
-    let a = ring.push_back(0, A, &mut steps);
-    let b = ring.push_back(0, B, &mut steps);
-    let c = ring.insert_before(b, C, &mut steps);
-    assert_eq!(rt; ring.first(0, &mut steps), Some(a));
-    assert_eq!(rt; ring.next(a, &mut steps), Some(c));
-    assert_eq!(rt; ring.next(c, &mut steps), Some(b));
-    assert_eq!(rt; ring.next(b, &mut steps), None);
-    ring.shift(a, 1, &mut steps);
-    assert_eq!(rt; ring.first(0, &mut steps), Some(c));
-    assert_eq!(rt; ring.first(1, &mut steps), Some(a));
-    assert_eq!(rt; ring.next(a, &mut steps), None);
-    assert_eq!(rt; ring.unit(a), A);
-    assert_eq!(rt; ring.unlink(c, &mut steps), C);
-    assert_eq!(rt; ring.first(0, &mut steps), Some(b));
-    assert_eq!(rt; ring.next(b, &mut steps), None);
-    let d = ring.push_back(0, A, &mut steps);
-    let e = ring.push_back(0, C, &mut steps);
-    assert_eq!(rt; ring.next(b, &mut steps), Some(d));
-    assert_eq!(rt; ring.next(d, &mut steps), Some(e));
-    Ok(())
+    let steps = &mut Steps::<L>::new(blank);
+    let a = ring.push_back(0, A, steps);
+    let b = ring.push_back(0, B, steps);
+    let c = ring.insert_before(b, C, steps);
+    assert_eq!(rt;
+        [
+            ring.first(0, steps),
+            ring.next(a, steps),
+            ring.next(c, steps),
+            ring.next(b, steps)
+        ],
+        [Some(a), Some(c), Some(b), None]
+    );
+    ring.shift(a, 1, steps);
+    assert_eq!(rt;
+        [
+            ring.first(0, steps),
+            ring.first(1, steps),
+            ring.next(a, steps)
+        ],
+        [Some(c), Some(a), None]
+    );
+    assert_eq!(rt; [ring.unit(a), ring.unlink(c, steps)], [A, C]);
+    assert_eq!(rt;
+        [ring.first(0, steps), ring.next(b, steps)],
+        [Some(b), None]
+    );
+    let d = ring.push_back(0, A, steps);
+    let e = ring.push_back(0, C, steps);
+    assert_eq!(rt;
+        [ring.next(b, steps), ring.next(d, steps)],
+        [Some(d), Some(e)]
+    );
 }
 
 #[test]
 fn two_lists_of_four_nodes(rt: HostRuntime) -> Result<(), Fail> {
-    let alloc = rt.alloc();
-    counted::<Brand, HostRuntime>(&rt, alloc, Blank::new(1))
+    let mut ring = Ring::room(rt.alloc(), 4)?;
+    counted::<Brand, HostRuntime>(&rt, &mut ring, Blank::new(1));
+    Ok(())
 }
