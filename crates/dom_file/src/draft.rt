@@ -5,7 +5,7 @@ use sched_model::config::SchedKind;
 use sched_model::short::Short;
 
 /// One entry of a frame as the file has it. Its domain and unit may not be there.
-#[derive(Clone, Copy, Debug, Default)]
+#[derive(Clone, Copy, Default)]
 pub(crate) struct EntryDraft {
     pub dom: i64,
     pub unit: i64,

@@ -68,10 +68,7 @@ fn the_run_of_the_example_call_by_call(rt: HostRuntime) -> Result<(), Fail> {
     assert_eq!(rt; visit(&rt, &set, &mut b, core), (0, 2));
     set.join(&mut a, b);
     let book = set.close(a);
-    assert_eq!(rt;
-        (book.len(), book.get(0), book.get(1)),
-        (2, command_done(), core_moved())
-    );
+    assert!(rt; (book.len(), book.get(0), book.get(1)) == (2, command_done(), core_moved()));
     Ok(())
 }
 
@@ -99,10 +96,7 @@ fn two_threads_share_the_locks_to_their_end(rt: HostRuntime) -> Result<(), Fail>
     assert!(rt; seen == (16, 0) || seen == (0, 2));
     set.join(&mut a, b);
     let book = set.close(a);
-    assert_eq!(rt;
-        (book.len(), book.get(0), book.get(1)),
-        (2, command_done(), core_moved())
-    );
+    assert!(rt; (book.len(), book.get(0), book.get(1)) == (2, command_done(), core_moved()));
     Ok(())
 }
 
@@ -119,7 +113,7 @@ fn the_command_is_done_beside_a_held_lock(rt: HostRuntime) -> Result<(), Fail> {
     set.unlock(&mut b, held);
     set.join(&mut a, b);
     let book = set.close(a);
-    assert_eq!(rt; (book.len(), book.get(0)), (1, command_done()));
+    assert!(rt; (book.len(), book.get(0)) == (1, command_done()));
     Ok(())
 }
 

@@ -5,7 +5,7 @@ use crate::row::Row;
 use sched_base::{DomId, Moment, PoolId, ProcId, ResId, Span, UnitId, VcpuId};
 
 /// A parameter that a command sets.
-#[derive(Clone, Copy, Debug, PartialEq, Eq)]
+#[derive(Clone, Copy, PartialEq, Eq)]
 pub enum Param {
     Weight,
     Cap,
@@ -17,7 +17,7 @@ pub enum Param {
 }
 
 /// Why a command is refused.
-#[derive(Clone, Copy, Debug, PartialEq, Eq)]
+#[derive(Clone, Copy, PartialEq, Eq)]
 pub enum Refusal {
     Syntax {
         place: u64,
@@ -70,7 +70,7 @@ pub enum Refusal {
 }
 
 /// The answer to an accepted command.
-#[derive(Clone, Copy, Debug, PartialEq, Eq)]
+#[derive(Clone, Copy, PartialEq, Eq)]
 pub enum Reply {
     Done,
     Pools {
@@ -98,7 +98,7 @@ pub enum Reply {
 }
 
 /// What happened, with the fields that its line prints.
-#[derive(Clone, Copy, Debug, PartialEq, Eq)]
+#[derive(Clone, Copy, PartialEq, Eq)]
 pub enum Event {
     Stall {
         p: ProcId,
@@ -164,7 +164,7 @@ pub enum Event {
 }
 
 /// One entry of a history: at this moment this happened.
-#[derive(Clone, Copy, Debug, PartialEq, Eq)]
+#[derive(Clone, Copy, PartialEq, Eq)]
 pub struct Entry {
     pub at: Moment,
     pub event: Event,

@@ -8,7 +8,7 @@ use sched_base::{Moment, ResId, Span, UnitId};
 use sched_model::event::{Entry, Event};
 
 /// What a decision chooses: the unit that is on the core from this moment on, or none.
-#[derive(Clone, Copy, Debug)]
+#[derive(Clone, Copy)]
 pub struct Choice {
     pub core: ResId,
     pub at: Moment,

@@ -13,7 +13,7 @@ use sched_model::units::{is_same, is_same_choice};
 use unit_places::place_of;
 
 /// What a unit did up to now, but for a stay that goes on. Times are in nanoseconds.
-#[derive(Clone, Copy, Debug)]
+#[derive(Clone, Copy)]
 pub struct UnitTally {
     pub run: u128,
     pub picks: u32,
@@ -22,7 +22,7 @@ pub struct UnitTally {
 }
 
 /// The unit that is on a core and since when, and what the core did up to now, but for the stay that goes on.
-#[derive(Clone, Copy, Debug)]
+#[derive(Clone, Copy)]
 pub struct CoreTally {
     pub cur: Option<UnitId>,
     pub since: Moment,

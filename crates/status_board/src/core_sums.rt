@@ -10,7 +10,7 @@ use sched_base::{Moment, Span, UnitId};
 use sched_model::event::{Entry, Event};
 
 /// The unit that is on a core and since when, and what the core did up to now, but for the stay that goes on.
-#[derive(Clone, Copy, Debug)]
+#[derive(Clone, Copy)]
 pub(crate) struct CoreSums {
     cur: Option<UnitId>,
     since: Moment,

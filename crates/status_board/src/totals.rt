@@ -6,7 +6,7 @@ use arrayvec::ArrayVec;
 use sched_base::{Moment, Span};
 
 /// What a core did.
-#[derive(Clone, Copy, Debug, Default, PartialEq, Eq)]
+#[derive(Clone, Copy, Default, PartialEq, Eq)]
 pub struct CoreTotals {
     /// How long units were on the core.
     pub run: Span,
@@ -17,7 +17,7 @@ pub struct CoreTotals {
 }
 
 /// The totals of a list of entries. A sum stops at 2^64 - 1, which none of a run reaches.
-#[derive(Debug, PartialEq, Drop)]
+#[derive(PartialEq, Drop)]
 pub struct Totals {
     /// How many entries there are.
     pub entries: u64,
