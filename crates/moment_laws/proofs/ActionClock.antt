@@ -20,9 +20,9 @@ use Rattle.sched_model.specs.Machine.{is_enabled, is_move_under_way, after, afte
 use Rattle.sched_model.specs.Places.{at_place}
 use Rattle.sched_model.specs.Runs.{Reached, IsNextEvent, IsRunFrom, action_of, after_entry, after_event}
 use Rattle.sched_laws.proofs.EachPlace.{by_option}
-use Rattle.turn_laws.specs.Turns.{how_many}
+use Rattle.moment_laws.specs.Turns.{how_many}
 use Rattle.sched_base.specs.Numbers.{one_if}
-use Rattle.stretch_laws.proofs.LegRuns.{action_in}
+use Rattle.moment_laws.proofs.LegRuns.{action_in}
 use Rattle.moment_laws.specs.Moments.{is_end, is_line}
 use Rattle.sched_laws.proofs.Clock.{SameClock, same_clock, carried_clock, settled_clock}
 

@@ -21,8 +21,8 @@ use Rattle.sched_model.specs.Pool.{change_core, change_processor, change_vcpu, c
 use Rattle.sched_laws.proofs.Events.{LikePlaces, like_change_at, like_change_each, like_map, like_of_domain, capped, IsMarked, KeptByCommands, kept_settled}
 use Rattle.sched_base.proofs.Bools.{and_left, or_more, clash}
 use Rattle.sched_laws.specs.Counts.{total}
-use Rattle.turn_laws.specs.Turns.{how_many}
-use Rattle.turn_laws.specs.Stretches.{units}
+use Rattle.moment_laws.specs.Turns.{how_many}
+use Rattle.moment_laws.specs.Stretches.{units}
 
 -- the core is not pending, and its due has come
 abbrev pub is_overdue : ℕ → Resource → Bool

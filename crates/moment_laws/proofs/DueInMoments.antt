@@ -37,15 +37,15 @@ use Rattle.sched_ranges.proofs.Law.{fits_in_runs}
 use Rattle.move_laws.proofs.Counted.{in_all}
 use Rattle.move_laws.proofs.Staying.{same_home, same_stall, adds_line}
 use Rattle.move_laws.proofs.Ending.{moved_ends, dom_moved_ends}
-use Rattle.turn_laws.specs.Turns.{how_many}
-use Rattle.turn_laws.proofs.StretchFalls.{push_assoc}
-use Rattle.credit2_turns.proofs.Credit2Steps.{Has}
-use Rattle.stretch_laws.proofs.LegRuns.{action_in}
+use Rattle.moment_laws.specs.Turns.{how_many}
+use Rattle.moment_laws.proofs.StretchFalls.{push_assoc}
+use Rattle.moment_laws.proofs.Credit2Steps.{Has}
+use Rattle.moment_laws.proofs.LegRuns.{action_in}
 use Rattle.moment_laws.specs.Moments.{is_cause, is_line, are_at}
 use Rattle.moment_laws.proofs.DueInPools.{takes}
 use Rattle.moment_laws.proofs.DueInStates.{of_pools, IsReadyPool, command_less, stall_less, moved_less, dom_moved_less, home_lowers}
-use Rattle.credit2_turns.specs.Credit2Turns.{HasUnit}
-use Rattle.stretch_laws.proofs.ReachedDecisions.{PoolOf, cur_unit, cur_there, has_record, waiting_unit, waiting_there}
+use Rattle.moment_laws.specs.Credit2Turns.{HasUnit}
+use Rattle.moment_laws.proofs.ReachedDecisions.{PoolOf, cur_unit, cur_there, has_record, waiting_unit, waiting_there}
 
 -- the pools of a reached state are such that decisions are late enough
 module _ (m : Machine) (checked : IsChecked m) (before : List Entry) (run : IsRun m before) (i : ℕ) (pool : Pool) (at : at_place (state_after m before).pools i ≡ Some pool) where

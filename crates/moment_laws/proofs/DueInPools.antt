@@ -47,10 +47,10 @@ use Rattle.sched_ranges.specs.Fits.{RtdsFits}
 use Rattle.sched_ranges.proofs.Records.{RecordsFit, replenish_fits}
 use Rattle.sched_ranges.proofs.Vcpus.{VcpuFits}
 use Rattle.sched_ranges.proofs.Walk.{DomFits, PoolFits}
-use Rattle.turn_laws.proofs.Sums.{how_many_changed}
+use Rattle.moment_laws.proofs.Sums.{how_many_changed}
 use Rattle.moment_laws.proofs.DueEvents.{of_pool, of_core, of_domain, of_credit2, of_rtds, of_records, is_overdue, is_ripe, ends_by, is_deadline_due, is_refill_due, less_commands, less_core, less_processor, less_settled, less_started_on, less_stopped, pending_none}
 use Rattle.moment_laws.proofs.LaterDues.{DecidesLater, IsReady, decides_later, burned_deadline}
-use Rattle.turn_laws.proofs.Tests.{or_later}
+use Rattle.moment_laws.proofs.Tests.{or_later}
 
 -- what an event takes away at least
 abbrev pub takes : Action → ℕ

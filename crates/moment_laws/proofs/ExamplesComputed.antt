@@ -1,6 +1,6 @@
 -- The worked examples of stretches and moments, computed.
 use Rattle.std.proofs.Common.{◌≡◌, ◌*◌, [], ◌∷◌, refl}
-use Rattle.turn_laws.specs.Stretches.{most_in_stretch}
+use Rattle.moment_laws.specs.Stretches.{most_in_stretch}
 use Rattle.moment_laws.specs.Moments.{most_in_moment, most_in_moments}
 use Rattle.moment_laws.specs.Examples.{stretches_of, sums_at, sums, sums_of, run_sums, two_windows, cap_set, budgets}
 

@@ -33,11 +33,11 @@ use Rattle.sched_ranges.specs.Ranges.{PoolInRange, RecordsInRange}
 use Rattle.sched_ranges.proofs.Done.{in_range}
 use Rattle.sched_records.specs.Records.{HasRtdsRecords, IsRecorded}
 use Rattle.sched_records.proofs.Law.{has_records}
-use Rattle.turn_laws.specs.Stretches.{cores, units}
-use Rattle.turn_laws.specs.Turns.{how_many}
-use Rattle.turn_laws.proofs.Sums.{many_is, total_at_most, how_many_most}
+use Rattle.moment_laws.specs.Stretches.{cores, units}
+use Rattle.moment_laws.specs.Turns.{how_many}
+use Rattle.moment_laws.proofs.Sums.{many_is, total_at_most, how_many_most}
 use Rattle.sched_base.proofs.Bools.{one_if_most}
-use Rattle.stretch_laws.proofs.OwnDomains.{has_own_rtds, has_own_credit2}
+use Rattle.moment_laws.proofs.OwnDomains.{has_own_rtds, has_own_credit2}
 use Rattle.moment_laws.specs.Moments.{vcpus, domains, is_line, causes, lines, are_at, most_causes}
 use Rattle.moment_laws.proofs.MomentParts.{causes_are}
 use Rattle.moment_laws.proofs.DueEvents.{of_pool, of_core, of_domain, of_credit2, of_rtds, of_records, is_overdue, is_ripe, is_deadline_due, is_refill_due}

@@ -49,19 +49,19 @@ use Rattle.sched_laws.proofs.Kept.{IsApart}
 use Rattle.sched_laws.proofs.Lists.{some-test_at, test_at-some, is_some_at}
 use Rattle.sched_laws.proofs.Reached.{is_apart, places_for_cores}
 use Rattle.sched_laws.proofs.StillWaits.{split_run}
-use Rattle.turn_laws.specs.Stretches.{cores}
-use Rattle.turn_laws.specs.Turns.{how_many}
+use Rattle.moment_laws.specs.Stretches.{cores}
+use Rattle.moment_laws.specs.Turns.{how_many}
 use Rattle.sched_laws.specs.Counts.{total_over}
-use Rattle.turn_laws.specs.GoodDecisions.{decision}
-use Rattle.turn_laws.proofs.Sums.{many_is, many_none, total_at_most, grows, falls}
-use Rattle.turn_laws.proofs.StretchFalls.{push_assoc}
-use Rattle.stretch_laws.proofs.LegRuns.{action_in}
-use Rattle.stretch_laws.proofs.CoresByRecords.{IsKeptTest, last_of, Counted, counts, counted_core, core_counted, counted_after}
+use Rattle.moment_laws.specs.GoodDecisions.{decision}
+use Rattle.moment_laws.proofs.Sums.{many_is, many_none, total_at_most, grows, falls}
+use Rattle.moment_laws.proofs.StretchFalls.{push_assoc}
+use Rattle.moment_laws.proofs.LegRuns.{action_in}
+use Rattle.moment_laws.proofs.CoresByRecords.{IsKeptTest, last_of, Counted, counts, counted_core, core_counted, counted_after}
 use Rattle.moment_laws.specs.Moments.{is_cause, are_at}
 use Rattle.moment_laws.proofs.MomentParts.{is_reset, resets, ResetsFew}
 use Rattle.moment_laws.proofs.DueEvents.{one_less}
-use Rattle.turn_laws.proofs.Tests.{or_later}
-use Rattle.stretch_laws.proofs.ReachedDecisions.{reset_of, printed_reset}
+use Rattle.moment_laws.proofs.Tests.{or_later}
+use Rattle.moment_laws.proofs.ReachedDecisions.{reset_of, printed_reset}
 
 -- the last reset was at the moment
 abbrev was_at : ℕ → Option ℕ → Bool

@@ -29,12 +29,12 @@ use Rattle.sched_model.specs.Policy.{decision_of}
 use Rattle.sched_base.proofs.Bools.{and_right}
 use Rattle.sched_laws.specs.Counts.{total}
 use Rattle.sched_laws.proofs.EachPlace.{by_cond, by_option}
-use Rattle.turn_laws.proofs.BestUnits.{is_best}
-use Rattle.turn_laws.specs.Turns.{is_funded, ahead}
-use Rattle.turn_laws.proofs.Waiting.{has_filter}
-use Rattle.credit2_turns.proofs.Credit2Faces.{credit_order, greatest_scan}
-use Rattle.credit2_turns.proofs.Credit2Steps.{Has, has_change, takes_funded}
-use Rattle.stretch_laws.proofs.RtdsKeys.{before_order, foremost_scan, passes_is}
+use Rattle.moment_laws.proofs.BestUnits.{is_best}
+use Rattle.moment_laws.specs.Turns.{is_funded, ahead}
+use Rattle.moment_laws.proofs.Waiting.{has_filter}
+use Rattle.moment_laws.proofs.Credit2Faces.{credit_order, greatest_scan}
+use Rattle.moment_laws.proofs.Credit2Steps.{Has, has_change, takes_funded}
+use Rattle.moment_laws.proofs.RtdsKeys.{before_order, foremost_scan, passes_is}
 use Rattle.moment_laws.proofs.DueEvents.{of_credit2, of_rtds, of_records, is_deadline_due, is_refill_due, one_less, how_many_less, total-change_at_less, total-change_each_less}
 
 -- what is promised of a decision at the moment t

@@ -4,7 +4,7 @@ use Rattle.sched_model.specs.declared.event.Entry.{Entry}
 use Rattle.sched_model.specs.declared.machine.Machine.{Machine}
 use Rattle.sched_model.specs.CheckedMachine.{IsChecked}
 use Rattle.sched_model.specs.Runs.{IsRun}
-use Rattle.stretch_laws.proofs.StretchLaw.{stretch_ends}
+use Rattle.moment_laws.proofs.StretchLaw.{stretch_ends}
 use Rattle.moment_laws.specs.Moments.{are_at, causes, most_in_moment, most_turns_in_moment}
 use Rattle.moment_laws.proofs.FewResets.{resets_few}
 use Rattle.moment_laws.proofs.MomentParts.{moment_turns, most_turns_in_moment_fit}

@@ -16,15 +16,15 @@ use Rattle.sched_model.specs.Runs.{IsRun, run_start}
 use Rattle.sched_base.proofs.Bools.{and_left, and_right, one_if_most}
 use Rattle.sched_laws.proofs.EachPlace.{at_place-put_at_other, at_place-clear_at, at_place-clear_at_other, length_set}
 use Rattle.sched_laws.proofs.StillWaits.{split_run}
-use Rattle.turn_laws.specs.Stretches.{Legs, cores, units, legs_with, legs_after, leg_of, open_legs, has_no_older_leg, is_in_stretch, is_stretch}
-use Rattle.turn_laws.specs.Turns.{how_many, most_turns}
+use Rattle.moment_laws.specs.Stretches.{Legs, cores, units, legs_with, legs_after, leg_of, open_legs, has_no_older_leg, is_in_stretch, is_stretch}
+use Rattle.moment_laws.specs.Turns.{how_many, most_turns}
 use Rattle.sched_base.specs.Numbers.{one_if}
 use Rattle.sched_laws.specs.Counts.{total_over}
-use Rattle.turn_laws.proofs.Sums.{many_is, many_none, total_at_most, grows, falls}
-use Rattle.turn_laws.proofs.StretchFalls.{legs_push, push_assoc}
+use Rattle.moment_laws.proofs.Sums.{many_is, many_none, total_at_most, grows, falls}
+use Rattle.moment_laws.proofs.StretchFalls.{legs_push, push_assoc}
 use Rattle.moment_laws.specs.Moments.{is_cause, is_end, causes, are_at, most_in_moment, most_turns_in_moment}
-use Rattle.turn_laws.proofs.TurnsBound.{most_turns_fit}
-use Rattle.stretch_laws.proofs.LegRuns.{legs_after_count}
+use Rattle.moment_laws.proofs.TurnsBound.{most_turns_fit}
+use Rattle.moment_laws.proofs.LegRuns.{legs_after_count}
 
 -- a decision that ends a leg of another moment; one that resets credits
 abbrev pub is_old : ℕ → Legs → Event → Bool

@@ -12,10 +12,10 @@ use Rattle.sched_model.proofs.RunLemmas.{after_entries-append}
 use Rattle.sched_laws.specs.StateLaws.{state_after}
 use Rattle.sched_base.proofs.Bools.{and_left, and_right}
 use Rattle.sched_laws.proofs.StillWaits.{split_run}
-use Rattle.turn_laws.specs.Stretches.{cores, units}
-use Rattle.turn_laws.specs.Turns.{how_many}
+use Rattle.moment_laws.specs.Stretches.{cores, units}
+use Rattle.moment_laws.specs.Turns.{how_many}
 use Rattle.sched_base.specs.Numbers.{one_if}
-use Rattle.turn_laws.proofs.StretchFalls.{push_assoc}
+use Rattle.moment_laws.proofs.StretchFalls.{push_assoc}
 use Rattle.moment_laws.specs.Moments.{are_at, causes, is_cause, is_end, is_line, most_causes, most_due, most_in_any_moment, most_in_moments, whole_moments, work_lines}
 use Rattle.moment_laws.proofs.ActionClock.{event_goes, lines_few}
 use Rattle.moment_laws.proofs.FewCauses.{causes_few}

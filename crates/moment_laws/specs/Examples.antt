@@ -9,7 +9,7 @@ use Rattle.sched_model.specs.declared.command.Which.TheVariants as which
 use Rattle.sched_model.specs.declared.event.Entry.{Entry}
 use Rattle.sched_model.specs.declared.machine.Machine.{Machine}
 use Rattle.sched_examples.specs.Words.{endless_script, run_of, stall, xl}
-use Rattle.turn_laws.specs.Stretches.{Legs, cores, legs_with, is_in_stretch}
+use Rattle.moment_laws.specs.Stretches.{Legs, cores, legs_with, is_in_stretch}
 use Rattle.moment_laws.specs.Moments.{causes, lines, whole_moments}
 
 -- a number that is not 0, before others

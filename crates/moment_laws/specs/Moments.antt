@@ -7,8 +7,8 @@ use Rattle.sched_model.specs.declared.event.Entry.{Entry}
 use Rattle.sched_model.specs.declared.machine.Machine.{Machine}
 use Rattle.sched_model.specs.Actions.{vcpus_from}
 use Rattle.sched_model.specs.Runs.{IsRun}
-use Rattle.turn_laws.specs.Stretches.{cores, units}
-use Rattle.turn_laws.specs.Turns.{most_turns}
+use Rattle.moment_laws.specs.Stretches.{cores, units}
+use Rattle.moment_laws.specs.Turns.{most_turns}
 
 -- how many vCPUs and domains the machine has
 abbrev pub vcpus : Machine → ℕ

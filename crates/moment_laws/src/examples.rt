@@ -1,7 +1,7 @@
 //! Stretches and moments of the ordered runs of small machines.
 
 ghost use Rattle.std.specs.Prelude.{◌≡◌, ◌*◌, [], ◌∷◌};
-ghost use Rattle.turn_laws.specs.Stretches.{most_in_stretch};
+ghost use Rattle.moment_laws.specs.Stretches.{most_in_stretch};
 ghost use Rattle.moment_laws.specs.Moments.{most_in_moment, most_in_moments};
 ghost use Rattle.moment_laws.specs.Examples.{stretches_of, sums_at, sums, sums_of, run_sums, two_windows, cap_set, budgets};
 

@@ -1,4 +1,0 @@
-//! The law of Credit2 in stretches: its decisions are good ones.
-#![tactic(auto)]
-
-pub mod laws;

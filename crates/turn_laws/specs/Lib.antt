@@ -1,3 +1,0 @@
-pub mod Stretches
-pub mod Turns
-pub mod GoodDecisions
