@@ -19,4 +19,35 @@ pub mod Moving
 pub mod TermLaw
 pub mod Beginning
 pub mod TermsKept
-mod ExamplesComputed
+mod RtdsExamplesComputed
+pub mod CapTracks
+pub mod StepsDomain
+pub mod StepsChosen
+pub mod StepsDecided
+pub mod StepsRecords
+pub mod StepsSame
+pub mod StepsChanges
+pub mod StepsSameAt
+pub mod StepsSameMoved
+pub mod StepsState
+pub mod StepsHolds
+pub mod StepsDeciding
+pub mod StepsDecide
+pub mod StepsRefill
+pub mod StepsPlans
+pub mod StepsSet
+pub mod StepsXl
+pub mod StepsMoved
+pub mod StepsActions
+pub mod StepsBegun
+pub mod StepsStill
+pub mod CapSteps
+pub mod CoreSums
+pub mod CapLegs
+pub mod CapStep
+pub mod HeldBy
+pub mod CapEnd
+pub mod CapWithin
+pub mod CapFunded
+pub mod CapLaw
+mod CapExamplesComputed

@@ -1,3 +1,5 @@
 pub mod Grid
 pub mod RtdsTerm
-pub mod Examples
+pub mod RtdsExamples
+pub mod CapTerm
+pub mod CapExamples

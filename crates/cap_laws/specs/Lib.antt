@@ -1,2 +1,0 @@
-pub mod CapTerm
-pub mod Examples
