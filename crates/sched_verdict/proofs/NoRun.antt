@@ -11,7 +11,7 @@ use Rattle.sched_print.specs.Line.{words, line, text}
 use Rattle.sched_print.specs.Ranges.{IsPrintable}
 use Rattle.sched_print.proofs.Texts.{words_same, lines_are_lines}
 use Rattle.sched_check.specs.Checking.{IsTaken}
-use Rattle.entry_laws.proofs.Law.{printable_entries}
+use Rattle.text_laws.proofs.Printable.{printable_entries}
 use Rattle.sched_verdict.specs.declared.verdict.Cause.{Cause}
 use Rattle.sched_verdict.specs.declared.verdict.Cause.TheVariants as cause
 use Rattle.sched_verdict.specs.Lines.{HasNone, IsParted}

@@ -1,6 +1,6 @@
 //! The law of entries.
 
-ghost use Rattle.entry_laws.specs.Entries.{EntriesArePrintable};
+ghost use Rattle.text_laws.specs.Entries.{EntriesArePrintable};
 
 /// Every entry of a run has its numbers in the ranges of the text of an entry, so its text is read back as it. A run may be
 /// the beginning of one.

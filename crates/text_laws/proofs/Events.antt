@@ -40,9 +40,9 @@ use Rattle.sched_ranges.specs.Fits.{RtdsFits}
 use Rattle.sched_ranges.proofs.Records.{DecisionFits, decision_fits, replenish_fits}
 use Rattle.sched_ranges.proofs.Walk.{CoreFits, PoolFits}
 use Rattle.sched_print.specs.Ranges.{IsMoment, IsPool, IsUnit, IsVcpu, IsPrintableEvent}
-use Rattle.entry_laws.proofs.Numbers.{processor_low, unit_low, if_unit_low, domain_low, core_inside, core_low, vcpu_low}
-use Rattle.entry_laws.proofs.Judged.{record_fits}
-use Rattle.entry_laws.proofs.Decided.{decision_resets, refill_low}
+use Rattle.text_laws.proofs.Numbers.{processor_low, unit_low, if_unit_low, domain_low, core_inside, core_low, vcpu_low}
+use Rattle.text_laws.proofs.Judged.{record_fits}
+use Rattle.text_laws.proofs.Decided.{decision_resets, refill_low}
 
 or_other : {X : Type 0} (P : X → Type 0) (o : Option X) (other : X) → IfSome o P → P other → P (unwrap_or o other)
 or_other P None other here there = there

@@ -3,7 +3,7 @@ use Rattle.std.proofs.Common.{◌≡◌, ℕ, zero, suc, ◌+◌, ◌-◌, ◌<�
 use Rattle.sched_model.specs.declared.command.Syntax.{Syntax}
 use Rattle.xl_words.specs.Options.{at, Rules, options}
 use Rattle.xl_words.specs.Grammar.{◌>>=◌}
-use Rattle.words_laws.proofs.Placed.{Facts, Reads, place_of}
+use Rattle.text_laws.proofs.Placed.{Facts, Reads, place_of}
 
 module _ {G X : Type 0} (rules : Rules G) (finish : G → ℕ → Result X Syntax) where
   opt_given : (k : ℕ) (g h : G) (w : List ℕ) (ws : List (List ℕ)) → rules.alone g w ≡ Some h → options rules k g (w ∷ ws) ≡ options rules (k + 1) h ws

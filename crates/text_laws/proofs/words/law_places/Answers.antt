@@ -1,9 +1,9 @@
 use Rattle.std.proofs.Common.{◌≡◌, ℕ, ◌+◌, ◌-◌, ◌<◌, List, take, length, arith}
 use Rattle.xl_words.specs.Grammar.{reading}
-use Rattle.words_laws.specs.Places.{IsFurthest, Begins}
-use Rattle.words_laws.proofs.Placed.{Facts}
-use Rattle.words_laws.proofs.Whole.{placed_reading}
-use Rattle.words_laws.proofs.law_places.Goals as goal
+use Rattle.text_laws.specs.Places.{IsFurthest, Begins}
+use Rattle.text_laws.proofs.Placed.{Facts}
+use Rattle.text_laws.proofs.Whole.{placed_reading}
+use Rattle.text_laws.proofs.words.law_places.Goals as goal
 
 none_go_on : (words : List (List ℕ)) (p : ℕ) → Facts 0 reading words p → p < length words → Begins (take (p + 1) words) → ⊥
 none_go_on words p facts short begun =

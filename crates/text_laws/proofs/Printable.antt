@@ -42,9 +42,9 @@ use Rattle.sched_ranges.proofs.Done.{in_range}
 use Rattle.part_laws.proofs.Begun.{housed_opening}
 use Rattle.part_laws.proofs.Law.{housed_from}
 use Rattle.sched_print.specs.Ranges.{IsPrintable, IsPrintableEvent, IsCommandNumber, IsPool}
-use Rattle.entry_laws.proofs.Numbers.{Known, cores_few, now_low, target_low, mover_low}
-use Rattle.entry_laws.proofs.Judged.{SaysAnswer, answered}
-use Rattle.entry_laws.proofs.Events.{pool_printable}
+use Rattle.text_laws.proofs.Numbers.{Known, cores_few, now_low, target_low, mover_low}
+use Rattle.text_laws.proofs.Judged.{SaysAnswer, answered}
+use Rattle.text_laws.proofs.Events.{pool_printable}
 
 answer_printable : (k : ℕ) (answer : Result Reply Refusal) → IsCommandNumber k → SaysAnswer answer → IsPrintableEvent (event.Xl k answer)
 answer_printable k (Ok r) number says = (number, says)

@@ -9,8 +9,8 @@ use Rattle.sched_model.specs.declared.config.SchedKind.{SchedKind}
 use Rattle.xl_words.specs.Values.{number_of, name_of, which_of, vcpu_of, entries_of, cpus_of}
 use Rattle.xl_words.specs.Options.{at, new_pool_rules, credit2_domain_rules, credit2_pool_rules, rtds_rules}
 use Rattle.xl_words.specs.Grammar.{◌>>=◌, field, nothing_more, needed_value, pool_create, pool_destroy, pool_rename, cpu_add, cpu_remove, migrate, pause, unpause, credit2_domain, credit2_pool, sched_rtds, arinc_set, vcpu_pin}
-use Rattle.words_laws.proofs.Placed.{IsPlaced, Reads, place_of, placed_end, placed_field}
-use Rattle.words_laws.proofs.Chosen.{all_read, placed_options}
+use Rattle.text_laws.proofs.Placed.{IsPlaced, Reads, place_of, placed_end, placed_field}
+use Rattle.text_laws.proofs.Chosen.{all_read, placed_options}
 
 -- a word that spells a number, a pool or a domain, and one that spells a name
 abbrev zero_word : List ℕ

@@ -48,7 +48,7 @@ use Rattle.sched_ranges.proofs.Rtds.{fit_unit}
 use Rattle.sched_ranges.specs.Fits.{RtdsFits}
 use Rattle.sched_ranges.proofs.Records.{RecordsFit}
 use Rattle.sched_print.specs.Ranges.{IsPrintableReply, IsPrintableRefusal}
-use Rattle.entry_laws.proofs.Numbers.{Known, numbered_few, times_few, cores_few, domain_low, pool_low, home_low}
+use Rattle.text_laws.proofs.Numbers.{Known, numbered_few, times_few, cores_few, domain_low, pool_low, home_low}
 
 -- the numbers of a plan's reply, or of a refusal, are in their ranges
 abbrev pub Says : Result Plan Refusal → Type 0

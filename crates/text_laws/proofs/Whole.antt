@@ -9,8 +9,8 @@ use Rattle.sched_model.specs.declared.command.Which.TheVariants.{Number}
 use Rattle.xl_words.specs.Values.{which_of}
 use Rattle.xl_words.specs.Options.{at}
 use Rattle.xl_words.specs.Grammar.{◌>>=◌, field, nothing_more, pool_list, pool_create, pool_destroy, pool_rename, cpu_add, cpu_remove, migrate, pause, unpause, credit2_domain, credit2_pool, sched_rtds, arinc_set, vcpu_pin, either_form, reading}
-use Rattle.words_laws.proofs.Placed.{Facts, IsPlaced, place_of, found, placed_end, placed_field, then_read}
-use Rattle.words_laws.proofs.Forms as forms
+use Rattle.text_laws.proofs.Placed.{Facts, IsPlaced, place_of, found, placed_end, placed_field, then_read}
+use Rattle.text_laws.proofs.Forms as forms
 
 -- a reader of the words behind a command's name
 abbrev Reader : Type 0

@@ -1,0 +1,9 @@
+pub mod Placed
+pub mod Chosen
+pub mod Forms
+pub mod Whole
+pub mod Numbers
+pub mod Judged
+pub mod Decided
+pub mod Events
+pub mod Printable

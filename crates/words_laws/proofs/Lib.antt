@@ -1,4 +1,0 @@
-pub mod Placed
-pub mod Chosen
-pub mod Forms
-pub mod Whole
