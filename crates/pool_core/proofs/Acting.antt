@@ -16,8 +16,8 @@ use Rattle.sched_model.specs.Pool.{after_arrive, after_block, after_in, change_p
 use Rattle.sched_base.proofs.Bools.{and_left}
 use Rattle.sched_laws.proofs.EachPlace.{by_cond, vcpu_is}
 use Rattle.sched_laws.proofs.Lists.{has_come-le}
-use Rattle.pool_kept.specs.Holds.{Holds}
-use Rattle.pool_kept.proofs.Kept as kept
+use Rattle.policy_laws.specs.Holds.{Holds}
+use Rattle.policy_laws.proofs.Kept as kept
 use Rattle.unit_state.specs.Guests.{KeepsGuests}
 use Rattle.unit_state.specs.Seen.{Seen as GuestsSeen, done_among, is_due_among}
 use Rattle.core_state.specs.Seen.{Seen as CoresSeen}

@@ -21,9 +21,9 @@ use Rattle.sched_laws.specs.PoolFacts.{OnePlace, core_places}
 use Rattle.sched_laws.specs.PoolFacts.{IsKnownPool}
 use Rattle.sched_laws.proofs.Sound.{guest_of_is}
 use Rattle.sched_ops.specs.Conditions.{IsAway, is_on}
-use Rattle.pool_kept.proofs.Alike.{Alike, alike_change_at, alike_members, alike_refl, core_face, found_core}
-use Rattle.pool_kept.proofs.Members.{runnable_member}
-use Rattle.pool_kept.specs.Holds.{Holds}
+use Rattle.policy_laws.proofs.Alike.{Alike, alike_change_at, alike_members, alike_refl, core_face, found_core}
+use Rattle.policy_laws.proofs.Members.{runnable_member}
+use Rattle.policy_laws.specs.Holds.{Holds}
 use Rattle.sched_ops.specs.WantedCores.{MayAsk}
 use Rattle.pool_core.specs.Wakes.{is_held_among}
 use Rattle.pool_core.proofs.Processors.{same_number}

@@ -18,10 +18,10 @@ use Rattle.sched_laws.proofs.Lists.{some-test_at}
 use Rattle.sched_laws.specs.PoolFacts.{IsStaying}
 use Rattle.sched_ops.specs.Conditions.{is_on}
 use Rattle.sched_ops.specs.Seen.{units_of}
-use Rattle.pool_kept.proofs.Alike.{found_core}
-use Rattle.pool_kept.proofs.Members.{joined, member_elsewhere}
-use Rattle.pool_kept.proofs.On.{on_joined}
-use Rattle.pool_kept.specs.Holds.{Holds}
+use Rattle.policy_laws.proofs.Alike.{found_core}
+use Rattle.policy_laws.proofs.Members.{joined, member_elsewhere}
+use Rattle.policy_laws.proofs.On.{on_joined}
+use Rattle.policy_laws.specs.Holds.{Holds}
 use Rattle.pool_core.specs.Domains.{MayQueue}
 use Rattle.sched_base.specs.Units.{unit_id}
 

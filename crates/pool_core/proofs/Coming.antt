@@ -21,8 +21,8 @@ use Rattle.sched_laws.proofs.EachPlace.{at_place-clear_at, at_place-clear_at_oth
 use Rattle.plain_pool.specs.Cores.{fresh_processor}
 use Rattle.core_state.specs.Seen.{Seen as CoresSeen, processor_among, stalled_to, vacant_cores as vacant_cores, without_works}
 use Rattle.core_state.proofs.ChangeLemmas.{without_works-other, without_works-own}
-use Rattle.pool_kept.specs.Holds.{Holds}
-use Rattle.pool_kept.proofs.Kept.{opened}
+use Rattle.policy_laws.specs.Holds.{Holds}
+use Rattle.policy_laws.proofs.Kept.{opened}
 use Rattle.sched_ops.specs.Conditions.{is_vacant}
 use Rattle.sched_ops.specs.Seen.{Seen as SchedulerSeen, core_places, restarted_scheduler, vacant_scheduler as vacant_scheduler}
 use Rattle.unit_state.specs.Seen.{Seen as GuestsSeen, vacant_guests as vacant_guests}

@@ -20,8 +20,8 @@ use Rattle.sched_laws.proofs.EachPlace.{by_cond, by_option, at_place-change_at}
 use Rattle.unit_state.specs.Seen.{Seen as GuestsSeen}
 use Rattle.core_state.specs.Seen.{Seen as CoresSeen}
 use Rattle.sched_ops.specs.Seen.{Seen as SchedulerSeen}
-use Rattle.pool_kept.specs.Holds.{Holds}
-use Rattle.pool_kept.proofs.Kept.{changes as kept_changes, later}
+use Rattle.policy_laws.specs.Holds.{Holds}
+use Rattle.policy_laws.proofs.Kept.{changes as kept_changes, later}
 use Rattle.pool_core.specs.PoolState.{AreWorks, IsKept}
 use Rattle.pool_core.specs.Seen.{guest_among, pool_of}
 use Rattle.pool_core.specs.Wakes.{KeepsRoom}

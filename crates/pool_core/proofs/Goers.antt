@@ -28,9 +28,9 @@ use Rattle.sched_ops.specs.Conditions.{HasNoneBusy, has_joined, is_on}
 use Rattle.sched_ops.specs.Seen.{units_of}
 use Rattle.unit_state.specs.Parts.{IsStill}
 use Rattle.unit_state.specs.Seen.{is_paused_among, units_at}
-use Rattle.pool_kept.proofs.Alike.{found_core}
-use Rattle.pool_kept.proofs.Units.{none_of_domain, other_domain}
-use Rattle.pool_kept.specs.Holds.{AreOn, HasMembers, Holds}
+use Rattle.policy_laws.proofs.Alike.{found_core}
+use Rattle.policy_laws.proofs.Units.{none_of_domain, other_domain}
+use Rattle.policy_laws.specs.Holds.{AreOn, HasMembers, Holds}
 use Rattle.pool_core.specs.Domains.{MayQueue}
 use Rattle.sched_base.specs.Units.{unit_id}
 use Rattle.pool_core.specs.Wakes.{is_held_among}

@@ -13,13 +13,13 @@ use Rattle.sched_model.specs.declared.state.Scheduler.{Scheduler}
 use Rattle.sched_model.specs.Actions.{IsOfPool}
 use Rattle.pool_laws.specs.ReadyMoments.{end_of, later_moment, lowest_end, ready_in, work_end}
 use Rattle.pool_laws.proofs.Readiness.{ready}
-use Rattle.pool_kept.specs.Holds.{AreOn}
+use Rattle.policy_laws.specs.Holds.{AreOn}
 use Rattle.sched_ops.specs.Seen.{Seen as SchedulerSeen}
 use Rattle.sched_ops.specs.Timers.{Armed, action_of, timer_at}
 use Rattle.sched_ops.specs.declared.timer.Timer.{Timer}
 use Rattle.sched_ops.specs.declared.timer.Timer.TheVariants as timer
-use Rattle.timer_laws.specs.TimerOrder.{armed_at}
-use Rattle.timer_laws.proofs.Law as law
+use Rattle.policy_laws.specs.TimerOrder.{armed_at}
+use Rattle.policy_laws.proofs.TimerLaw as law
 use Rattle.unit_state.specs.Seen.{Seen as GuestsSeen, wake_among}
 use Rattle.core_state.specs.Ends.{ready_within}
 use Rattle.core_state.specs.Firsts.{IsLeast, IsNotLater, earlier_moment}

@@ -22,15 +22,15 @@ use Rattle.sched_base.proofs.Bools.{and_left, clash}
 use Rattle.sched_model.specs.Actions.{IsOfPool}
 use Rattle.pool_laws.specs.ReadyMoments.{deadline_of, end_of, later_moment, lowest_end, ready_in, moment_if, work_end}
 use Rattle.pool_laws.proofs.Readiness.{ready, come_later}
-use Rattle.pool_kept.specs.Holds.{AreOn}
-use Rattle.pool_kept.proofs.Alike.{found_core}
+use Rattle.policy_laws.specs.Holds.{AreOn}
+use Rattle.policy_laws.proofs.Alike.{found_core}
 use Rattle.sched_ops.specs.Conditions.{is_on, may_be_on}
 use Rattle.sched_ops.specs.Seen.{Seen as SchedulerSeen}
 use Rattle.sched_ops.specs.Timers.{Armed, action_of, timer_at}
 use Rattle.sched_ops.specs.declared.timer.Timer.{Timer}
 use Rattle.sched_ops.specs.declared.timer.Timer.TheVariants as timer
-use Rattle.timer_laws.specs.TimerOrder.{armed_at, IsNotAfter as IsTimerNotAfter}
-use Rattle.timer_laws.proofs.Law as law
+use Rattle.policy_laws.specs.TimerOrder.{armed_at, IsNotAfter as IsTimerNotAfter}
+use Rattle.policy_laws.proofs.TimerLaw as law
 use Rattle.unit_state.specs.Seen.{Seen as GuestsSeen, is_due_among, IsNotAfter as IsVcpuNotAfter}
 use Rattle.core_state.specs.Ends.{ready_among}
 use Rattle.core_state.specs.Firsts.{IsFirstCome}

@@ -16,9 +16,9 @@ use Rattle.sched_laws.specs.PoolFacts.{IsKnownPool}
 use Rattle.sched_ops.specs.Seen.{Seen as SchedulerSeen, units_of}
 use Rattle.unit_state.specs.Seen.{Seen as GuestsSeen}
 use Rattle.core_state.specs.Seen.{Seen as CoresSeen}
-use Rattle.pool_kept.specs.Holds.{Holds}
-use Rattle.pool_kept.proofs.Kept.{domain_goes}
-use Rattle.pool_kept.proofs.Units.{none_of_domain, other_domain}
+use Rattle.policy_laws.specs.Holds.{Holds}
+use Rattle.policy_laws.proofs.Kept.{domain_goes}
+use Rattle.policy_laws.proofs.Units.{none_of_domain, other_domain}
 use Rattle.pool_core.specs.PoolState.{AreWorks, IsKept}
 use Rattle.pool_core.specs.Seen.{Seen, guest_among, pool_of, with_spare}
 use Rattle.pool_core.proofs.Asking.{guest_at}

@@ -15,8 +15,8 @@ use Rattle.sched_model.specs.Pool.{after_replenish, change_core, core_of, due_wi
 use Rattle.sched_base.proofs.Bools.{and_left, and_right}
 use Rattle.sched_ops.specs.Conditions.{is_on, may_be_on}
 use Rattle.plain_pool.proofs.Replenished.{replenished-there}
-use Rattle.pool_kept.specs.Holds.{Holds}
-use Rattle.pool_kept.proofs.Alike.{found_core}
+use Rattle.policy_laws.specs.Holds.{Holds}
+use Rattle.policy_laws.proofs.Alike.{found_core}
 
 -- where a unit's deadline comes, the records tell whether it is on
 on_told : (records : Records) (t : ℕ) (u : UnitId) → replenish_due records t u ≡ true → may_be_on records u ≡ is_on records u

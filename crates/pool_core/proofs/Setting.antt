@@ -18,8 +18,8 @@ use Rattle.sched_laws.proofs.EachPlace.{by_option}
 use Rattle.sched_ops.specs.Seen.{Seen as SchedulerSeen}
 use Rattle.unit_state.specs.Seen.{Seen as GuestsSeen}
 use Rattle.core_state.specs.Seen.{Seen as CoresSeen}
-use Rattle.pool_kept.specs.Holds.{Holds}
-use Rattle.pool_kept.proofs.Kept.{changes as kept_changes, later}
+use Rattle.policy_laws.specs.Holds.{Holds}
+use Rattle.policy_laws.proofs.Kept.{changes as kept_changes, later}
 use Rattle.sched_base.specs.Units.{unit_id}
 use Rattle.pool_core.specs.PoolState.{AreWorks, IsKept}
 use Rattle.pool_core.specs.Params.{unit_set, units_set}

@@ -19,9 +19,9 @@ use Rattle.sched_base.proofs.Lists.{AllByRecursion-map}
 use Rattle.sched_laws.specs.PoolFacts.{OnePlace, core_places}
 use Rattle.sched_laws.proofs.Calm.{each_of}
 use Rattle.sched_ops.specs.Seen.{Seen as SchedulerSeen, dequeue, units_of, with_scheduler}
-use Rattle.pool_kept.specs.Holds.{HasMembers}
-use Rattle.pool_kept.proofs.Alike.{units_in, units_of_is}
-use Rattle.pool_kept.proofs.Members.{runnable_member}
+use Rattle.policy_laws.specs.Holds.{HasMembers}
+use Rattle.policy_laws.proofs.Alike.{units_in, units_of_is}
+use Rattle.policy_laws.proofs.Members.{runnable_member}
 use Rattle.unit_state.specs.Seen.{units_at}
 use Rattle.sched_base.specs.Units.{unit_id}
 use Rattle.pool_core.specs.Wakes.{is_held_among}

@@ -6,7 +6,7 @@ use Rattle.sched_model.specs.CheckedMachine.{most_span}
 use Rattle.sched_model.specs.Places.{at_place}
 use Rattle.pool_laws.specs.ReadyMoments.{work_end}
 use Rattle.pool_laws.specs.CoreLooks.{IsSettled}
-use Rattle.pool_kept.specs.Holds.{Holds}
+use Rattle.policy_laws.specs.Holds.{Holds}
 use Rattle.unit_state.specs.Seen as guests
 use Rattle.core_state.specs.Seen as cores
 use Rattle.sched_ops.specs.Seen as schedulers

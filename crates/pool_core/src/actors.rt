@@ -7,7 +7,7 @@ ghost use Rattle.sched_model.specs.Places.{test_at};
 ghost use Rattle.sched_model.specs.Pool.{enabled_in, is_held as is_held_spec};
 ghost use Rattle.sched_model.specs.State.{is_up as is_up_spec};
 ghost use Rattle.pool_laws.specs.ReadyMoments.{gathers as gathers_spec};
-ghost use Rattle.pool_kept.specs.Holds.{AreOn};
+ghost use Rattle.policy_laws.specs.Holds.{AreOn};
 ghost use Rattle.unit_state.specs.Seen.{Seen as GuestsSeen};
 ghost use Rattle.core_state.specs.Ends.{parts as parts_spec};
 ghost use Rattle.core_state.specs.Seen.{Seen as CoresSeen, processor_among};

@@ -6,7 +6,7 @@ ghost use Rattle.sched_model.specs.declared.action.Action.TheVariants.{Decide, R
 ghost use Rattle.sched_model.specs.State.{runnable_among};
 ghost use Rattle.sched_model.specs.Pool.{after_in, cores_from, enabled_in, event_in};
 ghost use Rattle.sched_ops.specs.Conditions.{IsNow};
-ghost use Rattle.pool_kept.specs.Holds.{Holds};
+ghost use Rattle.policy_laws.specs.Holds.{Holds};
 ghost use Rattle.pool_core.specs.Seen.{pool_of};
 ghost use Rattle.sched_ops.specs.Seen.{Seen as SchedulerSeen};
 

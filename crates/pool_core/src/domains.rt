@@ -13,7 +13,7 @@ ghost use Rattle.core_state.specs.Seen.{Seen as CoresSeen, changed_core};
 ghost use Rattle.plain_pool.specs.Marks.{pending_of};
 ghost use Rattle.sched_ops.specs.Conditions.{AreDomParams, HasNoneBusy, IsNow, has_joined};
 ghost use Rattle.unit_state.specs.Parts.{IsPart, IsStill};
-ghost use Rattle.pool_kept.specs.Holds.{AreOn, HasMembers, Holds};
+ghost use Rattle.policy_laws.specs.Holds.{AreOn, HasMembers, Holds};
 ghost use Rattle.pool_core.specs.Seen.{pool_of};
 ghost use Rattle.pool_core.specs.Domains.{MayQueue};
 ghost use Rattle.sched_base.specs.Units.{unit_id};

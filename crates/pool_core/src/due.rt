@@ -3,7 +3,7 @@
 ghost use Rattle.std.specs.Prelude.{◌≡◌, ℕ};
 ghost use Rattle.sched_model.specs.Pool.{enabled_in};
 ghost use Rattle.pool_laws.specs.ReadyMoments.{ready_in};
-ghost use Rattle.pool_kept.specs.Holds.{AreOn};
+ghost use Rattle.policy_laws.specs.Holds.{AreOn};
 ghost use Rattle.unit_state.specs.Seen.{Seen as GuestsSeen};
 ghost use Rattle.core_state.specs.Firsts.{IsLeast};
 ghost use Rattle.sched_ops.specs.Seen.{Seen as SchedulerSeen};

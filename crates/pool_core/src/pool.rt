@@ -68,7 +68,7 @@ impl<P: Policy> PoolState<P> {
     ghost use Rattle.plain_pool.specs.Cores.{ends_of};
     ghost use Rattle.pool_laws.specs.ReadyMoments.{ready_in};
     ghost use Rattle.pool_laws.specs.CoreLooks.{IsSettled};
-    ghost use Rattle.pool_kept.specs.Holds.{Holds};
+    ghost use Rattle.policy_laws.specs.Holds.{Holds};
     ghost use Rattle.sched_model.specs.Actions.{IsOfPool};
     ghost use Rattle.pool_core.specs.Params.{AreGiven, stored_in};
     ghost use Rattle.unit_state.specs.Parts.{IsPart};

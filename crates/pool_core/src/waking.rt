@@ -4,7 +4,7 @@ ghost use Rattle.std.specs.Prelude.{◌≡◌, ◌<◌, ◌||◌, true, ℕ};
 ghost use Rattle.sched_model.specs.State.{runnable_among};
 ghost use Rattle.sched_model.specs.declared.action.Action.TheVariants.{Save, Wake};
 ghost use Rattle.sched_model.specs.Pool.{after_wake, after_in, enabled_in, event_in, joined_siblings};
-ghost use Rattle.pool_kept.specs.Holds.{Holds};
+ghost use Rattle.policy_laws.specs.Holds.{Holds};
 ghost use Rattle.sched_ops.specs.Seen.{Seen as SchedulerSeen};
 ghost use Rattle.unit_state.specs.Seen.{IsNow, is_awake_among, is_due_among};
 ghost use Rattle.pool_core.specs.Seen.{pool_of};

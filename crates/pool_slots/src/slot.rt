@@ -54,7 +54,7 @@ impl PoolSlot {
     ghost use Rattle.sched_model.specs.State.{has_core as has_bit};
     ghost use Rattle.sched_model.specs.declared.action.Action.TheVariants.{DomMoved, Moved};
     ghost use Rattle.pool_laws.specs.ReadyMoments.{ready_in};
-    ghost use Rattle.pool_kept.specs.Holds.{Holds};
+    ghost use Rattle.policy_laws.specs.Holds.{Holds};
     ghost use Rattle.pool_core.specs.Actors.{IsFirstBy};
     ghost use Rattle.pool_core.specs.Order.{IsFirstEnabled, IsNextMoment};
     ghost use Rattle.pool_core.specs.Params.{stored_in};

@@ -33,7 +33,7 @@ use Rattle.sched_model.specs.declared.state.Scheduler.{Scheduler}
 use Rattle.sched_ops.specs.Conditions.{IsCap, IsChange, IsWeight, has_joined}
 use Rattle.sched_ops.specs.Seen.{units_of}
 use Rattle.unit_state.specs.Seen.{units_at}
-use Rattle.pool_kept.specs.Holds.{Holds}
+use Rattle.policy_laws.specs.Holds.{Holds}
 use Rattle.pool_core.specs.Seen.{Seen}
 use Rattle.pool_slots.specs.Told.{Told}
 use Rattle.pool_slots.specs.Places.{GoesOn, SlotSuits, StandsAt, state_of}

@@ -4,7 +4,7 @@ use Rattle.sched_model.specs.declared.state.Scheduler.{Scheduler}
 use Rattle.sched_model.specs.Places.{put_at}
 use Rattle.sched_model.specs.Policy as policy
 use Rattle.sched_model.specs.Pool.{unit_count}
-use Rattle.pool_kept.proofs.Members.{joined}
+use Rattle.policy_laws.proofs.Members.{joined}
 use Rattle.unit_state.specs.Seen as guests
 use Rattle.pool_core.specs.Domains.{MayQueue}
 use Rattle.sched_base.specs.Units.{unit_id}

@@ -3,7 +3,7 @@ use Rattle.sched_model.specs.declared.action.Action.{Action}
 use Rattle.sched_model.specs.declared.state.Pool.{Pool}
 use Rattle.sched_base.specs.Numbers.{has_come}
 use Rattle.pool_laws.specs.ReadyMoments.{lowest_end}
-use Rattle.timer_laws.proofs.Law as law
+use Rattle.policy_laws.proofs.TimerLaw as law
 use Rattle.pool_core.specs.Order.{IsFirstOf, is_any}
 use Rattle.pool_core.specs.Seen.{pool_of}
 use Rattle.pool_core.proofs.Order.{first_timer, no_timer_due, timer_come, timers_first, timers_late}

@@ -5,7 +5,7 @@ use Rattle.sched_model.specs.declared.state.Resource.{Resource}
 use Rattle.sched_model.specs.Opening.{fresh_core}
 use Rattle.sched_model.specs.Places.{at_place, put_at}
 use Rattle.core_state.specs.Seen.{Seen as CoresSeen, without_works}
-use Rattle.pool_kept.proofs.Kept.{core_comes, later}
+use Rattle.policy_laws.proofs.Kept.{core_comes, later}
 use Rattle.pool_core.specs.Seen.{IsNow, Seen, pool_of}
 use Rattle.pool_core.proofs.Coming.{cores_kept, works_come}
 use Rattle.pool_core.proofs.Spared.{unsettled}

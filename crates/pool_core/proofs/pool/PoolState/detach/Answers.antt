@@ -5,7 +5,7 @@ use Rattle.sched_model.specs.declared.state.Pool.{Pool}
 use Rattle.sched_model.specs.Places.{clear_at}
 use Rattle.sched_model.specs.Pool.{enabled_in}
 use Rattle.core_state.specs.Seen.{Seen as CoresSeen, without_works}
-use Rattle.pool_kept.proofs.Kept.{core_goes, later}
+use Rattle.policy_laws.proofs.Kept.{core_goes, later}
 use Rattle.pool_core.specs.Seen.{IsNow, Seen, pool_of}
 use Rattle.pool_core.proofs.Coming.{cores_kept, works_go}
 use Rattle.pool_core.proofs.Spared.{unsettled}

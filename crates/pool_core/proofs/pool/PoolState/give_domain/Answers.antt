@@ -6,8 +6,8 @@ use Rattle.sched_model.specs.Policy.{kind_of}
 use Rattle.sched_model.specs.Pool.{unit_count, with_domain}
 use Rattle.sched_ops.specs.Conditions.{AreDomParams}
 use Rattle.unit_state.specs.Seen.{Seen as GuestsSeen}
-use Rattle.pool_kept.specs.Holds.{Holds}
-use Rattle.pool_kept.proofs.Kept.{domain_comes, later}
+use Rattle.policy_laws.specs.Holds.{Holds}
+use Rattle.policy_laws.proofs.Kept.{domain_comes, later}
 use Rattle.pool_core.specs.PoolState.{AreWorks}
 use Rattle.pool_core.specs.Seen.{IsNow, Seen, pool_of}
 use Rattle.pool_core.proofs.Giving.{matches, works_given}

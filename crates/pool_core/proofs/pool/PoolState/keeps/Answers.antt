@@ -1,5 +1,5 @@
 use Rattle.std.proofs.Common.{subst}
-use Rattle.pool_kept.specs.Holds.{Holds}
+use Rattle.policy_laws.specs.Holds.{Holds}
 use Rattle.pool_core.specs.Seen.{Seen}
 use Rattle.pool_core.proofs.pool.PoolState.keeps.Goals as goal
 

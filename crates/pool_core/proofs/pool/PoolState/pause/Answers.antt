@@ -1,7 +1,7 @@
 use Rattle.std.proofs.Common.{sym, subst}
 use Rattle.sched_model.specs.declared.state.Pool.{Pool}
 use Rattle.sched_model.specs.Pool.{pause}
-use Rattle.pool_kept.proofs.Kept.{later, pauses}
+use Rattle.policy_laws.proofs.Kept.{later, pauses}
 use Rattle.pool_core.specs.Seen.{IsNow, Seen, pool_of}
 use Rattle.pool_core.proofs.Commanding.{commanded, works_pause}
 use Rattle.pool_core.proofs.Spared.{unsettled}

@@ -2,7 +2,7 @@ use Rattle.std.proofs.Common.{refl, arith}
 use Rattle.sched_model.specs.declared.state.Pool.{Pool}
 use Rattle.sched_model.specs.Places.{change_at}
 use Rattle.core_state.specs.Seen.{leaving_core}
-use Rattle.pool_kept.proofs.Kept.{leaves}
+use Rattle.policy_laws.proofs.Kept.{leaves}
 use Rattle.pool_core.specs.Seen.{pool_of}
 use Rattle.pool_core.proofs.Coming.{cores_kept}
 use Rattle.pool_core.proofs.Works.{works_core}

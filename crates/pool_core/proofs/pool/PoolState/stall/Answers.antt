@@ -2,7 +2,7 @@ use Rattle.std.proofs.Common.{◌/◌, ◌%◌, ℕ, ap, ◌∙◌, arith}
 use Rattle.sched_model.specs.declared.state.Pool.{Pool}
 use Rattle.sched_model.specs.Places.{change_at}
 use Rattle.core_state.specs.Seen.{Seen as CoresSeen, stalled_to, with_sibling}
-use Rattle.pool_kept.proofs.Kept.{stalls}
+use Rattle.policy_laws.proofs.Kept.{stalls}
 use Rattle.pool_core.specs.Seen.{pool_of}
 use Rattle.pool_core.proofs.Coming.{cores_kept, works_stalled}
 use Rattle.pool_core.proofs.Spared.{unsettled}

@@ -1,7 +1,7 @@
 use Rattle.std.proofs.Common.{refl, sym, subst}
 use Rattle.sched_model.specs.declared.state.Pool.{Pool}
 use Rattle.sched_model.specs.Pool.{unpause}
-use Rattle.pool_kept.proofs.Kept.{later, unpauses}
+use Rattle.policy_laws.proofs.Kept.{later, unpauses}
 use Rattle.pool_core.specs.Seen.{IsNow, Seen, pool_of}
 use Rattle.pool_core.proofs.Commanding.{commanded, works_unpause}
 use Rattle.pool_core.proofs.Spared.{unsettled}

@@ -1,0 +1,16 @@
+pub mod OneUnit
+pub mod Credit2Units
+pub mod RtdsUnits
+pub mod Words
+pub mod RunningLaw
+pub mod Scan
+pub mod Listed
+pub mod Order
+pub mod TimerLaw
+pub mod Alike
+pub mod Steps
+pub mod Members
+pub mod Units
+pub mod On
+pub mod Started
+pub mod Kept

@@ -1,0 +1,3 @@
+pub mod RunningUnits
+pub mod TimerOrder
+pub mod Holds

@@ -1,4 +1,0 @@
-pub mod Scan
-pub mod Listed
-pub mod Order
-pub mod Law
