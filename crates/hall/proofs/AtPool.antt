@@ -20,7 +20,7 @@ use Rattle.sched_laws.proofs.EachPlace.{found_at}
 use Rattle.journal_core.specs.Books.{Chronicle}
 use Rattle.journal_core.specs.Histories.{home_at, part_at, reached_by}
 use Rattle.journal_core.specs.Parts.{StatePart, home_in, lists, pool_part, part_of}
-use Rattle.step_laws.proofs.PoolSteps.{pool_step}
+use Rattle.part_laws.proofs.PoolSteps.{pool_step}
 use Rattle.pool_core.specs.Seen.{Seen as PoolSeen}
 use Rattle.pool_slots.specs.Told.{Told, told_more, told_of}
 use Rattle.pool_slots.specs.Places.{GoesOn, HasStepped, StandsAt, state_of}

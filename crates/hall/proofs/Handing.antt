@@ -22,7 +22,7 @@ use Rattle.sched_laws.proofs.EachPlace.{found_at, is_empty, place_below}
 use Rattle.sched_laws.proofs.Lists.{some_is}
 use Rattle.journal_core.specs.Histories.{NamesStandOnce, home_at, now_at, state_at}
 use Rattle.journal_core.specs.Parts.{UnderWay, core_to, domain_to, is_name, lists, no_home, part_of, pool_lists, tool_lock, under_way_of}
-use Rattle.part_laws.proofs.Law.{names_stand_once}
+use Rattle.part_laws.proofs.NamesLaw.{names_stand_once}
 use Rattle.tool_laws.specs.ListedNames.{HandsOver, ListsAsBefore, ListsNames}
 use Rattle.sched_laws.specs.StateLaws.{MovesNothing}
 use Rattle.tool_laws.proofs.Moving.{lists_names}

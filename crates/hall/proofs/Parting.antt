@@ -12,7 +12,7 @@ use Rattle.sched_model.specs.Runs.{IsRun}
 use Rattle.journal_core.specs.Books.{Chronicle}
 use Rattle.journal_core.specs.Histories.{NamesStandOnce, home_at, now_at, part_at, reached_by}
 use Rattle.journal_core.specs.Parts.{StatePart, ToolPart, lists, part_of, tool_lock, tool_part, tool_of as part_of_tool}
-use Rattle.part_laws.proofs.Law.{names_stand_once}
+use Rattle.part_laws.proofs.NamesLaw.{names_stand_once}
 use Rattle.cpupool.specs.Tool.{Tool, tool_of}
 use Rattle.pool_core.specs.Seen.{Seen as PoolSeen}
 use Rattle.pool_slots.specs.Counts.{AreSpares}

@@ -26,7 +26,7 @@ use Rattle.journal_core.specs.Histories.{state_at}
 use Rattle.journal_core.specs.Parts.{StatePart, ToolPart, is_name, lists, part_of, pool_lists, tool_lock, tool_of, tool_part}
 use Rattle.order_laws.specs.OrderLaws.{ComesAtHome}
 use Rattle.order_laws.proofs.Home.{pool_is_home}
-use Rattle.part_laws.proofs.Law.{some_mapped}
+use Rattle.part_laws.proofs.NamesLaw.{some_mapped}
 use Rattle.actor_laws.specs.Actors.{first_by, has_actor}
 use Rattle.actor_laws.proofs.Actors.{first_in_pool, none_of_free}
 use Rattle.tool_laws.proofs.Names.{core_name, domain_name}

@@ -14,7 +14,7 @@ ghost use Rattle.hall.specs.Steps.{HasBook, HasCore, HasEntered, KeepsLocks, Kee
 use crate::value::PartState;
 use lock_moves::laws::law_decided;
 use lock_moves::{HeldBook, LockSeat, LockSet};
-use part_laws::laws::law_names_stand_once;
+use part_laws::names::law_names_stand_once;
 use sched_model::event::{Entry, Event};
 use std::sync::Wait;
 

@@ -10,7 +10,7 @@ use crate::value::{PartState, ToolKept};
 use cpupool::ToolState;
 use journal_core::Book;
 use lock_moves::LockSet;
-use part_laws::laws::law_names_stand_once;
+use part_laws::names::law_names_stand_once;
 use parts_opening::{open_slots, open_spares};
 use pool_slots::PoolSlot;
 use sched_base::{Moment, NoMemory, ProcId, ResId};

@@ -23,9 +23,9 @@ use Rattle.cpupool.specs.declared.moves.Move.TheVariants as move
 use Rattle.cpupool.specs.ToolActions.{joins_at, may_join}
 use Rattle.cpupool.specs.Steps.{move_of}
 use Rattle.cpupool.proofs.ArrivedLemmas.{core_joins}
-use Rattle.move_laws.proofs.Counted.{in_all, in_all_is}
-use Rattle.move_laws.proofs.Whose.{joining_answers}
-use Rattle.move_laws.proofs.Law.{has_one_move}
+use Rattle.part_laws.proofs.Counted.{in_all, in_all_is}
+use Rattle.part_laws.proofs.Whose.{joining_answers}
+use Rattle.part_laws.proofs.MoveLaw.{has_one_move}
 use Rattle.actor_laws.specs.First.{move_first}
 use Rattle.pool_slots.specs.Told.{Told}
 use Rattle.pool_slots.specs.Places.{GoesOn, state_of}

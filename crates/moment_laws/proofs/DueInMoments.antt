@@ -34,9 +34,9 @@ use Rattle.sched_laws.proofs.StillWaits.{split_run}
 use Rattle.sched_ranges.specs.Ranges.{IsFrame, PoolInRange, RecordsInRange}
 use Rattle.sched_ranges.proofs.Done.{in_range}
 use Rattle.sched_ranges.proofs.Law.{fits_in_runs}
-use Rattle.move_laws.proofs.Counted.{in_all}
-use Rattle.move_laws.proofs.Staying.{same_home, same_stall, adds_line}
-use Rattle.move_laws.proofs.Ending.{moved_ends, dom_moved_ends}
+use Rattle.part_laws.proofs.Counted.{in_all}
+use Rattle.part_laws.proofs.Staying.{same_home, same_stall, adds_line}
+use Rattle.part_laws.proofs.Ending.{moved_ends, dom_moved_ends}
 use Rattle.moment_laws.specs.Turns.{how_many}
 use Rattle.moment_laws.proofs.StretchFalls.{push_assoc}
 use Rattle.moment_laws.proofs.Credit2Steps.{Has}

@@ -45,9 +45,9 @@ use Rattle.moment_laws.proofs.DueInStates.{of_pools}
 use Rattle.moment_laws.proofs.DueInMoments.{to_come, moment_lowers}
 use Rattle.moment_laws.proofs.NumberedSums.{over_none, over_sum, over_list, total_numbers, total_swapped, total_less, total_most, total_sum, place_some, place_none}
 use Rattle.sched_laws.proofs.Counts.{total_over_le}
-use Rattle.move_laws.specs.Moves.{HasOneMove}
-use Rattle.move_laws.proofs.Counted.{in_all_is}
-use Rattle.move_laws.proofs.Law.{has_one_move}
+use Rattle.part_laws.specs.Moves.{HasOneMove}
+use Rattle.part_laws.proofs.Counted.{in_all_is}
+use Rattle.part_laws.proofs.MoveLaw.{has_one_move}
 use Rattle.sched_model.specs.Actions.{configured_units}
 
 -- what is to come of the domain d in the records

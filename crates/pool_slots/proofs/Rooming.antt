@@ -16,8 +16,8 @@ use Rattle.sched_model.specs.Policy as policy
 use Rattle.sched_model.specs.Pool.{change_domain, marked_pool, pause, set_moving, set_params, settled_pool, unit_count, unpause, with_domain, without_domain}
 use Rattle.sched_laws.proofs.EachPlace.{by_cond, by_option}
 use Rattle.sched_laws.proofs.Opened.{queue_units-domains}
-use Rattle.step_laws.specs.Faces.{DomainFace, Face, domain_face}
-use Rattle.step_laws.proofs.Faces.{face_kept}
+use Rattle.part_laws.specs.Faces.{DomainFace, Face, domain_face}
+use Rattle.part_laws.proofs.Faces.{face_kept}
 use Rattle.unit_state.specs.Guests.{units_in}
 use Rattle.unit_state.proofs.PlaceLemmas.{units_in-put_at, units_in-clear_at, units_in-change_at}
 use Rattle.pool_core.specs.Seen.{Seen, seen_after, seen_at, with_spare}

@@ -16,8 +16,8 @@ use Rattle.sched_model.specs.Machine.{is_enabled, event_of, after}
 use Rattle.journal_core.specs.Parts.{StatePart, pool_part, tool_part, tool_of, part_of}
 use Rattle.journal_core.specs.Histories.{part_at}
 use Rattle.pool_core.specs.Seen.{Seen, IsNow, seen_after}
-use Rattle.step_laws.specs.Steps as steps
-use Rattle.step_laws.proofs.PoolSteps.{pool_step}
+use Rattle.part_laws.specs.Steps as steps
+use Rattle.part_laws.proofs.PoolSteps.{pool_step}
 use Rattle.order_laws.specs.OrderLaws.{ComesInPool}
 use Rattle.pool_slots.specs.Told.{Told, told_more}
 use Rattle.pool_slots.specs.Places.{GoesOn, HasStepped, SlotSuits, StandsAt, slot_part, state_of}

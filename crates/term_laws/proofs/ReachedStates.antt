@@ -19,7 +19,7 @@ use Rattle.sched_ranges.specs.Ranges.{StateInRange}
 use Rattle.sched_ranges.proofs.Done.{in_range}
 use Rattle.part_laws.proofs.Housed.{Housed}
 use Rattle.part_laws.proofs.Begun.{housed_opening}
-use Rattle.part_laws.proofs.Law.{housed_from}
+use Rattle.part_laws.proofs.NamesLaw.{housed_from}
 
 -- a run that is not over leads to the state
 pub record IsReached (m : Machine) (s : State) : Type 0 where

@@ -40,7 +40,7 @@ use Rattle.sched_ranges.proofs.Walk.{NearProcessor}
 use Rattle.sched_ranges.proofs.Law.{fits_in_runs, max_low}
 use Rattle.sched_ranges.proofs.Done.{in_range}
 use Rattle.part_laws.proofs.Begun.{housed_opening}
-use Rattle.part_laws.proofs.Law.{housed_from}
+use Rattle.part_laws.proofs.NamesLaw.{housed_from}
 use Rattle.sched_print.specs.Ranges.{IsPrintable, IsPrintableEvent, IsCommandNumber, IsPool}
 use Rattle.text_laws.proofs.Numbers.{Known, cores_few, now_low, target_low, mover_low}
 use Rattle.text_laws.proofs.Judged.{SaysAnswer, answered}

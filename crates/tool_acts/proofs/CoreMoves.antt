@@ -35,8 +35,8 @@ use Rattle.cpupool.specs.declared.moves.Move.TheVariants as move
 use Rattle.cpupool.proofs.ArrivedLemmas.{core_joins}
 use Rattle.cpupool.proofs.SubjectLemmas.{length-map}
 use Rattle.actor_laws.specs.First.{move_first}
-use Rattle.move_laws.specs.Moves.{HasOneMove}
-use Rattle.move_laws.proofs.Law.{has_one_move}
+use Rattle.part_laws.specs.Moves.{HasOneMove}
+use Rattle.part_laws.proofs.MoveLaw.{has_one_move}
 use Rattle.sched_model.specs.Machine as machine
 use Rattle.tool_laws.specs.ToolSteps.{JoinSteps, LeaveSteps}
 use Rattle.tool_laws.proofs.Steps.{tool_steps}

@@ -46,11 +46,11 @@ use Rattle.sched_ranges.specs.Ranges.{DomainInRange}
 use Rattle.journal_core.specs.Parts.{Outline, ToolPart, UnderWay, domain_to, outline_of, tool_of as part_of_tool, under_way_of}
 use Rattle.part_laws.proofs.Alike.{mover_of}
 use Rattle.part_laws.proofs.Begun.{housed_opening}
-use Rattle.part_laws.proofs.Law.{housed_from, moves-away}
-use Rattle.move_laws.proofs.Counted.{in_all, in_all_is}
-use Rattle.move_laws.proofs.Ending.{Moving, domain_found}
-use Rattle.move_laws.proofs.Law.{has_one_move}
-use Rattle.move_laws.proofs.Whose.{moving_answers}
+use Rattle.part_laws.proofs.NamesLaw.{housed_from, moves-away}
+use Rattle.part_laws.proofs.Counted.{in_all, in_all_is}
+use Rattle.part_laws.proofs.Ending.{Moving, domain_found}
+use Rattle.part_laws.proofs.MoveLaw.{has_one_move}
+use Rattle.part_laws.proofs.Whose.{moving_answers}
 use Rattle.tool_laws.specs.ToolSteps.{DomainSteps}
 use Rattle.tool_laws.proofs.Steps.{tool_steps}
 use Rattle.cpupool.specs.ToolArrival.{EndsTheMove, action_of, but_for_free}

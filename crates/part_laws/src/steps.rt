@@ -5,7 +5,7 @@ ghost use Rattle.sched_model.specs.declared.action.Action.{Action};
 ghost use Rattle.sched_model.specs.declared.machine.Machine.{Machine};
 ghost use Rattle.sched_model.specs.declared.state.State.{State};
 ghost use Rattle.sched_model.specs.Actions.{IsOfPool, home_of};
-ghost use Rattle.step_laws.specs.Steps.{ChangesPool};
+ghost use Rattle.part_laws.specs.Steps.{ChangesPool};
 
 /// Of every state, reached or not: an event of a processor, core, unit, vCPU or domain that is no move between pools changes the
 /// part of its subject's home and no other. The tool's part, the homes of all names and the moment stay.

@@ -22,7 +22,7 @@ use Rattle.sched_laws.proofs.EachPlace.{by_option, by_cond, by_test}
 use Rattle.sched_laws.proofs.Lists.{length_change_item}
 use Rattle.sched_laws.proofs.Records.{same_replenish, same_refill, same_decision}
 use Rattle.sched_laws.proofs.Events.{Anyway, KeptBySteps, kept_by_event}
-use Rattle.step_laws.specs.Faces.{Face, DomainFace, domain_face, face_of}
+use Rattle.part_laws.specs.Faces.{Face, DomainFace, domain_face, face_of}
 use Rattle.journal_core.specs.Parts.{is_leaving}
 
 -- what is seen of each place stays where a change keeps it

@@ -1,2 +1,3 @@
 pub mod Faces
 pub mod Steps
+pub mod Moves

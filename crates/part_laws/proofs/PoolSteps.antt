@@ -14,9 +14,9 @@ use Rattle.sched_model.specs.Actions.{IsOfPool, home_of, change_pool}
 use Rattle.sched_model.specs.Machine.{after, after_at_home}
 use Rattle.sched_model.proofs.PlaceLemmas.{at_place-map, at_place-change_at_other}
 use Rattle.journal_core.specs.Parts.{Outline, UnderWay, core_to, domain_to, ToolPart, tool_part, pool_part, outline_of, first_answer, core_leaving, domain_moving, core_joining, leaving_pool, under_way_of, tool_of, part_of, pool_lists, is_name, no_home, home_in, tool_lock, is_leaving}
-use Rattle.step_laws.specs.Faces.{Face, DomainFace, domain_face, face_of}
-use Rattle.step_laws.specs.Steps.{ChangesPool}
-use Rattle.step_laws.proofs.Faces.{face_kept, seen_change_at}
+use Rattle.part_laws.specs.Faces.{Face, DomainFace, domain_face, face_of}
+use Rattle.part_laws.specs.Steps.{ChangesPool}
+use Rattle.part_laws.proofs.Faces.{face_kept, seen_change_at}
 
 -- places that are seen
 map-seen : {X Y Z : Type 0} (see : X → Y) (f : Option X → Z) (h : Option Y → Z) (places : List (Option X)) → ((o : Option X) → f o ≡ h (option_map see o)) → map f places ≡ map h (map (option_map see) places)

@@ -36,7 +36,7 @@ use Rattle.part_laws.proofs.Looks.{has_core_in}
 use Rattle.part_laws.proofs.Alike.{core_of, mover_of, alike_stall, alike_at_home}
 use Rattle.part_laws.proofs.Housed.{Housed, housed_alike, housed_command}
 use Rattle.part_laws.proofs.Begun.{housed_opening}
-use Rattle.part_laws.proofs.Moves.{HasPlaces, housed_moved, housed_dom_moved}
+use Rattle.part_laws.proofs.HousedMoved.{HasPlaces, housed_moved, housed_dom_moved}
 
 housed_stall : (m : Machine) (t : ℕ) (line : Option StallLine) (s : State) → Housed m s → Housed m (elim line as (λ _. State) [ None ↦ s | Some l ↦ after_stall m.config.granularity t l s ])
 housed_stall m t None s h = h
