@@ -1,24 +1,18 @@
 //! The hall: a machine whose parts lie under locks, and the calls that open it, share it out and end it.
 
-ghost use Rattle.std.specs.Prelude.{◌≡◌, ◌++◌, ◌∷◌, [], map, IfOk};
-ghost use Rattle.hall.specs.declared.value.PartState.TheVariants as value;
-
 use crate::book::{put_book, take_book};
+use crate::parts::open_values;
 use crate::seat::HallSeat;
 use crate::turns::Waits;
-use crate::value::{PartState, ToolKept};
-use cpupool::ToolState;
+use crate::value::PartState;
 use journal_core::Book;
 use lock_moves::LockSet;
 use part_laws::names::law_names_stand_once;
-use parts_opening::{open_slots, open_spares};
-use pool_slots::PoolSlot;
 use sched_base::{Moment, NoMemory, ProcId, ResId};
 use sched_model::config::Config;
 use sched_model::event::Entry;
 use sched_model::work::Work;
 use std::alloc::Global;
-use std::boxed::Box;
 use std::marker::Model;
 use std::sync::Wait;
 
@@ -42,23 +36,6 @@ impl Model for Hall {
     ghost view = { λ h. h.set };
 
     ghost invariant = { λ h. IsHallOf h.set.opened.input h.granularity h.horizon.0 };
-}
-
-/// The values of the locks: the places of the pools in their order, and what the tool keeps.
-fn values_of(
-    alloc: Global,
-    slots: Vec<PoolSlot>,
-    tool: Box<ToolKept>,
-) -> Result<Vec<PartState>, NoMemory>
-    ensures { IfOk result (λ values. values.items ≡ map value.Pool slots.items ++ value.Tool tool
-        ∷ []) }
-{
-    let mut values = Vec::new(alloc);
-    for slot in slots {
-        values.push(PartState::Pool(slot))?;
-    }
-    values.push(PartState::Tool(tool))?;
-    Ok(values)
 }
 
 impl Hall {
@@ -88,11 +65,13 @@ impl Hall {
     {
         law_names_stand_once();
         let book = Book::room(alloc, config, work, events)?;
-        let spares = open_spares(alloc, config, work)?;
-        let tool = ToolState::open(alloc, config, work)?;
-        let slots = open_slots(alloc, config)?;
-        let kept = Box::new(alloc, ToolKept { tool, spares })?;
-        let values = values_of(alloc, slots, kept)?;
+        let values = match open_values(alloc, config, work) {
+            Ok(values) => values,
+            Err(full) => {
+                drop(book);
+                return Err(full);
+            }
+        };
         let (set, seat) = LockSet::open(alloc, values, book)?;
         let hall = Hall {
             set,

@@ -10,6 +10,7 @@ mod all;
 mod book;
 mod close;
 mod hall;
+mod parts;
 mod pools;
 mod seat;
 mod turns;
