@@ -2,40 +2,79 @@
 
 use credit2_cap::{quota, refill, take, total};
 
+/// The formulas within their ranges. Beyond them it is the least number, which none of them gives here.
+fn total_of(cap: u32) -> i64 {
+    if cap <= 6400 { total(cap) } else { i64::MIN }
+}
+
+fn quota_of(total: i64, units: u32) -> i64 {
+    if units >= 1 {
+        quota(total, units)
+    } else {
+        i64::MIN
+    }
+}
+
+fn refilled(budget: i64, held: i64, total: i64, n: u64) -> i64 {
+    if n <= 1_000_000_000 && held >= 0 && total >= 0 {
+        refill(budget, held, total, n)
+    } else {
+        i64::MIN
+    }
+}
+
 #[test]
 fn gives_and_takes_budgets(rt: HostRuntime) {
     assert_eq!(rt;
-        [total(25), total(1), total(100), total(6400), total(0)],
-        [2_500_000, 100_000, 10_000_000, 640_000_000, 0]
-    );
-    assert_eq!(rt;
         [
-            quota(2_500_000, 2),
-            quota(2_500_000, 6),
-            quota(100_000, 1),
-            quota(10_000_000, 3),
-            quota(640_000_000, 1),
-            quota(0, 1),
+            total_of(25),
+            total_of(1),
+            total_of(100),
+            total_of(6400),
+            total_of(0),
+            quota_of(2_500_000, 2),
+            quota_of(2_500_000, 6),
+            quota_of(100_000, 1),
+            quota_of(10_000_000, 3),
+            quota_of(640_000_000, 1),
+            quota_of(0, 1),
         ],
-        [1_250_000, 500_000, 500_000, 3_333_333, 640_000_000, 500_000]
+        [
+            2_500_000,
+            100_000,
+            10_000_000,
+            640_000_000,
+            0,
+            1_250_000,
+            500_000,
+            500_000,
+            3_333_333,
+            640_000_000,
+            500_000,
+        ]
     );
     assert_eq!(rt;
         [
             take(2_500_000, 1_250_000),
             take(250_000, 1_250_000),
-            take(7, 7)
+            take(7, 7),
+            refilled(300_000, 200_000, 2_500_000, 1),
+            refilled(-6_000_000, 0, 2_500_000, 2),
+            refilled(0, 0, 2_500_000, 1),
+            refilled(-2_500_000, 2_500_000, 2_500_000, 1),
+            refilled(2_500_000, 0, 2_500_000, 1_000_000),
+            refilled(-640_000_000, 1, 640_000_000, 3),
         ],
-        [1_250_000, 250_000, 7]
-    );
-    assert_eq!(rt;
         [
-            refill(300_000, 200_000, 2_500_000, 1),
-            refill(-6_000_000, 0, 2_500_000, 2),
-            refill(0, 0, 2_500_000, 1),
-            refill(-2_500_000, 2_500_000, 2_500_000, 1),
-            refill(2_500_000, 0, 2_500_000, 1_000_000),
-            refill(-640_000_000, 1, 640_000_000, 3),
-        ],
-        [2_300_000, -1_000_000, 2_500_000, 0, 2_500_000, 639_999_999]
+            1_250_000,
+            250_000,
+            7,
+            2_300_000,
+            -1_000_000,
+            2_500_000,
+            0,
+            2_500_000,
+            639_999_999,
+        ]
     );
 }

@@ -1,116 +1,135 @@
 //! The heap of moments by id.
 
-ghost use Rattle.std.specs.Prelude.{◌≡◌, length};
+ghost use Rattle.std.specs.Prelude.{◌≡◌, ◌<◌, length};
 
 use due_heap::DueHeap;
 use sched_base::Moment;
 use std::test::Fail;
 
-/// The moment and the id of the first.
-fn first(heap: &DueHeap) -> Option<(u64, u16)> {
+/// Whether that id with that moment is first.
+fn is_first(heap: &DueHeap, at: u64, id: u16) -> bool {
     match heap.least() {
-        Some((at, id)) => Some((at.0, id)),
-        None => None,
+        Some(first) => first.0.0 == at && first.1 == id,
+        None => false,
     }
 }
 
-/// What is first of five ids, as they are armed and disarmed.
-fn firsts_of_five(heap: &mut DueHeap) -> [Option<(u64, u16)>; 8]
+/// Arms an id. The room stays.
+fn arm(heap: &mut DueHeap, id: u16, at: u64)
+    requires { id < length heap.old }
+    ensures { length heap.new ≡ length heap.old }
+{
+    heap.arm(id, Moment(at));
+}
+
+/// Whether the right one of five ids is first, as they are armed.
+fn arms_five(heap: &mut DueHeap) -> [bool; 4]
     requires { length heap.old ≡ 5 }
 {
-    let none = first(heap);
-    heap.arm(3, Moment(70));
-    let alone = first(heap);
-    heap.arm(1, Moment(70));
-    let equal = first(heap);
-    heap.arm(4, Moment(10));
-    heap.arm(0, Moment(u64::MAX));
-    let sooner = first(heap);
-    heap.arm(4, Moment(90));
-    let later = first(heap);
+    arm(heap, 3, 70);
+    let alone = is_first(heap, 70, 3);
+    arm(heap, 1, 70);
+    let equal = is_first(heap, 70, 1);
+    arm(heap, 4, 10);
+    arm(heap, 0, u64::MAX);
+    let sooner = is_first(heap, 10, 4);
+    arm(heap, 4, 90);
+    [alone, equal, sooner, is_first(heap, 70, 1)]
+}
+
+/// Whether the right one of these is first, as they are disarmed, up to the last.
+fn disarms_five(heap: &mut DueHeap) -> [bool; 3] {
     heap.disarm(1);
     heap.disarm(2);
     heap.disarm(9);
-    let left = first(heap);
+    let left = is_first(heap, 70, 3);
     heap.disarm(3);
-    let last = first(heap);
+    let last = is_first(heap, 90, 4);
     heap.disarm(4);
     heap.disarm(0);
-    [none, alone, equal, sooner, later, left, last, first(heap)]
+    [left, last, heap.least().is_none()]
 }
 
 #[test]
 fn first_by_moment_then_by_id(rt: HostRuntime) -> Result<(), Fail> {
     let mut heap = DueHeap::room(rt.alloc(), 5)?;
-    assert_eq!(rt;
-        firsts_of_five(&mut heap),
-        [
-            None,
-            Some((70, 3)),
-            Some((70, 1)),
-            Some((10, 4)),
-            Some((70, 1)),
-            Some((70, 3)),
-            Some((90, 4)),
-            None,
-        ]
-    );
+    let none = heap.least().is_none();
+    let armed = arms_five(&mut heap);
+    let disarmed = disarms_five(&mut heap);
+    drop(heap);
+    assert!(rt; none);
+    assert_eq!(rt; armed, [true; 4]);
+    assert_eq!(rt; disarmed, [true; 3]);
     Ok(())
 }
 
-/// The least id of four whose moment has come.
-fn least_come(heap: &DueHeap, t: u64) -> Option<u16>
+/// The least id of four whose moment has come, and 99 where none has.
+fn least_come(heap: &DueHeap, t: u64) -> u16
     requires { length heap.now ≡ 4 }
 {
-    heap.first_due(Moment(t))
+    match heap.first_due(Moment(t)) {
+        Some(id) => id,
+        None => 99,
+    }
 }
 
-/// The least ids that have come: of none, of three, and of two of these.
-fn least_of_three(heap: &mut DueHeap) -> [Option<u16>; 6]
+/// The least ids that have come: of none, and of three.
+fn least_of_three(heap: &mut DueHeap) -> [u16; 5]
     requires { length heap.old ≡ 4 }
+    ensures { length heap.new ≡ 4 }
 {
     let none = least_come(heap, 50);
-    heap.arm(3, Moment(10));
-    heap.arm(1, Moment(30));
-    heap.arm(2, Moment(20));
-    let before = least_come(heap, 9);
-    let one = least_come(heap, 10);
-    let two = least_come(heap, 25);
-    let three = least_come(heap, 30);
+    arm(heap, 3, 10);
+    arm(heap, 1, 30);
+    arm(heap, 2, 20);
+    [
+        none,
+        least_come(heap, 9),
+        least_come(heap, 10),
+        least_come(heap, 25),
+        least_come(heap, 30),
+    ]
+}
+
+/// The least id that has come, of two of these.
+fn least_of_two(heap: &mut DueHeap) -> u16
+    requires { length heap.old ≡ 4 }
+{
     heap.disarm(1);
-    [none, before, one, two, three, least_come(heap, 30)]
+    least_come(heap, 30)
 }
 
 #[test]
 fn the_least_id_that_has_come(rt: HostRuntime) -> Result<(), Fail> {
     let mut heap = DueHeap::room(rt.alloc(), 4)?;
-    assert_eq!(rt;
-        least_of_three(&mut heap),
-        [None, None, Some(3), Some(2), Some(1), Some(2)]
-    );
+    let three = least_of_three(&mut heap);
+    let two = least_of_two(&mut heap);
+    drop(heap);
+    assert_eq!(rt; three, [99, 99, 3, 2, 1]);
+    assert_eq!(rt; two, 2);
     Ok(())
 }
 
-/// What is first of one id, armed and then disarmed.
-fn firsts_of_one(heap: &mut DueHeap) -> [Option<(u64, u16)>; 2]
+/// Whether one id is first, armed, and none, disarmed.
+fn arms_one(heap: &mut DueHeap) -> [bool; 2]
     requires { length heap.old ≡ 1 }
 {
-    heap.arm(0, Moment(5));
-    let armed = first(heap);
+    arm(heap, 0, 5);
+    let armed = is_first(heap, 5, 0);
     heap.disarm(0);
-    [armed, first(heap)]
+    [armed, heap.least().is_none()]
 }
 
 #[test]
 fn small_rooms(rt: HostRuntime) -> Result<(), Fail> {
     let mut none = DueHeap::room(rt.alloc(), 0)?;
     none.disarm(0);
-    let first_of_none = first(&none);
+    let none_is_first = none.least().is_none();
     drop(none);
     let mut one = DueHeap::room(rt.alloc(), 1)?;
-    assert_eq!(rt;
-        (first_of_none, firsts_of_one(&mut one)),
-        (None, [Some((5, 0)), None])
-    );
+    let first = arms_one(&mut one);
+    drop(one);
+    assert!(rt; none_is_first);
+    assert_eq!(rt; first, [true; 2]);
     Ok(())
 }

@@ -10,7 +10,6 @@ use sched_model::event::{Entry, Event};
 use sched_model::row::Row;
 use sched_model::work::{StallLine, Work};
 use std::alloc::Global;
-use std::process::Abort;
 use std::test::Fail;
 
 /// A book for three entries of the run of one core, with no pool and no domain, and a stall of 2 nanoseconds at 3.
@@ -37,49 +36,54 @@ fn empty_book(alloc: Global) -> Result<Book, NoMemory>
     Book::room(alloc, &config, &work, 3)
 }
 
-fn entry(at: u64, event: Event) -> Entry
-    ensures { result ≡ record { at = record { 0 = at }; event = event } }
-{
-    Entry {
-        at: Moment(at),
-        event,
-    }
-}
+/// The whole run.
+const END: Entry = Entry {
+    at: Moment(0),
+    event: Event::End { next: Moment(3) },
+};
 
-/// Commits the whole run, and holds what the book tells against it.
-fn commit_all(rt: &impl Abort, book: &mut Book)
+const STALL: Entry = Entry {
+    at: Moment(3),
+    event: Event::Stall {
+        p: ProcId(0),
+        until: Moment(5),
+    },
+};
+
+const FINISH: Entry = Entry {
+    at: Moment(3),
+    event: Event::Finish,
+};
+
+/// Commits the whole run: the moments before each entry and after the last, and whether the last has room.
+fn commit_all(book: &mut Book) -> ([u64; 4], bool)
     requires { book.old ≡ stalling_book }
 {
-    let end = entry(0, Event::End { next: Moment(3) });
-    let stall = entry(
-        3,
-        Event::Stall {
-            p: ProcId(0),
-            until: Moment(5),
-        },
-    );
-    let finish = entry(3, Event::Finish);
-    let start = book.now();
-    book.commit(end);
-    let later = book.now();
-    book.commit(stall);
+    let start = book.now().0;
+    book.commit(END);
+    let later = book.now().0;
+    book.commit(STALL);
+    let moment = book.now().0;
     let room_for_last = book.room_left();
-    book.commit(finish);
-    assert_eq!(rt;
-        [start, later, book.now()],
-        [Moment(0), Moment(3), Moment(3)]
-    );
-    assert_eq!(rt; [room_for_last, book.room_left()], [true, false]);
-    assert_eq!(rt;
-        [book.len(), book.limit(), book.decides(ResId(0))],
-        [3, 3, 0]
-    );
-    assert!(rt; [book.get(0), book.get(1), book.get(2)] == [end, stall, finish]);
+    book.commit(FINISH);
+    ([start, later, moment, book.now().0], room_for_last)
+}
+
+/// Whether the book tells the whole run.
+fn tells_all(book: &Book) -> bool {
+    book.len() == 3 && book.get(0) == END && book.get(1) == STALL && book.get(2) == FINISH
 }
 
 #[test]
 fn a_book_has_what_was_committed(rt: HostRuntime) -> Result<(), Fail> {
     let mut book = empty_book(rt.alloc())?;
-    commit_all(&rt, &mut book);
+    let (moments, room_for_last) = commit_all(&mut book);
+    let room = book.room_left();
+    let all = tells_all(&book);
+    let numbers = [book.len(), book.limit(), book.decides(ResId(0))];
+    drop(book);
+    assert_eq!(rt; moments, [0, 3, 3, 3]);
+    assert_eq!(rt; [room_for_last, room, all], [true, false, true]);
+    assert_eq!(rt; numbers, [3, 3, 0]);
     Ok(())
 }

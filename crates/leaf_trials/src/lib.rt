@@ -1,4 +1,4 @@
-//! The leaves and the queues under the schedulers, tried with numbers that were worked out by hand.
+//! The leaves and the queues under the schedulers, and the outside, tried with numbers that were worked out by hand.
 #![tactic(auto)]
 
 #[cfg(test)]
@@ -9,6 +9,8 @@ mod caps;
 mod dues;
 #[cfg(test)]
 mod histories;
+#[cfg(test)]
+mod outside;
 #[cfg(test)]
 mod queues;
 #[cfg(test)]

@@ -1,6 +1,6 @@
 //! The queues of Credit2 and of RTDS.
 
-ghost use Rattle.std.specs.Prelude.{◌≡◌, ◌<◌, true};
+ghost use Rattle.std.specs.Prelude.{◌≡◌, ◌+◌, ◌<◌, ◌≤◌, true};
 ghost use Rattle.unit_places.specs.Places.{has_place};
 ghost use Rattle.runq.specs.Queue.{empty_queue};
 ghost use Rattle.rtds_queue.specs.Lists.{empty_lists};
@@ -8,18 +8,35 @@ ghost use Rattle.rtds_queue.specs.Lists.{empty_lists};
 use rtds_queue::{RtdsKey, RtdsQueues};
 use runq::{Allowed, Runq};
 use sched_base::{Cores, DomId, Moment, ResId, UnitId};
-use std::process::Abort;
 use std::test::Fail;
 use unit_places::Masks;
 
-/// The first unit of a domain.
-fn unit(n: u8) -> UnitId
-    requires { n < 64 }
-    ensures { has_place result ≡ true }
-{
-    UnitId {
-        dom: DomId(n),
-        n: 0,
+const A: UnitId = UnitId {
+    dom: DomId(1),
+    n: 0,
+};
+
+const B: UnitId = UnitId {
+    dom: DomId(2),
+    n: 0,
+};
+
+const C: UnitId = UnitId {
+    dom: DomId(3),
+    n: 0,
+};
+
+/// A unit that no queue has.
+const FOREIGN: UnitId = UnitId {
+    dom: DomId(9),
+    n: 0,
+};
+
+/// The domain of a unit, and 99 where there is none.
+fn domain(unit: Option<UnitId>) -> u8 {
+    match unit {
+        Some(u) => u.dom.0,
+        None => 99,
     }
 }
 
@@ -43,17 +60,17 @@ fn drained(queue: &mut Runq) -> [u8; 4] {
 }
 
 /// Which unit is first on core 0, for these domains and cores of the pool, where unit 1 alone waits and may not have that core; and which of all.
-fn firsts_beside_core_0(queue: &mut Runq, masks: &mut Masks) -> [Option<UnitId>; 5]
+fn firsts_beside_core_0(queue: &mut Runq, masks: &mut Masks) -> [u8; 5]
     requires { queue.old ≡ empty_queue 1 }
 {
-    queue.insert(unit(1), 7);
-    masks.set(unit(1), Cores(2));
+    queue.insert(A, 7);
+    masks.set(A, Cores(2));
     [
-        queue.first_on(&Allowed(2), masks, ResId(0), Cores(3)),
-        queue.first_on(&Allowed(2), masks, ResId(0), Cores(1)),
-        queue.first_on(&Allowed(4), masks, ResId(0), Cores(1)),
-        queue.first_where(&Allowed(2)),
-        queue.first_where(&Allowed(1)),
+        domain(queue.first_on(&Allowed(2), masks, ResId(0), Cores(3))),
+        domain(queue.first_on(&Allowed(2), masks, ResId(0), Cores(1))),
+        domain(queue.first_on(&Allowed(4), masks, ResId(0), Cores(1))),
+        domain(queue.first_where(&Allowed(2))),
+        domain(queue.first_where(&Allowed(1))),
     ]
 }
 
@@ -62,36 +79,55 @@ fn a_unit_is_passed_over_for_its_cores(rt: HostRuntime) -> Result<(), Fail> {
     let mut queue = Runq::room(rt.alloc(), 1)?;
     let mut masks = Masks::room(rt.alloc())?;
     let firsts = firsts_beside_core_0(&mut queue, &mut masks);
-    let one = Some(unit(1));
-    assert_eq!(rt; firsts, [None, one, None, one, None]);
+    assert_eq!(rt; firsts, [99, 1, 99, 1, 99]);
     Ok(())
 }
 
-/// Three units come, and two of them get the key of the last.
-fn rekey_two(rt: &impl Abort, queue: &mut Runq)
+/// Lets a unit come that the queue has not. It answers whether it had none.
+fn comes(queue: &mut Runq, u: UnitId, key: i128) -> bool
+    requires place { has_place u ≡ true }
+    requires room { 0 < queue.old.spare }
+    ensures { queue.old.spare ≤ queue.new.spare + 1 }
+{
+    let absent = !queue.has(u);
+    if absent {
+        queue.insert(u, key);
+    }
+    absent
+}
+
+/// Gives a unit that the queue has another key. It answers whether it had it.
+fn moves(queue: &mut Runq, u: UnitId, key: i128) -> bool {
+    let there = queue.has(u);
+    if there {
+        queue.rekey(u, key);
+    }
+    there
+}
+
+/// Lets three units come.
+fn three_come(queue: &mut Runq) -> [bool; 3]
     requires { queue.old ≡ empty_queue 4 }
 {
-    let (a, b, c) = (unit(1), unit(2), unit(3));
-    queue.insert(a, 5);
-    assert!(rt; !queue.has(b));
-    queue.insert(b, -5);
-    assert!(rt; !queue.has(c));
-    queue.insert(c, 5);
-    let least = queue.first();
-    assert!(rt; queue.has(b));
-    queue.rekey(b, 5);
-    let oldest = queue.first();
-    assert!(rt; queue.has(a));
-    queue.rekey(a, 6);
-    assert_eq!(rt; [least, oldest], [Some(b), Some(a)]);
+    [comes(queue, A, 5), comes(queue, B, -5), comes(queue, C, 5)]
 }
 
 #[test]
 fn equal_keys_keep_the_order_of_arrival(rt: HostRuntime) -> Result<(), Fail> {
     let mut queue = Runq::room(rt.alloc(), 4)?;
-    rekey_two(&rt, &mut queue);
-    let foreign = queue.remove(unit(9));
-    assert_eq!(rt; (foreign, drained(&mut queue)), (false, [2, 3, 1, 99]));
+    let come = three_come(&mut queue);
+    // Two of them get the key of the last.
+    let least = domain(queue.first());
+    let second = moves(&mut queue, B, 5);
+    let oldest = domain(queue.first());
+    let first = moves(&mut queue, A, 6);
+    let foreign = queue.remove(FOREIGN);
+    let order = drained(&mut queue);
+    drop(queue);
+    assert_eq!(rt; come, [true; 3]);
+    assert_eq!(rt; [second, first, foreign], [true, true, false]);
+    assert_eq!(rt; [least, oldest], [2, 1]);
+    assert_eq!(rt; order, [2, 3, 1, 99]);
     Ok(())
 }
 
@@ -107,60 +143,83 @@ fn drained_of_eligible(queues: &mut RtdsQueues) -> [u8; 4] {
     order
 }
 
-/// Three units come, of which one is eligible, and the other two are renewed.
-fn renew_two(rt: &impl Abort, queues: &mut RtdsQueues)
+/// Puts a unit that neither list has. It answers whether they had it not.
+fn puts(queues: &mut RtdsQueues, u: UnitId, key: RtdsKey, spent: bool) -> bool
+    requires place { has_place u ≡ true }
+    requires room { 0 < queues.old.spare }
+    ensures { queues.old.spare ≤ queues.new.spare + 1 }
+{
+    let absent = !queues.has(u);
+    if absent {
+        queues.put(u, key, spent);
+    }
+    absent
+}
+
+/// Renews a unit that one of the lists has. It answers whether one had it.
+fn renews(queues: &mut RtdsQueues, u: UnitId, key: RtdsKey) -> bool {
+    let there = queues.has(u);
+    if there {
+        queues.renew(u, key);
+    }
+    there
+}
+
+/// Puts three units, of which one is spent.
+fn puts_three(queues: &mut RtdsQueues) -> [bool; 3]
     requires { queues.old ≡ empty_lists 4 }
 {
-    let (a, b, c) = (unit(1), unit(2), unit(3));
-    queues.put(a, key(0, 20), true);
-    assert!(rt; !queues.has(b));
-    queues.put(b, key(0, 30), false);
-    assert!(rt; !queues.has(c));
-    queues.put(c, key(0, 40), false);
-    let eligible = queues.first();
-    assert!(rt; queues.has(a));
-    queues.renew(a, key(0, 30));
-    let oldest = queues.first();
-    assert!(rt; queues.has(b));
-    queues.renew(b, key(0, 50));
-    assert_eq!(rt; [eligible, oldest], [Some(b), Some(a)]);
+    [
+        puts(queues, A, key(0, 20), true),
+        puts(queues, B, key(0, 30), false),
+        puts(queues, C, key(0, 40), false),
+    ]
 }
 
 #[test]
 fn renewed_units_keep_their_arrival(rt: HostRuntime) -> Result<(), Fail> {
     let mut queues = RtdsQueues::room(rt.alloc(), 4)?;
-    renew_two(&rt, &mut queues);
-    assert_eq!(rt; drained_of_eligible(&mut queues), [1, 3, 2, 99]);
+    let put = puts_three(&mut queues);
+    let eligible = domain(queues.first());
+    let first = renews(&mut queues, A, key(0, 30));
+    let oldest = domain(queues.first());
+    let second = renews(&mut queues, B, key(0, 50));
+    let order = drained_of_eligible(&mut queues);
+    drop(queues);
+    assert_eq!(rt; put, [true; 3]);
+    assert_eq!(rt; [first, second], [true, true]);
+    assert_eq!(rt; [eligible, oldest], [2, 1]);
+    assert_eq!(rt; order, [1, 3, 2, 99]);
     Ok(())
 }
 
-/// Two units come, of which the first one by its level may not have core 0.
-fn put_two(rt: &impl Abort, queues: &mut RtdsQueues, masks: &mut Masks)
+/// Puts two units, of which the first one by its level may not have core 0.
+fn puts_two(queues: &mut RtdsQueues, masks: &mut Masks) -> [bool; 2]
     requires { queues.old ≡ empty_lists 2 }
 {
-    let (a, b) = (unit(1), unit(2));
-    queues.put(a, key(1, 10), false);
-    assert!(rt; !queues.has(b));
-    queues.put(b, key(0, 90), false);
-    masks.set(b, Cores(2));
-    let firsts = [
-        queues.first(),
-        queues.first_on(masks, ResId(0), Cores(3)),
-        queues.first_on(masks, ResId(0), Cores(1)),
-    ];
-    assert_eq!(rt; firsts, [Some(b), Some(a), Some(b)]);
+    masks.set(B, Cores(2));
+    [
+        puts(queues, A, key(1, 10), false),
+        puts(queues, B, key(0, 90), false),
+    ]
 }
 
 #[test]
 fn level_before_deadline(rt: HostRuntime) -> Result<(), Fail> {
-    let mut queues = RtdsQueues::room(rt.alloc(), 2)?;
     let mut masks = Masks::room(rt.alloc())?;
-    put_two(&rt, &mut queues, &mut masks);
+    let mut queues = RtdsQueues::room(rt.alloc(), 2)?;
+    let put = puts_two(&mut queues, &mut masks);
+    let firsts = [
+        domain(queues.first()),
+        domain(queues.first_on(&masks, ResId(0), Cores(3))),
+        domain(queues.first_on(&masks, ResId(0), Cores(1))),
+    ];
     drop(masks);
-    let foreign = queues.remove(unit(9));
-    assert_eq!(rt;
-        (foreign, drained_of_eligible(&mut queues)),
-        (false, [2, 1, 99, 99])
-    );
+    let foreign = queues.remove(FOREIGN);
+    let order = drained_of_eligible(&mut queues);
+    drop(queues);
+    assert_eq!(rt; put, [true; 2]);
+    assert_eq!(rt; firsts, [2, 1, 2]);
+    assert_eq!(rt; (foreign, order), (false, [2, 1, 99, 99]));
     Ok(())
 }
