@@ -1,10 +1,20 @@
 //! The heap of moments by id.
 
-ghost use Rattle.std.specs.Prelude.{◌≡◌, ◌<◌, length};
+ghost use Rattle.std.specs.Prelude.{◌≡◌, ◌<◌, ◌≤◌, length, IfOk};
 
 use due_heap::DueHeap;
-use sched_base::Moment;
+use sched_base::{Moment, NoMemory};
+use std::alloc::Global;
 use std::test::Fail;
+
+/// A heap of so many ids, of which none is armed.
+fn room(alloc: Global, n: usize) -> Result<DueHeap, NoMemory>
+    requires { n ≤ 5 }
+    ensures { IfOk result (λ heap. length heap ≡ n) }
+{
+    let heap = DueHeap::room(alloc, n)?;
+    Ok(heap)
+}
 
 /// Whether that id with that moment is first.
 fn is_first(heap: &DueHeap, at: u64, id: u16) -> bool {
@@ -52,7 +62,7 @@ fn disarms_five(heap: &mut DueHeap) -> [bool; 3] {
 
 #[test]
 fn first_by_moment_then_by_id(rt: HostRuntime) -> Result<(), Fail> {
-    let mut heap = DueHeap::room(rt.alloc(), 5)?;
+    let mut heap = room(rt.alloc(), 5)?;
     let none = heap.least().is_none();
     let armed = arms_five(&mut heap);
     let disarmed = disarms_five(&mut heap);
@@ -63,50 +73,50 @@ fn first_by_moment_then_by_id(rt: HostRuntime) -> Result<(), Fail> {
     Ok(())
 }
 
-/// The least id of four whose moment has come, and 99 where none has.
-fn least_come(heap: &DueHeap, t: u64) -> u16
+/// Whether that id is the least of four whose moment has come: 99 where none has.
+fn least_come(heap: &DueHeap, t: u64, id: u16) -> bool
     requires { length heap.now ≡ 4 }
 {
     match heap.first_due(Moment(t)) {
-        Some(id) => id,
-        None => 99,
+        Some(found) => found == id,
+        None => id == 99,
     }
 }
 
-/// The least ids that have come: of none, and of three.
-fn least_of_three(heap: &mut DueHeap) -> [u16; 5]
+/// Whether the right id is the least that has come: of none, and of three.
+fn least_of_three(heap: &mut DueHeap) -> [bool; 5]
     requires { length heap.old ≡ 4 }
     ensures { length heap.new ≡ 4 }
 {
-    let none = least_come(heap, 50);
+    let none = least_come(heap, 50, 99);
     arm(heap, 3, 10);
     arm(heap, 1, 30);
     arm(heap, 2, 20);
     [
         none,
-        least_come(heap, 9),
-        least_come(heap, 10),
-        least_come(heap, 25),
-        least_come(heap, 30),
+        least_come(heap, 9, 99),
+        least_come(heap, 10, 3),
+        least_come(heap, 25, 2),
+        least_come(heap, 30, 1),
     ]
 }
 
-/// The least id that has come, of two of these.
-fn least_of_two(heap: &mut DueHeap) -> u16
+/// Whether it is the right one of two of these.
+fn least_of_two(heap: &mut DueHeap) -> bool
     requires { length heap.old ≡ 4 }
 {
     heap.disarm(1);
-    least_come(heap, 30)
+    least_come(heap, 30, 2)
 }
 
 #[test]
 fn the_least_id_that_has_come(rt: HostRuntime) -> Result<(), Fail> {
-    let mut heap = DueHeap::room(rt.alloc(), 4)?;
+    let mut heap = room(rt.alloc(), 4)?;
     let three = least_of_three(&mut heap);
     let two = least_of_two(&mut heap);
     drop(heap);
-    assert_eq!(rt; three, [99, 99, 3, 2, 1]);
-    assert_eq!(rt; two, 2);
+    assert_eq!(rt; three, [true; 5]);
+    assert!(rt; two);
     Ok(())
 }
 
@@ -122,11 +132,11 @@ fn arms_one(heap: &mut DueHeap) -> [bool; 2]
 
 #[test]
 fn small_rooms(rt: HostRuntime) -> Result<(), Fail> {
-    let mut none = DueHeap::room(rt.alloc(), 0)?;
+    let mut none = room(rt.alloc(), 0)?;
     none.disarm(0);
     let none_is_first = none.least().is_none();
     drop(none);
-    let mut one = DueHeap::room(rt.alloc(), 1)?;
+    let mut one = room(rt.alloc(), 1)?;
     let first = arms_one(&mut one);
     drop(one);
     assert!(rt; none_is_first);

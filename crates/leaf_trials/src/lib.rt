@@ -8,8 +8,6 @@ mod caps;
 #[cfg(test)]
 mod dues;
 #[cfg(test)]
-mod histories;
-#[cfg(test)]
 mod outside;
 #[cfg(test)]
 mod queues;

@@ -47,30 +47,31 @@ fn key(level: u32, deadline: u64) -> RtdsKey {
     }
 }
 
-/// Takes the first unit away, again and again: the domains in order, and 99 where there is none.
-fn drained(queue: &mut Runq) -> [u8; 4] {
-    let mut order = [99; 4];
+/// Takes the first unit away, again and again, and answers whether these are the domains in order: 99 where there is none.
+fn drained(queue: &mut Runq, order: [u8; 4]) -> bool {
+    let mut right = true;
     for i in 0..4 {
-        if let Some(u) = queue.first() {
+        let first = queue.first();
+        right = right && domain(first) == order[i];
+        if let Some(u) = first {
             let _ = queue.remove(u);
-            order[i] = u.dom.0;
         }
     }
-    order
+    right
 }
 
-/// Which unit is first on core 0, for these domains and cores of the pool, where unit 1 alone waits and may not have that core; and which of all.
-fn firsts_beside_core_0(queue: &mut Runq, masks: &mut Masks) -> [u8; 5]
+/// Whether the right unit is first on core 0, for these domains and cores of the pool, where unit 1 alone waits and may not have that core; and of all.
+fn firsts_beside_core_0(queue: &mut Runq, masks: &mut Masks) -> [bool; 5]
     requires { queue.old ≡ empty_queue 1 }
 {
     queue.insert(A, 7);
     masks.set(A, Cores(2));
     [
-        domain(queue.first_on(&Allowed(2), masks, ResId(0), Cores(3))),
-        domain(queue.first_on(&Allowed(2), masks, ResId(0), Cores(1))),
-        domain(queue.first_on(&Allowed(4), masks, ResId(0), Cores(1))),
-        domain(queue.first_where(&Allowed(2))),
-        domain(queue.first_where(&Allowed(1))),
+        domain(queue.first_on(&Allowed(2), masks, ResId(0), Cores(3))) == 99,
+        domain(queue.first_on(&Allowed(2), masks, ResId(0), Cores(1))) == 1,
+        domain(queue.first_on(&Allowed(4), masks, ResId(0), Cores(1))) == 99,
+        domain(queue.first_where(&Allowed(2))) == 1,
+        domain(queue.first_where(&Allowed(1))) == 99,
     ]
 }
 
@@ -79,7 +80,7 @@ fn a_unit_is_passed_over_for_its_cores(rt: HostRuntime) -> Result<(), Fail> {
     let mut queue = Runq::room(rt.alloc(), 1)?;
     let mut masks = Masks::room(rt.alloc())?;
     let firsts = firsts_beside_core_0(&mut queue, &mut masks);
-    assert_eq!(rt; firsts, [99, 1, 99, 1, 99]);
+    assert_eq!(rt; firsts, [true; 5]);
     Ok(())
 }
 
@@ -117,30 +118,29 @@ fn equal_keys_keep_the_order_of_arrival(rt: HostRuntime) -> Result<(), Fail> {
     let mut queue = Runq::room(rt.alloc(), 4)?;
     let come = three_come(&mut queue);
     // Two of them get the key of the last.
-    let least = domain(queue.first());
+    let least = domain(queue.first()) == 2;
     let second = moves(&mut queue, B, 5);
-    let oldest = domain(queue.first());
+    let oldest = domain(queue.first()) == 1;
     let first = moves(&mut queue, A, 6);
     let foreign = queue.remove(FOREIGN);
-    let order = drained(&mut queue);
+    let order = drained(&mut queue, [2, 3, 1, 99]);
     drop(queue);
     assert_eq!(rt; come, [true; 3]);
-    assert_eq!(rt; [second, first, foreign], [true, true, false]);
-    assert_eq!(rt; [least, oldest], [2, 1]);
-    assert_eq!(rt; order, [2, 3, 1, 99]);
+    assert_eq!(rt; [least, second, oldest, first, !foreign, order], [true; 6]);
     Ok(())
 }
 
-/// Takes the first eligible unit away, again and again: the domains in order, and 99 where there is none.
-fn drained_of_eligible(queues: &mut RtdsQueues) -> [u8; 4] {
-    let mut order = [99; 4];
+/// Takes the first eligible unit away, again and again, and answers whether these are the domains in order: 99 where there is none.
+fn drained_of_eligible(queues: &mut RtdsQueues, order: [u8; 4]) -> bool {
+    let mut right = true;
     for i in 0..4 {
-        if let Some(u) = queues.first() {
+        let first = queues.first();
+        right = right && domain(first) == order[i];
+        if let Some(u) = first {
             let _ = queues.remove(u);
-            order[i] = u.dom.0;
         }
     }
-    order
+    right
 }
 
 /// Puts a unit that neither list has. It answers whether they had it not.
@@ -180,16 +180,14 @@ fn puts_three(queues: &mut RtdsQueues) -> [bool; 3]
 fn renewed_units_keep_their_arrival(rt: HostRuntime) -> Result<(), Fail> {
     let mut queues = RtdsQueues::room(rt.alloc(), 4)?;
     let put = puts_three(&mut queues);
-    let eligible = domain(queues.first());
+    let eligible = domain(queues.first()) == 2;
     let first = renews(&mut queues, A, key(0, 30));
-    let oldest = domain(queues.first());
+    let oldest = domain(queues.first()) == 1;
     let second = renews(&mut queues, B, key(0, 50));
-    let order = drained_of_eligible(&mut queues);
+    let order = drained_of_eligible(&mut queues, [1, 3, 2, 99]);
     drop(queues);
     assert_eq!(rt; put, [true; 3]);
-    assert_eq!(rt; [first, second], [true, true]);
-    assert_eq!(rt; [eligible, oldest], [2, 1]);
-    assert_eq!(rt; order, [1, 3, 2, 99]);
+    assert_eq!(rt; [eligible, first, oldest, second, order], [true; 5]);
     Ok(())
 }
 
@@ -210,16 +208,16 @@ fn level_before_deadline(rt: HostRuntime) -> Result<(), Fail> {
     let mut queues = RtdsQueues::room(rt.alloc(), 2)?;
     let put = puts_two(&mut queues, &mut masks);
     let firsts = [
-        domain(queues.first()),
-        domain(queues.first_on(&masks, ResId(0), Cores(3))),
-        domain(queues.first_on(&masks, ResId(0), Cores(1))),
+        domain(queues.first()) == 2,
+        domain(queues.first_on(&masks, ResId(0), Cores(3))) == 1,
+        domain(queues.first_on(&masks, ResId(0), Cores(1))) == 2,
     ];
     drop(masks);
     let foreign = queues.remove(FOREIGN);
-    let order = drained_of_eligible(&mut queues);
+    let order = drained_of_eligible(&mut queues, [2, 1, 99, 99]);
     drop(queues);
     assert_eq!(rt; put, [true; 2]);
-    assert_eq!(rt; firsts, [2, 1, 2]);
-    assert_eq!(rt; (foreign, order), (false, [2, 1, 99, 99]));
+    assert_eq!(rt; firsts, [true; 3]);
+    assert_eq!(rt; [!foreign, order], [true; 2]);
     Ok(())
 }

@@ -26,11 +26,11 @@ const C: UnitId = UnitId {
     n: 0,
 };
 
-/// The number of a node, and 0 where there is none. The numbers of nodes begin at 4.
-fn number(n: Option<Node>) -> u32 {
-    match n {
-        Some(n) => n.0,
-        None => 0,
+/// Whether the node has that number: 0 where there is none. The numbers of nodes begin at 4.
+fn is(node: Option<Node>, n: u32) -> bool {
+    match node {
+        Some(node) => node.0 == n,
+        None => n == 0,
     }
 }
 
@@ -59,29 +59,27 @@ fn three_come<L: Ledger>(ring: &mut Ring, steps: &mut Steps<L>) -> bool
     true
 }
 
-/// The first node of list 0, and the one after each.
-fn order_of_three<L: Ledger>(ring: &Ring, steps: &mut Steps<L>) -> [u32; 4]
+/// Whether the right node is first in list 0, and after each.
+fn three_stand<L: Ledger>(ring: &Ring, steps: &mut Steps<L>) -> bool
     requires { ring.now ≡ three_items }
 {
-    [
-        number(ring.first(0, steps)),
-        number(ring.next(Node(4), steps)),
-        number(ring.next(Node(6), steps)),
-        number(ring.next(Node(5), steps)),
-    ]
+    let first = is(ring.first(0, steps), 4);
+    let second = is(ring.next(Node(4), steps), 6);
+    let third = is(ring.next(Node(6), steps), 5);
+    let none = is(ring.next(Node(5), steps), 0);
+    first & second & third & none
 }
 
-/// Moves a node to list 1: the first of each list, and the one after it.
-fn one_moves<L: Ledger>(ring: &mut Ring, steps: &mut Steps<L>) -> [u32; 3]
+/// Moves a node to list 1. It answers whether the right one is first in each list, and none after it.
+fn one_moves<L: Ledger>(ring: &mut Ring, steps: &mut Steps<L>) -> bool
     requires { ring.old ≡ three_items }
     ensures { ring.new ≡ one_moved }
 {
     ring.shift(Node(4), 1, steps);
-    [
-        number(ring.first(0, steps)),
-        number(ring.first(1, steps)),
-        number(ring.next(Node(4), steps)),
-    ]
+    let first = is(ring.first(0, steps), 6);
+    let moved = is(ring.first(1, steps), 4);
+    let none = is(ring.next(Node(4), steps), 0);
+    first & moved & none
 }
 
 /// Unlinks a node: whether it and the moved one have their units.
@@ -94,20 +92,21 @@ fn one_goes<L: Ledger>(ring: &mut Ring, steps: &mut Steps<L>) -> bool
     moved == A && gone == C
 }
 
-/// The first node of list 0 and the one after it, and those after it once two more stand there.
-fn two_come<L: Ledger>(ring: &mut Ring, steps: &mut Steps<L>) -> [u32; 4]
+/// Whether one node is left on list 0, and the right ones are after it once two more stand there.
+fn two_come<L: Ledger>(ring: &mut Ring, steps: &mut Steps<L>) -> bool
     requires { ring.old ≡ one_gone }
 {
-    let first = number(ring.first(0, steps));
-    let none = number(ring.next(Node(5), steps));
+    let first = is(ring.first(0, steps), 5);
+    let none = is(ring.next(Node(5), steps), 0);
     if !comes(ring, A, 7, steps) {
-        return [0; 4];
+        return false;
     }
     if !comes(ring, C, 6, steps) {
-        return [0; 4];
+        return false;
     }
-    let next = number(ring.next(Node(5), steps));
-    [first, none, next, number(ring.next(Node(7), steps))]
+    let second = is(ring.next(Node(5), steps), 7);
+    let third = is(ring.next(Node(7), steps), 6);
+    first & none & second & third
 }
 
 /// Links, moves and unlinks nodes on an empty ring of four, and holds each list against what it must be.
@@ -122,10 +121,10 @@ fn counted<L: Ledger>(ring: &mut Ring, blank: Blank) -> [bool; 4]
         return [false; 4];
     }
     [
-        order_of_three(ring, steps) == [4, 6, 5, 0],
-        one_moves(ring, steps) == [6, 4, 0],
+        three_stand(ring, steps),
+        one_moves(ring, steps),
         one_goes(ring, steps),
-        two_come(ring, steps) == [5, 0, 7, 6],
+        two_come(ring, steps),
     ]
 }
 

@@ -1,7 +1,7 @@
 //! The history of a run of one free core, which stalls once.
 
 ghost use Rattle.std.specs.Prelude.{◌≡◌, IfOk};
-ghost use Rattle.leaf_trials.specs.Example.{stalling_book};
+ghost use Rattle.thread_trials.specs.Example.{stalling_book};
 
 use journal_core::Book;
 use sched_base::{Moment, NoMemory, ProcId, ResId, Span};
@@ -55,18 +55,23 @@ const FINISH: Entry = Entry {
     event: Event::Finish,
 };
 
-/// Commits the whole run: the moments before each entry and after the last, and whether the last has room.
-fn commit_all(book: &mut Book) -> ([u64; 4], bool)
+/// Commits the whole run. It answers whether each moment is the right one, and the last entry has room but no further one.
+fn commit_all(book: &mut Book) -> [bool; 5]
     requires { book.old ≡ stalling_book }
 {
-    let start = book.now().0;
+    let start = book.now().0 == 0;
     book.commit(END);
-    let later = book.now().0;
+    let later = book.now().0 == 3;
     book.commit(STALL);
-    let moment = book.now().0;
     let room_for_last = book.room_left();
     book.commit(FINISH);
-    ([start, later, moment, book.now().0], room_for_last)
+    [
+        start,
+        later,
+        room_for_last,
+        book.now().0 == 3,
+        !book.room_left(),
+    ]
 }
 
 /// Whether the book tells the whole run.
@@ -77,13 +82,11 @@ fn tells_all(book: &Book) -> bool {
 #[test]
 fn a_book_has_what_was_committed(rt: HostRuntime) -> Result<(), Fail> {
     let mut book = empty_book(rt.alloc())?;
-    let (moments, room_for_last) = commit_all(&mut book);
-    let room = book.room_left();
+    let right = commit_all(&mut book);
+    let numbers = book.limit() == 3 && book.decides(ResId(0)) == 0;
     let all = tells_all(&book);
-    let numbers = [book.len(), book.limit(), book.decides(ResId(0))];
     drop(book);
-    assert_eq!(rt; moments, [0, 3, 3, 3]);
-    assert_eq!(rt; [room_for_last, room, all], [true, false, true]);
-    assert_eq!(rt; numbers, [3, 3, 0]);
+    assert_eq!(rt; right, [true; 5]);
+    assert_eq!(rt; [numbers, all], [true; 2]);
     Ok(())
 }

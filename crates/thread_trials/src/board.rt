@@ -32,17 +32,17 @@ fn decide(at: u64, core: u8, unit: Option<u8>) -> Entry {
     }
 }
 
-/// The reader after a look, and what it saw.
-fn looked(reader: BoardReader) -> (BoardReader, Totals)
+/// The reader after a look, and how many entries it saw.
+fn looked(reader: BoardReader) -> (BoardReader, u64)
     ensures { result.0.cores ≡ reader.cores }
 {
     let mut reader = reader;
-    let totals = reader.look();
-    (reader, totals)
+    let entries = reader.look().entries;
+    (reader, entries)
 }
 
 /// Lets the reader look in a thread of its own.
-fn look_beside<R: Threads>(rt: &R, reader: BoardReader) -> (BoardReader, Totals)
+fn look_beside<R: Threads>(rt: &R, reader: BoardReader) -> (BoardReader, u64)
     ensures { result.0.cores ≡ reader.cores }
 {
     let (seen, _) = join(rt, move || looked(reader), || 0u8);
@@ -58,17 +58,24 @@ fn a_reader_sees_what_was_published(rt: HostRuntime) -> Result<(), Fail> {
     writer.publish(&rt);
     let (mut reader, published) = look_beside(&rt, reader);
     let told = writer.tell();
-    let news = told.totals();
+    let news = told.totals().entries;
     reader.learn(told);
     let (reader, learned) = look_beside(&rt, reader);
     writer.close(&rt);
-    let (_, after) = look_beside(&rt, reader);
+    let (reader, after) = look_beside(&rt, reader);
+    drop(reader);
+    drop(readers);
     added?;
     assert_eq!(rt;
-        (before.entries, published.entries, news.entries),
-        (0, 1, 1)
+        [
+            before == 0,
+            published == 1,
+            news == 1,
+            learned == 1,
+            after == 1
+        ],
+        [true; 5]
     );
-    assert_eq!(rt; (learned.entries, after.entries), (1, 1));
     Ok(())
 }
 
@@ -78,6 +85,23 @@ fn add_all(writer: &mut BoardWriter, alloc: Global, entries: &[Entry]) -> Result
         writer.add(alloc, e)?;
     }
     Ok(())
+}
+
+/// Whether the totals are those of the two cores below.
+fn are_of_two_cores(totals: &Totals) -> bool {
+    let first = CoreTotals {
+        run: Span(9),
+        idle: Span(11),
+        decides: 3,
+    };
+    let second = CoreTotals {
+        run: Span(5),
+        idle: Span(15),
+        decides: 2,
+    };
+    totals.entries == 7
+        && totals.moment.0 == 20
+        && totals.cores.as_slice() == [first, second].as_slice()
 }
 
 #[test]
@@ -95,21 +119,12 @@ fn the_totals_of_two_cores(rt: HostRuntime) -> Result<(), Fail> {
     ];
     let added = add_all(&mut writer, rt.alloc(), &entries);
     writer.publish(&rt);
-    let totals = reader.look();
+    let right = are_of_two_cores(&reader.look());
     writer.close(&rt);
+    drop(reader);
+    drop(readers);
     added?;
-    let first = CoreTotals {
-        run: Span(9),
-        idle: Span(11),
-        decides: 3,
-    };
-    let second = CoreTotals {
-        run: Span(5),
-        idle: Span(15),
-        decides: 2,
-    };
-    assert_eq!(rt; (totals.entries, totals.moment), (7, Moment(20)));
-    assert!(rt; totals.cores.as_slice() == [first, second].as_slice());
+    assert!(rt; right);
     Ok(())
 }
 
@@ -139,6 +154,11 @@ fn look_often(reader: &mut BoardReader, times: u32) -> bool {
     rises
 }
 
+/// Whether the totals are of so many entries, up to that moment.
+fn ends_at(totals: &Totals, entries: u64, moment: u64) -> bool {
+    totals.entries == entries && totals.moment.0 == moment
+}
+
 #[test]
 fn looks_beside_a_writer_never_go_back(rt: HostRuntime) -> Result<(), Fail> {
     let alloc = rt.alloc();
@@ -149,10 +169,11 @@ fn looks_beside_a_writer_never_go_back(rt: HostRuntime) -> Result<(), Fail> {
         &mut || write_each(&rt, &mut writer, alloc, 500),
         &mut || look_often(&mut reader, 500),
     );
-    let last = reader.look();
+    let last = ends_at(&reader.look(), 500, 499);
     writer.close(&rt);
+    drop(reader);
+    drop(readers);
     written?;
-    assert!(rt; rises);
-    assert_eq!(rt; (last.entries, last.moment), (500, Moment(499)));
+    assert_eq!(rt; [rises, last], [true; 2]);
     Ok(())
 }
