@@ -4,3 +4,4 @@ pub mod Performing
 pub mod Beginning
 pub mod Clock
 pub mod Quiet
+pub mod OrderedLemmas

@@ -1,1 +1,2 @@
 pub mod EngineState
+pub mod OrderedRun

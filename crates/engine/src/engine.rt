@@ -69,6 +69,9 @@ impl Engine {
         engine
     }
 
+    /// Gives back the memory of the engine.
+    pub fn close(self) {}
+
     /// The same, of a workload that the engine takes over.
     fn opened(alloc: Global, config: &Config, work: Work) -> Result<Engine, NoMemory>
         requires { IsChecked (record { config = config.now; work = work }) }

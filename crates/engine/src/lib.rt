@@ -7,5 +7,7 @@
 pub mod engine;
 pub mod keeping;
 mod opening;
+pub mod ordered;
 
 pub use engine::Engine;
+pub use ordered::Step;

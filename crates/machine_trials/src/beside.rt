@@ -9,33 +9,17 @@ use engine::Engine;
 use sched_base::NoMemory;
 use sched_check::checker::Checker;
 use sched_io::Store;
-use sched_model::event::{Entry, Event};
+use sched_model::event::Entry;
 use sched_model::machine::Machine;
 use std::alloc::Global;
 
 /// The most entries that a run of the engine has here.
 const MOST_ENTRIES: u32 = 1000;
 
-/// The engine's next event: that of the first action that may come, or the end of the moment or of the run where none may.
-fn next_event(engine: &mut Engine) -> Event {
-    match engine.first_enabled() {
-        Some(action) => engine.perform(action),
-        None => match engine.next_moment() {
-            Some(next) => {
-                engine.pass_to(next);
-                Event::End { next }
-            }
-            None => Event::Finish,
-        },
-    }
-}
-
 /// The engine's next entry, where the checker takes it: where the plain machine is at the same moment, has the same first action and does the same event, or
 /// ends the moment with the same next one.
 fn next_entry(engine: &mut Engine, checker: &mut Checker) -> Result<Entry, Stop> {
-    let at = engine.now();
-    let event = next_event(engine);
-    let entry = Entry { at, event };
+    let entry = engine.go_on().entry;
     match checker.step(&entry) {
         Ok(()) => Ok(entry),
         Err(_) => Err(Stop::Differ),
@@ -66,7 +50,7 @@ fn with_engine<R: Print>(
     match Engine::open(alloc, machine) {
         Ok(mut engine) => {
             let end = follow(rt, &mut engine, checker);
-            drop(engine);
+            engine.close();
             end
         }
         Err(NoMemory) => Err(Stop::NoMemory),
@@ -110,6 +94,6 @@ pub fn try_engine<R: Print, S: Store>(
 ) -> Result<(), Stop> {
     let mut checker = checker_of(alloc, domains, work, store)?;
     let end = run_beside(rt, alloc, domains, work, store, &mut checker);
-    drop(checker);
+    checker.close();
     end
 }

@@ -47,6 +47,6 @@ pub fn judge(alloc: Global, machine: Machine, book: &Book) -> Result<Judged, NoM
 {
     let mut checker = Checker::open(alloc, machine, false)?;
     let judged = judge_entries(&mut checker, book);
-    drop(checker);
+    checker.close();
     Ok(judged)
 }

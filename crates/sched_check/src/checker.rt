@@ -130,6 +130,9 @@ impl Checker {
         })
     }
 
+    /// Gives back the memory of the checker.
+    pub fn close(self) {}
+
     /// Takes the entry, where it may come next; else says why it may not, and stays as it was. It takes no memory.
     pub fn step(&mut self, e: &Entry) -> Result<(), NotStep>
         ensures verdict { result ≡ verdict_of self.old.machine self.old.ordered self.old.reached

@@ -101,6 +101,6 @@ pub fn judge(
 {
     let mut checker = Checker::open(alloc, machine, ordered)?;
     let verdict = judge_lines(&mut checker, schedule);
-    drop(checker);
+    checker.close();
     Ok(verdict)
 }
