@@ -14,7 +14,6 @@ use crate::numbering::{Actors, actors_of};
 use crate::serving::{Way, go_to_the_end};
 use crate::side_by_side::run_side_by_side;
 use crate::stop::{Stop, printed};
-use crate::watched::run_watched;
 use crate::workers::{passes_of_one_round, run_by_workers, run_crossing};
 use hall::{Hall, HallSeat};
 use journal_core::Book;
@@ -167,7 +166,6 @@ enum Runner {
     Threads(Way),
     Free,
     Crossing,
-    Watched,
 }
 
 impl Runner {
@@ -176,7 +174,6 @@ impl Runner {
         match name {
             "free" => Some(Runner::Free),
             "crossing" => Some(Runner::Crossing),
-            "watched" => Some(Runner::Watched),
             _ => None,
         }
     }
@@ -186,7 +183,6 @@ impl Runner {
         match self {
             Runner::Threads(_) | Runner::Free => "are whole runs",
             Runner::Crossing => "were crossed",
-            Runner::Watched => "are whole runs with a look for each moment",
         }
     }
 }
@@ -210,7 +206,6 @@ fn run_once<R: Threads + Wait + Sync>(
             Err(NoMemory) => Err(Stop::NoMemory),
         },
         Runner::Crossing => run_crossing(rt, alloc, hall, seat, actors),
-        Runner::Watched => run_watched(rt, alloc, hall, seat, actors, events),
     }
 }
 
@@ -237,6 +232,28 @@ fn goes_well<R: Threads + Wait + Sync>(
     }
 }
 
+/// Goes through a run of the machine of two files so many times. It answers how often that went well.
+fn count_well<R: Threads + Wait + Sync, S: Store>(
+    rt: &R,
+    alloc: Global,
+    store: &mut S,
+    runner: Runner,
+    files: (&str, &str),
+    events: u32,
+    times: u32,
+) -> Result<u32, Stop>
+    requires { (1 ≤ events) × (events ≤ 4000000) }
+{
+    let mut well = 0u32;
+    for _ in 0..times {
+        let machine = machine_of(alloc, files.0, files.1, store)?;
+        if goes_well(rt, alloc, machine, events, runner)? {
+            well = well.saturating_add(1);
+        }
+    }
+    Ok(well)
+}
+
 /// Goes through a run so many times, and prints how often that went well. The words are the two files of the machine, how many entries a book is to have room
 /// for, and how many times.
 fn try_runs<R: Threads + Wait + Sync + Print, S: Store>(
@@ -251,13 +268,8 @@ fn try_runs<R: Threads + Wait + Sync + Print, S: Store>(
     };
     let events = limit_of(events.as_str())?;
     let times: u32 = times.parse().unwrap_or(0);
-    let mut well = 0u32;
-    for _ in 0..times {
-        let machine = machine_of(alloc, domains.as_str(), work.as_str(), store)?;
-        if goes_well(rt, alloc, machine, events, runner)? {
-            well = well.saturating_add(1);
-        }
-    }
+    let files = (domains.as_str(), work.as_str());
+    let well = count_well(rt, alloc, store, runner, files, events, times)?;
     printed(println!(rt; "{well} of {times} {}", runner.told()))
 }
 

@@ -19,8 +19,7 @@
 //! of theirs has an event, and then a fifth seat takes a turn, over and over.
 //!
 //! `free DOMAINS WORK EVENTS TIMES` goes to the end of the run so many times with a worker for each processor, and prints how many of the histories the
-//! checker takes as whole runs. `watched DOMAINS WORK EVENTS TIMES` does the same with a board that is written and looked at beside the workers, and
-//! asks for a look for each moment too. `crossing DOMAINS WORK EVENTS TIMES` has a gate at which the processors 0 and 1 wait for each other, and prints
+//! checker takes as whole runs. `crossing DOMAINS WORK EVENTS TIMES` has a gate at which the processors 0 and 1 wait for each other, and prints
 //! how often both came. `round DOMAINS WORK EVENTS` has the workers act once each, in one thread, and prints how often they passed the gate.
 #![tactic(auto)]
 
@@ -37,7 +36,6 @@ mod seats;
 mod serving;
 mod side_by_side;
 mod stop;
-mod watched;
 mod workers;
 
 use lines::try_line;

@@ -39,8 +39,7 @@ pub fn run_by_workers<R: Threads + Wait + Sync, G: Gate + Sync>(
             Ok(book)
         }
         Err(e) => {
-            drop(seat);
-            drop(hall);
+            drop(hall.end(seat));
             Err(e)
         }
     }
@@ -91,8 +90,7 @@ pub fn passes_of_one_round<R: Threads + Wait + Sync>(
             Ok(gate.passes())
         }
         Err(e) => {
-            drop(seat);
-            drop(hall);
+            drop(hall.end(seat));
             Err(e)
         }
     }

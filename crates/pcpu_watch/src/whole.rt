@@ -90,9 +90,9 @@ pub fn watch_run<R: Threads + Wait + Sync, G: Gate + Sync>(
     ensures { IfOk result (λ r. IsWatched hall.opened r.0 (end_of r.1) r.2.items) }
 {
     let mut seat = seat;
-    match split_seats(alloc, &hall, &mut seat, processors) {
-        Ok((workers, scribe)) => match open_board(alloc, processors) {
-            Ok(board) => watch(
+    match open_board(alloc, processors) {
+        Ok(board) => match split_seats(alloc, &hall, &mut seat, processors) {
+            Ok((workers, scribe)) => watch(
                 rt,
                 alloc,
                 hall,
@@ -104,8 +104,10 @@ pub fn watch_run<R: Threads + Wait + Sync, G: Gate + Sync>(
                 gate,
             ),
             Err(e) => {
-                drop(seat);
-                drop(hall);
+                let (writer, reader) = board;
+                drop(reader);
+                writer.close(rt);
+                drop(hall.end(seat));
                 Err(e)
             }
         },
