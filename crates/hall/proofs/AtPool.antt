@@ -1,5 +1,5 @@
 -- An event of one pool, whose lock a seat holds beside the book.
-use Rattle.std.proofs.Common.{◌≡◌, ◌≢◌, ◌<◌, ◌&&◌, ◌-◌, ◌++◌, ◌∷◌, [], ℕ, true, List, Option, Some, None, refl, sym, ap, ◌∙◌, subst, arith, ap₂}
+use Rattle.std.proofs.Common.{◌≡◌, ◌≢◌, ◌<◌, ◌&&◌, ◌++◌, ◌∷◌, [], ℕ, true, List, Option, Some, None, refl, sym, ap, ◌∙◌, subst, arith, ap₂}
 use Rattle.std.specs.Prelude.{is_some}
 use mathlib.Core.Logic.{dite}
 use native.Mathlib.Decide.{ℕ_discrete}

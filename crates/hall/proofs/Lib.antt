@@ -14,3 +14,4 @@ pub mod Resting
 pub mod Turning
 pub mod UnderAll
 pub mod UnderOne
+pub mod Holds

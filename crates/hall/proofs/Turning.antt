@@ -1,5 +1,5 @@
 -- A turn of the whole machine, from what its steps tell.
-use Rattle.std.proofs.Common.{◌≡◌, ◌≢◌, ◌∙◌, zero, suc, ℕ, true, false, List, [], ◌∷◌, ◌++◌, length, replicate, IfErr, IsErr, IsErrAnd, Ok, Err, Result, true≢false, refl, sym, ap, subst, arith, ◌-◌}
+use Rattle.std.proofs.Common.{◌≡◌, ◌∙◌, zero, suc, ℕ, true, List, [], ◌∷◌, ◌++◌, length, replicate, IfErr, IsErr, IsErrAnd, Ok, Err, Result, true≢false, refl, sym, ap, subst, arith, ◌-◌}
 use Rattle.std.specs.Prelude.{Option, Some, None, option_map}
 use Rattle.std.proofs.lemmas.List.{length_push}
 use Rattle.sched_base.specs.Numbers.{moment}

@@ -1,5 +1,5 @@
 -- What the tool's call does under all locks, and whether a run is over.
-use Rattle.std.proofs.Common.{◌≡◌, ◌≢◌, ◌∙◌, ℕ, zero, suc, Bool, true, false, List, [], ◌∷◌, ◌++◌, length, refl, sym, ap, subst, arith, inl, inr, true≢false}
+use Rattle.std.proofs.Common.{◌≡◌, ◌∙◌, ℕ, zero, suc, Bool, true, false, List, [], ◌∷◌, ◌++◌, length, refl, sym, ap, subst, arith, inl, inr, true≢false}
 use Rattle.std.specs.Prelude.{◌↔◌, Option, Some, None, Result, Ok, Err, IfOk, IfErr, slice_get, if◌then◌else◌}
 use Rattle.std.proofs.lemmas.Bool.{cases_Bool}
 use Rattle.sched_base.specs.Numbers.{core, domain, processor}
@@ -8,7 +8,6 @@ use Rattle.sched_model.specs.declared.action.Action.TheVariants.{Arrive, DomMove
 use Rattle.sched_model.specs.declared.action.Actor.{Actor}
 use Rattle.sched_model.specs.declared.action.Actor.TheVariants.{Tool}
 use Rattle.sched_model.specs.declared.event.Entry.{Entry}
-use Rattle.sched_model.specs.declared.event.Event.{Event}
 use Rattle.sched_model.specs.declared.event.Event.TheVariants as event
 use Rattle.sched_model.specs.declared.machine.Machine.{Machine}
 use Rattle.sched_model.specs.declared.state.State.{State}

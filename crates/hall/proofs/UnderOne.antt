@@ -1,7 +1,7 @@
 -- What a seat settles for an actor of one pool, whose lock it holds beside the book, and what it does before and after.
 use mathlib.Core.Logic.{dite}
 use native.Mathlib.Decide.{ℕ_discrete, dec_lt}
-use Rattle.std.proofs.Common.{◌≡◌, ◌≢◌, ◌∙◌, ◌<◌, ◌/◌, ◌+◌, ◌-◌, ◌&&◌, ℕ, true, false, true≢false, List, [], length, refl, sym, ap, subst, arith}
+use Rattle.std.proofs.Common.{◌≡◌, ◌≢◌, ◌∙◌, ◌<◌, ◌/◌, ◌+◌, ◌-◌, ◌&&◌, ℕ, true, true≢false, List, [], length, refl, sym, ap, subst, arith}
 use Rattle.std.specs.Prelude.{Option, Some, None, is_some, nat_lt}
 use Rattle.std.specs.Option.{ForSome, IsSome}
 use Rattle.sched_base.specs.Numbers.{core, moment, processor}

@@ -5,3 +5,4 @@ pub mod SeatKnowledge
 pub mod Moves
 pub mod Turns
 pub mod BookTurns
+pub mod Holds

@@ -12,6 +12,7 @@ ghost use Rattle.actor_laws.specs.Actors.{has_actor};
 ghost use Rattle.pool_core.specs.Actors.{IsFirstBy};
 ghost use Rattle.lock_moves.specs.Plays.{Current};
 ghost use Rattle.lock_moves.specs.SeatSight.{find_lock};
+ghost use Rattle.lock_moves.specs.Sets.{HasName};
 ghost use Rattle.hall.specs.SeatKnowledge.{KnowsAll, KnowsPool};
 ghost use Rattle.hall.specs.Seats.{IsCountBefore, IsOf, IsSeatOf, SeatStays, Stays};
 ghost use Rattle.hall.specs.BookTurns.{DoneIn, HoldsOnly, IsNamed, Settles, SettlesFull};
@@ -162,14 +163,45 @@ impl Hall {
         ensures full { IfErr result (λ full. ActsFull actor full seat.old.view seat.new.view) }
     {
         let t = Moment(self.set.read_word(seat, WordId::Now));
-        gate.pass(who);
         let mut slot = slot;
-        let found = slot.enabled_for(actor, t);
-        let book = take_book(rt, &self.set, seat);
-        let done = self.settle(seat, book, &mut slot, lock.0, actor, found, t);
+        let done = self.act_held(rt, seat, lock, &mut slot, t, actor, who, gate);
         self.set
             .unlock(seat, Held::new(lock, PartState::Pool(slot)));
         done
+    }
+
+    /// The same, and the seat goes on holding the lock. The moment is t.
+    pub(crate) fn act_held<R: Wait, G: Gate>(
+        &self,
+        rt: &R,
+        seat: &mut LockSeat,
+        lock: LockId,
+        slot: &mut PoolSlot,
+        t: Moment,
+        actor: Actor,
+        who: u32,
+        gate: &G,
+    ) -> Result<(Done, u32), Full>
+        requires of { IsSeatOf self.now seat.old }
+        requires number { lock.0 < 16 }
+        requires only { HoldsOnly lock.0 seat.old.view }
+        requires knows { KnowsPool lock.0 slot.old seat.old.view }
+        requires some { IsSome slot.old }
+        requires actor { ForSome slot.old (λ seen. has_actor seen.granularity seen.pool actor
+            ≡ true) }
+        requires now { t.0 ≡ seat.old.view.now }
+        ensures stays { SeatStays seat.old seat.new }
+        ensures only { HoldsOnly lock.0 seat.new.view }
+        ensures knows { KnowsPool lock.0 slot.new seat.new.view }
+        ensures names { (n : ℕ) → HasName lock.0 n seat.old.view → HasName lock.0 n seat.new.view }
+        ensures now { seat.new.view.now ≡ seat.old.view.now }
+        ensures done { IfOk result (λ r. DoneIn actor r.0 r.1 seat.old.view seat.new.view) }
+        ensures full { IfErr result (λ full. ActsFull actor full seat.old.view seat.new.view) }
+    {
+        gate.pass(who);
+        let found = slot.enabled_for(actor, t);
+        let book = take_book(rt, &self.set, seat);
+        self.settle(seat, book, slot, lock.0, actor, found, t)
     }
 
     /// How often the core of an arriving processor has decided in the book's history, where the action is an arrival.
@@ -208,6 +240,7 @@ impl Hall {
         requires found { ForSome slot.old
             (λ seen. IsFirstBy seen.granularity t.0 seen.pool actor found) }
         ensures knows { KnowsPool i slot.new seat.new.view }
+        ensures names { (n : ℕ) → HasName i n seat.old.view → HasName i n seat.new.view }
         ensures others { KeepsOthers i seat.old.view seat.new.view }
         ensures stays { SeatStays seat.old seat.new }
         ensures done { IfOk result (λ r. Settles actor r.0 r.1 book seat.old seat.new) }

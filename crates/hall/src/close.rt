@@ -16,6 +16,7 @@ use crate::act::is_over;
 use crate::all::{AllParts, put_all, take_all};
 use crate::book::{put_book, take_book};
 use crate::hall::Hall;
+use crate::hints::{Hints, hints_behind};
 use crate::seat::{HallSeat, arrived_after};
 use crate::turns::{Full, Turn};
 use crate::whole::{end_moment, finish, perform};
@@ -39,19 +40,60 @@ impl Hall {
             TurnsFull full seat.old.sitting.view seat.new.sitting.view) }
         ensures kept { IfErr result (λ full. seat.new.arrived ≡ seat.old.arrived) }
     {
-        let mut all = take_all(rt, &self.set, &mut seat.seat);
-        let book = take_book(rt, &self.set, &mut seat.seat);
-        let done = self.turn(&mut seat.seat, book, &mut all);
-        put_all(&self.set, &mut seat.seat, all);
-        let (turn, decides) = done?;
-        if let Turn::Stepped { event, .. } = turn {
-            seat.arrived = arrived_after(seat.arrived, event, decides);
-        }
+        let (turn, _) = self.turn_all(rt, seat, false)?;
         Ok(turn)
     }
 
+    /// The same, with hints for the moment that follows where this one was ended, and none else.
+    pub fn close_and_look<R: Wait>(
+        &self,
+        rt: &R,
+        seat: &mut HallSeat,
+    ) -> Result<(Turn, Hints), Full>
+        requires of { IsOf self.now seat.old }
+        ensures stays { Stays seat.old seat.new }
+        ensures turn { IfOk result (λ r. IsTurn r.0 seat.old seat.new) }
+        ensures full { IfErr result (λ full.
+            TurnsFull full seat.old.sitting.view seat.new.sitting.view) }
+        ensures kept { IfErr result (λ full. seat.new.arrived ≡ seat.old.arrived) }
+    {
+        self.turn_all(rt, seat, true)
+    }
+
+    /// The same, with hints where they are asked for.
+    fn turn_all<R: Wait>(
+        &self,
+        rt: &R,
+        seat: &mut HallSeat,
+        looks: bool,
+    ) -> Result<(Turn, Hints), Full>
+        requires of { IsOf self.now seat.old }
+        ensures stays { Stays seat.old seat.new }
+        ensures turn { IfOk result (λ r. IsTurn r.0 seat.old seat.new) }
+        ensures full { IfErr result (λ full.
+            TurnsFull full seat.old.sitting.view seat.new.sitting.view) }
+        ensures kept { IfErr result (λ full. seat.new.arrived ≡ seat.old.arrived) }
+    {
+        let mut all = take_all(rt, &self.set, &mut seat.seat);
+        let book = take_book(rt, &self.set, &mut seat.seat);
+        match self.turn(&mut seat.seat, book, &mut all) {
+            Ok((turn, decides)) => {
+                let hints = hints_behind(turn, all.slots.as_slice(), self.granularity, looks);
+                put_all(&self.set, &mut seat.seat, all);
+                if let Turn::Stepped { event, .. } = turn {
+                    seat.arrived = arrived_after(seat.arrived, event, decides);
+                }
+                Ok((turn, hints))
+            }
+            Err(full) => {
+                put_all(&self.set, &mut seat.seat, all);
+                Err(full)
+            }
+        }
+    }
+
     /// Adds the next entry of the run to the book, or puts the book back as it was.
-    fn turn(
+    pub(crate) fn turn(
         &self,
         seat: &mut LockSeat,
         book: HeldBook,

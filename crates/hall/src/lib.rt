@@ -10,6 +10,8 @@ mod all;
 mod book;
 mod close;
 mod hall;
+mod hints;
+mod hold;
 mod parts;
 mod pools;
 mod seat;
@@ -18,6 +20,8 @@ mod value;
 mod whole;
 
 pub use hall::Hall;
+pub use hints::Hints;
+pub use hold::Acted;
 pub use seat::{Arrival, HallSeat};
 pub use turns::{Done, Full, Turn, Waits};
 pub use value::{PartState, ToolKept};

@@ -1,11 +1,12 @@
 //! An event of the pool under one lock, while the book is in the seat's hands.
 
-ghost use Rattle.std.specs.Prelude.{◌≡◌, ◌<◌, true, Some, length};
+ghost use Rattle.std.specs.Prelude.{◌≡◌, ◌<◌, ℕ, true, Some, length};
 ghost use Rattle.sched_model.specs.Actions.{IsOfPool, home_of};
 ghost use Rattle.sched_model.specs.Machine.{event_of, is_enabled};
 ghost use Rattle.pool_slots.specs.Places.{GoesOn, state_of};
 ghost use Rattle.pool_slots.specs.Told.{told_of};
 ghost use Rattle.lock_moves.specs.Plays.{Current};
+ghost use Rattle.lock_moves.specs.Sets.{HasName};
 ghost use Rattle.hall.specs.SeatKnowledge.{KnowsPool};
 ghost use Rattle.hall.specs.Steps.{HasBook, HasEntered, KeepsOthers};
 
@@ -44,6 +45,7 @@ pub(crate) fn perform_at(
         (state_of (told_of book)).now action }
     ensures entered { HasEntered book (record { at = t; event = result }) seat.old seat.new }
     ensures knows { KnowsPool i slot.new seat.new.view }
+    ensures names { (n : ℕ) → HasName i n seat.old.view → HasName i n seat.new.view }
     ensures others { KeepsOthers i seat.old.view seat.new.view }
 {
     let trail = Trail::of(book.get());

@@ -1,6 +1,6 @@
 //! Entries, and the answers of the calls of a hall, printed.
 
-use hall::{Done, Full, Turn, Waits};
+use hall::{Acted, Done, Full, Turn, Waits};
 use sched_base::Moment;
 use sched_model::event::{Entry, Event};
 use sched_print::{LineBuf, put_entry};
@@ -47,6 +47,21 @@ pub fn put_done<R: Print>(rt: &R, answer: Result<Done, Full>) -> io::Result<()> 
     match answer {
         Ok(Done::Event { place, event }) => print!(rt; "place {place}: {}", EventText(event)),
         Ok(Done::Nothing) => print!(rt; "nothing"),
+        Err(full) => print!(rt; "full {}", full.events),
+    }
+}
+
+/// Prints an answer of `act_all`.
+pub fn put_acted<R: Print>(rt: &R, answer: Result<Acted, Full>) -> io::Result<()> {
+    match answer {
+        Ok(
+            Acted {
+                count,
+                first: Some(place),
+                ..
+            },
+        ) => print!(rt; "{count} from place {place}"),
+        Ok(Acted { count, .. }) => print!(rt; "{count}"),
         Err(full) => print!(rt; "full {}", full.events),
     }
 }

@@ -4,7 +4,7 @@ ghost use Rattle.std.specs.Prelude.{◌≡◌};
 ghost use Rattle.hall.specs.Seats.{IsOf};
 ghost use Rattle.machine_trials.specs.TrialSeats.{AreActors};
 
-use crate::answers::{put_done, put_found, put_turn, put_waits};
+use crate::answers::{put_acted, put_done, put_found, put_turn, put_waits};
 use crate::counting::CountingGate;
 use crate::numbering::Actors;
 use crate::seats::{split_off, take_in};
@@ -20,6 +20,7 @@ use std::sync::Wait;
 #[derive(Clone, Copy)]
 enum Call {
     Act(Actor),
+    ActAll(Actor),
     Close,
     Waits(ProcId),
     Entry(u32),
@@ -30,6 +31,8 @@ fn call_for(word: &str, n: u8) -> Option<Call> {
     match word {
         "proc" => Some(Call::Act(Actor::Proc(ProcId(n)))),
         "dom" => Some(Call::Act(Actor::Dom(DomId(n)))),
+        "all-proc" => Some(Call::ActAll(Actor::Proc(ProcId(n)))),
+        "all-dom" => Some(Call::ActAll(Actor::Dom(DomId(n)))),
         "waits" => Some(Call::Waits(ProcId(n))),
         _ => None,
     }
@@ -67,6 +70,28 @@ fn act<R: Wait + Print>(
     }
 }
 
+/// Does all that the actor, a processor or a domain, may do now, where the machine has it, and prints the answer.
+fn act_all<R: Wait + Print>(
+    rt: &R,
+    hall: &Hall,
+    actors: Actors,
+    seat: &mut HallSeat,
+    actor: Actor,
+    gate: &CountingGate,
+) -> io::Result<()>
+    requires of { IsOf hall.now seat.old }
+    requires actors { AreActors hall.now.opened.input.config actors }
+    ensures of { IsOf hall.now seat.new }
+    ensures parts { seat.new.sitting.view.shares ≡ seat.old.sitting.view.shares }
+{
+    match actor {
+        Actor::Proc(_) | Actor::Dom(_) if actors.has(actor) => {
+            put_acted(rt, hall.act_all(rt, seat, actor, gate))
+        }
+        _ => print!(rt; "no actor"),
+    }
+}
+
 /// Does the call that the text names, and prints the answer.
 fn make_call<R: Wait + Print>(
     rt: &R,
@@ -83,6 +108,7 @@ fn make_call<R: Wait + Print>(
 {
     match read_call(text) {
         Some(Call::Act(actor)) => act(rt, hall, actors, seat, actor, gate),
+        Some(Call::ActAll(actor)) => act_all(rt, hall, actors, seat, actor, gate),
         Some(Call::Close) => put_turn(rt, hall.close_or_step(rt, seat)),
         Some(Call::Waits(p)) => put_waits(rt, hall.still_waits(seat, p)),
         Some(Call::Entry(i)) => put_found(rt, hall.entry(rt, seat, i)),

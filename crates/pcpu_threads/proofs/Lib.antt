@@ -1,3 +1,4 @@
 pub mod Counting
 pub mod Turning
 pub mod Working
+pub mod Serving

@@ -1,6 +1,6 @@
 //! The end of a run: the workers are joined, and the seat that is left goes on alone.
 
-ghost use Rattle.std.specs.Prelude.{◌≡◌, ◌+◌, IfSome};
+ghost use Rattle.std.specs.Prelude.{◌≡◌, ◌+◌, [], IfSome, vec_capacity};
 ghost use Rattle.std.specs.List.{All};
 ghost use mathlib.Core.List.{IsPrefix};
 ghost use Rattle.sched_model.specs.Runs.{IsRun, IsWholeRun};
@@ -36,6 +36,22 @@ fn close_all<R: Wait>(rt: &R, hall: &Hall, seat: &mut HallSeat) -> RunEnd
     unreachable!()
 }
 
+/// Joins the workers to the seat, which takes in their parts, their own places and the longest front. The list is empty then, with the room that it had.
+pub(crate) fn take_in(hall: &Hall, seat: &mut HallSeat, workers: &mut Vec<HallSeat>)
+    requires of { IsOf hall.now seat.old }
+    requires workers { All (IsOf hall.now) workers.old.items }
+    ensures joined { seat.new ≡ all_taken_in workers.old.items seat.old }
+    ensures of { IsOf hall.now seat.new }
+    ensures shares { seat.new.sitting.view.shares
+        ≡ seat.old.sitting.view.shares + shares_of workers.old.items }
+    ensures empty { workers.new.items ≡ [] }
+    ensures room { vec_capacity workers.new ≡ vec_capacity workers.old }
+{
+    while let Some(worker) = workers.pop() {
+        hall.join(seat, worker);
+    }
+}
+
 /// Joins the workers to the seat, which takes in their parts, their own places and the longest front.
 pub fn join_all(hall: &Hall, seat: &mut HallSeat, workers: Vec<HallSeat>)
     requires of { IsOf hall.now seat.old }
@@ -46,9 +62,7 @@ pub fn join_all(hall: &Hall, seat: &mut HallSeat, workers: Vec<HallSeat>)
         ≡ seat.old.sitting.view.shares + shares_of workers.items }
 {
     let mut workers = workers;
-    while let Some(worker) = workers.pop() {
-        hall.join(seat, worker);
-    }
+    take_in(hall, seat, &mut workers);
 }
 
 /// Goes on with the run by the one seat that is left, turn by turn of the whole machine, until the run is over or the book is full, and answers the

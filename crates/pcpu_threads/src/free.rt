@@ -5,9 +5,9 @@ ghost use Rattle.sched_model.specs.Runs.{IsRun, IsWholeRun};
 ghost use Rattle.pcpu_threads.specs.Ends.{IsCutOff};
 ghost use Rattle.pcpu_threads.specs.Workers.{AreWorkers};
 
-use crate::closing::{close_down, join_all, take_turn};
+use crate::closing::{close_down, join_all};
+use crate::crew::run_crew;
 use crate::ends::RunEnd;
-use crate::workers::work_all;
 use hall::{Hall, HallSeat};
 use journal_core::Book;
 use sched_io::Gate;
@@ -22,29 +22,6 @@ pub fn threads_for<R: Threads>(rt: &R) -> usize
     match available_parallelism(rt) {
         Ok(processors) => processors.get().max(2),
         Err(_) => 2,
-    }
-}
-
-/// Round by round: the workers side by side, and then a turn of the whole machine by the caller, until the run is over or the book is full.
-fn run_moments<R: Threads + Wait + Sync, G: Gate + Sync>(
-    rt: &R,
-    hall: &Hall,
-    seat: &mut HallSeat,
-    workers: &mut [HallSeat],
-    domains: u8,
-    threads: usize,
-    gate: &G,
-)
-    requires workers { AreWorkers hall.now seat.old workers.old }
-    requires domains { domains ≡ length hall.now.opened.input.config.domains }
-    requires threads { 0 < threads }
-    ensures { AreWorkers hall.now seat.new workers.new }
-{
-    for _ in rt.forever() {
-        work_all(rt, hall, workers, domains, threads, gate);
-        if take_turn(rt, hall, seat).is_some() {
-            break;
-        }
     }
 }
 
@@ -72,15 +49,7 @@ pub fn run_free<R: Threads + Wait + Sync, G: Gate + Sync>(
     let mut seat = seat;
     let mut workers = workers;
     let threads = threads_for(rt);
-    run_moments(
-        rt,
-        &hall,
-        &mut seat,
-        workers.as_mut_slice(),
-        domains,
-        threads,
-        gate,
-    );
+    run_crew(rt, &hall, domains, threads, gate, &mut seat, &mut workers);
     join_all(&hall, &mut seat, workers);
     close_down(rt, hall, seat)
 }

@@ -4,9 +4,11 @@
 #![tactic(auto)]
 
 mod closing;
+mod crew;
 mod ends;
 mod free;
 mod ordered;
+mod pulse;
 mod workers;
 
 pub use closing::{close_down, join_all};

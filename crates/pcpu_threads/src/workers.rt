@@ -7,6 +7,7 @@ ghost use Rattle.hall.specs.Seats.{IsOf, Stays};
 ghost use Rattle.hall.specs.Turns.{is_actor};
 ghost use Rattle.pcpu_threads.specs.Workers.{ActsAs, AllWorked, AreWorkers, HasWorked, IsFirstOfCore, IsNew, MayWork, OneEach, Rested, SeesSame, lessened_by, shares_of};
 
+use crate::crew::MOST_ROWS;
 use hall::{Done, Hall, HallSeat, Waits};
 use sched_base::{DomId, NoMemory, ProcId};
 use sched_io::Gate;
@@ -33,7 +34,7 @@ pub fn split_workers(
     ensures seat { IfOk result (λ workers. seat.new ≡ lessened_by processors seat.old) }
     ensures refused { IfErr result (λ e. seat.new ≡ seat.old) }
 {
-    let mut workers = Vec::with_capacity(alloc, usize::from(processors))?;
+    let mut workers = Vec::with_capacity(alloc, MOST_ROWS * (usize::from(processors) + 1))?;
     for _ in 0..processors {
         workers.push_reserved(hall.split(seat));
     }

@@ -3,7 +3,6 @@ use Rattle.sched_model.specs.CheckedMachine.{IsChecked}
 use Rattle.journal_core.specs.Histories.{state_at}
 use Rattle.machine_parts.proofs.Performing.{first-comes}
 use Rattle.lock_moves.specs.Sets.{LockTable}
-use Rattle.hall.specs.declared.turns.Full.{Full}
 use Rattle.hall.specs.declared.turns.Turn.{Turn}
 use Rattle.hall.specs.declared.turns.Turn.TheVariants as turn
 use Rattle.hall.specs.BookTurns.{Turns, TurnIn}
@@ -12,27 +11,26 @@ use Rattle.hall.specs.Turns.{IsTurn, TurnsFull}
 use Rattle.hall.proofs.Calls.{call-stays, filled-held, turned-held}
 use Rattle.hall.proofs.Parting.{knows-taken}
 use Rattle.hall.proofs.Processors.{arrived-inside}
-use Rattle.hall.proofs.Turning.{err-says, is-step, is-turn, stays-turned}
-use Rattle.hall.proofs.hall.Hall.close_or_step.Goals as goal
+use Rattle.hall.proofs.Turning.{is-step, is-turn, stays-turned}
+use Rattle.hall.proofs.hall.Hall.turn_all.Goals as goal
 
-pub turn-done-requires-clause-knows : goal.turn-done-requires-clause-knows
-turn-done-requires-clause-knows g c = knows-taken c.take_all-all.result c.take_all-all.new.seat.view c.take_book-book.new.seat.view c.take_book-book.ensures.sees.input c.take_book-book.ensures.locks c.take_book-book.ensures.still c.take_all-all.ensures.knows
+pub turn-requires-clause-knows : goal.turn-requires-clause-knows
+turn-requires-clause-knows g c = knows-taken c.take_all-all.result c.take_all-all.new.seat.view c.take_book-book.new.seat.view c.take_book-book.ensures.sees.input c.take_book-book.ensures.locks c.take_book-book.ensures.still c.take_all-all.ensures.knows
 
-pub returns-in_err-turn-clause-full : goal.returns-in_err-turn-clause-full
-returns-in_err-turn-clause-full g c =
+pub returns-in-Err-clause-full : goal.returns-in-Err-clause-full
+returns-in-Err-clause-full g c =
     let s0 = c.seat.inside.seat in
-    let s4 = c.put_all.new.seat in
+    let s4 = c.put_all-in-Err.new.seat in
     let book = c.take_book-book.ensures in
     let opened = ap (λ (x : Seated). x.sitting.view.input) c.seat.view_is ∙ c.requires.of.input in
     let checked = subst (λ (x : LockTable). IsChecked x.opened.input) c.self.view_is c.self.invariant.checked in
-    let full = c.in_err-turn.field-0.0 in
+    let full = c.in-Err.full in
     let told : TurnsFull full s0.view s4.view =
-    filled-held c.self.inside.set c.args.self.now c.take_book-book.result s0 c.take_all-all.new.seat c.take_book-book.new.seat c.turn-done.new.seat s4 c.take_all-all.ensures.keeps book.sees book.has book.current c.put_all.ensures.keeps opened checked full c.in_err-turn.ensures.full in
-    err-says (λ (x : Full). TurnsFull x c.args.seat.now.sitting.view s4.view) c.from_residual.result full c.from_residual.ensures.0 c.from_residual.ensures.1
-    (subst (λ (x : Seated). TurnsFull full x.sitting.view s4.view) c.seat.view_is told)
+    filled-held c.self.inside.set c.args.self.now c.take_book-book.result s0 c.take_all-all.new.seat c.take_book-book.new.seat c.turn.new.seat s4 c.take_all-all.ensures.keeps book.sees book.has book.current c.put_all-in-Err.ensures.keeps opened checked full c.in-Err.ensures.full in
+    subst (λ (x : Seated). TurnsFull full x.sitting.view s4.view) c.seat.view_is told
 
-pub invariant_of-seat-in-Stepped : goal.invariant_of-seat-in-Stepped
-invariant_of-seat-in-Stepped g c =
+pub invariant_of-seat : goal.invariant_of-seat
+invariant_of-seat g c =
     let s0 = c.seat.inside.seat in
     let s4 = c.put_all.new.seat in
     let book = c.take_book-book.ensures in
@@ -40,11 +38,11 @@ invariant_of-seat-in-Stepped g c =
     let checked = subst (λ (x : LockTable). IsChecked x.opened.input) c.self.view_is c.self.invariant.checked in
     let place = c.in-Stepped.place in
     let e = c.in-Stepped.event in
-    let decides = c.in_ok-turn.decides in
-    let settled : Turns (turn.Stepped place e) decides c.take_book-book.result c.take_book-book.new.seat c.turn-done.new.seat =
-    subst (λ (t : Turn). Turns t decides c.take_book-book.result c.take_book-book.new.seat c.turn-done.new.seat) c.in-Stepped.is c.in_ok-turn.ensures.turn in
+    let decides = c.in-Ok.decides in
+    let settled : Turns (turn.Stepped place e) decides c.take_book-book.result c.take_book-book.new.seat c.turn.new.seat =
+    subst (λ (t : Turn). Turns t decides c.take_book-book.result c.take_book-book.new.seat c.turn.new.seat) c.in-Stepped.is c.in-Ok.ensures.turn in
     let told : TurnIn (turn.Stepped place e) decides s0.view s4.view =
-    turned-held c.self.inside.set c.args.self.now c.take_book-book.result s0 c.take_all-all.new.seat c.take_book-book.new.seat c.turn-done.new.seat s4 c.take_all-all.ensures.keeps book.sees book.has book.current c.put_all.ensures.keeps opened checked (turn.Stepped place e) decides settled in
+    turned-held c.self.inside.set c.args.self.now c.take_book-book.result s0 c.take_all-all.new.seat c.take_book-book.new.seat c.turn.new.seat s4 c.take_all-all.ensures.keeps book.sees book.has book.current c.put_all.ensures.keeps opened checked (turn.Stepped place e) decides settled in
     record {
       nothing = c.put_all.ensures.nothing;
       processor = arrived-inside s0.view s4.view place e told.0 (subst IsChecked (sym opened) checked) told.1.added told.1.action (first-comes s0.view.input (state_at s0.view.input told.0) told.1.action told.1.first) told.1.is_event
@@ -60,11 +58,11 @@ returns-in-Stepped-clause-turn g c =
     let checked = subst (λ (x : LockTable). IsChecked x.opened.input) c.self.view_is c.self.invariant.checked in
     let place = c.in-Stepped.place in
     let e = c.in-Stepped.event in
-    let decides = c.in_ok-turn.decides in
-    let settled : Turns (turn.Stepped place e) decides c.take_book-book.result c.take_book-book.new.seat c.turn-done.new.seat =
-    subst (λ (t : Turn). Turns t decides c.take_book-book.result c.take_book-book.new.seat c.turn-done.new.seat) c.in-Stepped.is c.in_ok-turn.ensures.turn in
+    let decides = c.in-Ok.decides in
+    let settled : Turns (turn.Stepped place e) decides c.take_book-book.result c.take_book-book.new.seat c.turn.new.seat =
+    subst (λ (t : Turn). Turns t decides c.take_book-book.result c.take_book-book.new.seat c.turn.new.seat) c.in-Stepped.is c.in-Ok.ensures.turn in
     let told : TurnIn (turn.Stepped place e) decides s0.view s4.view =
-    turned-held c.self.inside.set c.args.self.now c.take_book-book.result s0 c.take_all-all.new.seat c.take_book-book.new.seat c.turn-done.new.seat s4 c.take_all-all.ensures.keeps book.sees book.has book.current c.put_all.ensures.keeps opened checked (turn.Stepped place e) decides settled in
+    turned-held c.self.inside.set c.args.self.now c.take_book-book.result s0 c.take_all-all.new.seat c.take_book-book.new.seat c.turn.new.seat s4 c.take_all-all.ensures.keeps book.sees book.has book.current c.put_all.ensures.keeps opened checked (turn.Stepped place e) decides settled in
     let new : Seated = record { sitting = s4; arrived = c.arrived_after-seat-inside.result } in
     subst (λ (x : Seated). IsTurn (turn.Stepped place e) x new) c.seat.view_is
     (is-step place e decides (record { sitting = s0; arrived = c.seat.inside.arrived }) new told (λ before counted. c.arrived_after-seat-inside.ensures s0.view.input.config.granularity before counted))
@@ -75,16 +73,16 @@ returns-in_default g c =
     let s0 = c.seat.inside.seat in
     let s1 = c.take_all-all.new.seat in
     let s2 = c.take_book-book.new.seat in
-    let s3 = c.turn-done.new.seat in
+    let s3 = c.turn.new.seat in
     let s4 = c.put_all.new.seat in
     let took = c.take_all-all.ensures.keeps in
     let gave = c.put_all.ensures.keeps in
     let book = c.take_book-book.ensures in
     let opened = ap (λ (x : Seated). x.sitting.view.input) c.seat.view_is ∙ c.requires.of.input in
     let checked = subst (λ (x : LockTable). IsChecked x.opened.input) c.self.view_is c.self.invariant.checked in
-    let t = c.in_ok-turn.turn in
-    let decides = c.in_ok-turn.decides in
-    let settled : Turns t decides b s2 s3 = c.in_ok-turn.ensures.turn in
+    let t = c.in-Ok.turn in
+    let decides = c.in-Ok.decides in
+    let settled : Turns t decides b s2 s3 = c.in-Ok.ensures.turn in
     let told : TurnIn t decides s0.view s4.view = turned-held c.self.inside.set c.args.self.now b s0 s1 s2 s3 s4 took book.sees book.has book.current gave opened checked t decides settled in
     let new : Seated = record { sitting = s4; arrived = c.seat.inside.arrived } in
     record {

@@ -1,0 +1,103 @@
+use Rattle.std.proofs.Common.{◌≡◌, ◌≢◌, ◌∙◌, ◌<◌, [], ℕ, true, refl, sym, subst, arith}
+use Rattle.std.specs.Prelude.{Ok}
+use Rattle.sched_model.specs.CheckedMachine.{IsChecked}
+use Rattle.journal_core.specs.Parts.{lists, tool_lock, tool_part}
+use Rattle.lock_moves.specs.Plays.{IsPartOfSome}
+use Rattle.lock_moves.specs.Sets.{IsAsKnown, LockTable, sitting_with}
+use Rattle.lock_moves.specs.SeatSight.{after_give}
+use Rattle.lock_moves.specs.Words.{name_number}
+use Rattle.hall.specs.declared.turns.Done.TheVariants as done
+use Rattle.hall.specs.declared.value.PartState.{PartState}
+use Rattle.hall.specs.declared.value.PartState.TheVariants.{Pool, Tool}
+use Rattle.hall.specs.BookTurns.{DoneIn}
+use Rattle.hall.specs.Holds.{seated}
+use Rattle.hall.specs.Steps.{KeepsSight}
+use Rattle.hall.specs.Values.{part_of_value}
+use Rattle.hall.proofs.Calls.{call-stays, done-held, kept-stays}
+use Rattle.hall.proofs.Holds.{gone-only, held-filled, held-said}
+use Rattle.hall.proofs.Locking.{gave_keeps, keeps_same}
+use Rattle.hall.proofs.Parting.{as-known}
+use Rattle.hall.proofs.UnderOne.{free-settles, keeps-all, lock-of-pool, lock-of-tool, only-gone, sought-keeps, sought-known, sought-only}
+use Rattle.hall.proofs.hall.Hall.hold_for.Goals as goal
+
+pub act_on-acted-requires-clause-number : goal.act_on-acted-requires-clause-number
+act_on-acted-requires-clause-number g c =
+    let is : c.lock_of-held.result.value ≡ Pool c.in-Pool.slot = sym c.into_value.ensures ∙ c.in-Pool.is in
+    let low : c.lock_of-held.result.lock < 16 = lock-of-pool c.lock_of-held.result.lock c.in-Pool.slot c.args.seat.now.view c.lock_of-held.ensures.number
+    (subst (λ (x : PartState). IsPartOfSome c.lock_of-held.result.lock (part_of_value x) c.args.seat.now.view) is c.lock_of-held.ensures.state) in
+    subst (λ (k : ℕ). k < 16) (sym c.lock-lock.ensures) low
+
+pub returns-in-Tool-clause-nothing : goal.returns-in-Tool-clause-nothing
+returns-in-Tool-clause-nothing g c =
+    let k : ℕ = c.lock_of-held.result.lock in
+    let t = c.lock_of-held.ensures.taken in
+    only-gone k c.lock_of-held.new.seat c.take_book-book.new.seat c.put_book.new.seat c.unlock.new.seat
+    (sought-only k (part_of_value c.lock_of-held.result.value) t.0 t.1 c.args.seat.now c.lock_of-held.new.seat t.2)
+    c.take_book-book.ensures.locks (keeps-all k c.take_book-book.new.seat.view c.put_book.new.seat.view c.put_book.ensures.locks)
+    (subst (λ (j : ℕ). c.unlock.new.seat ≡ sitting_with c.put_book.new.seat (after_give j c.put_book.new.seat.view)) (c.new.ensures.lock ∙ c.lock-lock.ensures) c.unlock.ensures)
+
+pub returns-in-Tool-clause-all : goal.returns-in-Tool-clause-all
+returns-in-Tool-clause-all g c =
+    let hall = c.args.self.now in
+    let actor = c.args.holder.actor in
+    let k : ℕ = c.lock_of-held.result.lock in
+    let t = c.lock_of-held.ensures.taken in
+    let s0 = c.args.seat.now in
+    let s1 = c.lock_of-held.new.seat in
+    let s2 = c.take_book-book.new.seat in
+    let s3 = c.put_book.new.seat in
+    let s4 = c.unlock.new.seat in
+    let part = c.in-Tool.kept.value.tool.part in
+    let is : c.lock_of-held.result.value ≡ Tool c.in-Tool.kept = sym c.into_value.ensures ∙ c.in-Tool.is in
+    let last : k ≡ 16 = lock-of-tool k part s0.view c.lock_of-held.ensures.number (subst (λ (x : PartState). IsPartOfSome k (part_of_value x) s0.view) is c.lock_of-held.ensures.state) in
+    let took = sought-keeps k (part_of_value c.lock_of-held.result.value) t.0 t.1 s0 s1 t.2 in
+    let known : IsAsKnown 16 (tool_part part) s1.view = subst (λ (n : ℕ). IsAsKnown n (tool_part part) s1.view) last
+    (subst (λ (x : PartState). IsAsKnown k (part_of_value x) s1.view) is (sought-known k (part_of_value c.lock_of-held.result.value) t.0 t.1 s0 s1 t.2)) in
+    let book = c.take_book-book.ensures in
+    let checked = (subst (λ (x : LockTable). IsChecked x.opened.input) c.self.view_is c.self.invariant.checked) in
+    let apart : 16 ≢ 17 = λ e. omega (arith, e) in
+    let gave = gave_keeps c.new.result.lock s3 s4 c.unlock.ensures in
+    let told : DoneIn actor done.Nothing 0 s0.view s4.view = done-held _ hall c.take_book-book.result s0 s1 s2 s3 s4 took book.sees book.has book.current
+    gave c.requires.of.input checked actor (Ok (done.Nothing, 0))
+    (free-settles _ hall c.take_book-book.result s2 book.has book.current checked (book.has.input ∙ book.sees.input ∙ took.input ∙ c.requires.of.input) part
+    (as-known tool_lock (tool_part part) s1.view s2.view (book.locks 16 apart) known) actor c.args.holder.name c.requires.holder.named
+    (subst (λ (x : PartState). lists (part_of_value x) (name_number c.args.holder.name) ≡ true) is c.lock_of-held.ensures.lists) s3 c.put_book.ensures.keeps) in
+    record {
+      places = [];
+      mid = seated s0 c.args.arrived.now;
+      acts = record { sight = keeps_same s0; arrived = refl };
+      stays = call-stays c.take_book-book.result s0 s1 s2 s3 s4 took book.sees (kept-stays s2 s3 c.put_book.ensures.keeps) gave;
+      nothing = told;
+      arrived = refl;
+      count = c.nothing.ensures.count;
+      first = c.nothing.ensures.first;
+    }
+
+pub returns-in-Pool-clause-nothing : goal.returns-in-Pool-clause-nothing
+returns-in-Pool-clause-nothing g c =
+    let s3 = c.act_on-acted.new.seat in
+    let s4 = c.unlock-in-Pool.new.seat in
+    gone-only c.lock-lock.result.0 s3 s4 c.act_on-acted.ensures.hold.only
+    (subst (λ (k : ℕ). s4 ≡ sitting_with s3 (after_give k s3.view)) c.new-in-Pool.ensures.lock c.unlock-in-Pool.ensures)
+
+pub returns-in-Pool-clause-all : goal.returns-in-Pool-clause-all
+returns-in-Pool-clause-all g c =
+    let t = c.lock_of-held.ensures.taken in
+    let s0 = c.args.seat.now in
+    let s1 = c.lock_of-held.new.seat in
+    let s3 = c.act_on-acted.new.seat in
+    let s4 = c.unlock-in-Pool.new.seat in
+    let took : KeepsSight s0 c.read_word.new.seat = subst (KeepsSight s0) (sym c.read_word.ensures.same) (sought-keeps c.lock_of-held.result.lock (part_of_value c.lock_of-held.result.value) t.0 t.1 s0 s1 t.2) in
+    held-said c.args.holder.actor c.act_on-acted.result (seated s0 c.args.arrived.now) (seated c.read_word.new.seat c.args.arrived.now) (seated s3 c.act_on-acted.new.arrived) (seated s4 c.act_on-acted.new.arrived)
+    (record { sight = took; arrived = refl }) (record { sight = gave_keeps c.new-in-Pool.result.lock s3 s4 c.unlock-in-Pool.ensures; arrived = refl }) c.act_on-acted.ensures.all
+
+pub returns-in-Pool-clause-full : goal.returns-in-Pool-clause-full
+returns-in-Pool-clause-full g c =
+    let t = c.lock_of-held.ensures.taken in
+    let s0 = c.args.seat.now in
+    let s1 = c.lock_of-held.new.seat in
+    let s3 = c.act_on-acted.new.seat in
+    let s4 = c.unlock-in-Pool.new.seat in
+    let took : KeepsSight s0 c.read_word.new.seat = subst (KeepsSight s0) (sym c.read_word.ensures.same) (sought-keeps c.lock_of-held.result.lock (part_of_value c.lock_of-held.result.value) t.0 t.1 s0 s1 t.2) in
+    held-filled c.args.holder.actor c.act_on-acted.result (seated s0 c.args.arrived.now) (seated c.read_word.new.seat c.args.arrived.now) (seated s3 c.act_on-acted.new.arrived) (seated s4 c.act_on-acted.new.arrived)
+    (record { sight = took; arrived = refl }) (record { sight = gave_keeps c.new-in-Pool.result.lock s3 s4 c.unlock-in-Pool.ensures; arrived = refl }) c.act_on-acted.ensures.full
