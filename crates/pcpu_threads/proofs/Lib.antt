@@ -2,3 +2,4 @@ pub mod Counting
 pub mod Turning
 pub mod Working
 pub mod Serving
+pub mod Crossing

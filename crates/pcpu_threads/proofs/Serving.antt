@@ -1,10 +1,11 @@
 -- What the threads of a run do: holds by the seats of their rows.
 use mathlib.Core.Logic.{dite}
 use native.Mathlib.Decide.{ℕ_discrete}
-use Rattle.std.proofs.Common.{◌≡◌, ◌≢◌, ◌∙◌, ◌+◌, ◌-◌, ◌<◌, ℕ, true, List, [], ◌∷◌, length, get_or, set, refl, sym, ap, subst, arith}
+use Rattle.std.proofs.Common.{◌≡◌, ◌∙◌, ◌+◌, ◌-◌, ◌%◌, ◌*◌, ◌<◌, ℕ, suc, true, List, [], ◌∷◌, length, get_or, set, refl, sym, ap, subst, arith}
 use Rattle.std.proofs.lemmas.List.{get_or_default, length-set, get_or-set_same, get_or-set_other}
 use Rattle.std.specs.Prelude.{Result, Ok, Err, IfOk, IfErr}
 use Rattle.std.specs.List.{All}
+use Rattle.std.specs.Fork.{IsChunk}
 use Rattle.sched_model.specs.declared.action.Actor.{Actor}
 use Rattle.sched_model.specs.declared.action.Actor.TheVariants.{Dom, Proc, Tool}
 use Rattle.sched_model.specs.declared.config.Config.{Config}
@@ -15,11 +16,12 @@ use Rattle.hall.specs.declared.turns.Full.{Full}
 use Rattle.hall.specs.Holds.{Acts, HasActedAll, HasFilled, IsOfSomePool}
 use Rattle.hall.specs.Turns.{is_actor}
 use Rattle.hall.proofs.Processors.{is_low}
-use Rattle.hall.specs.Seats.{IsOf, Seated, Stays, shares_in}
+use Rattle.hall.specs.Seats.{Seated, Stays, shares_in}
 use Rattle.hall.proofs.Calls.{kept-stays}
 use Rattle.pcpu_threads.specs.Crews.{ActsForWorkers, IsAmong, IsHand, IsRow, IsWide}
-use Rattle.pcpu_threads.specs.Workers.{ActsAs, IsFor, Works}
-use Rattle.pcpu_threads.proofs.Counting.{of-stays}
+use Rattle.pcpu_threads.specs.Workers.{ActsAs, IsFor, Works, shares_of}
+use Rattle.pcpu_threads.proofs.Counting.{of-stays, shares-cons}
+use Rattle.std.proofs.Math.Nat.{mul-mod_left}
 use Rattle.pcpu_threads.proofs.Working.{acts-said, works-for, works-same, works_refl, works_trans}
 
 -- acts of one actor, one after the other
@@ -96,3 +98,22 @@ acts-served hall domains seats w any new actor r row low stays all filled mine =
     let here : (d : Seated) → get_or seats w any ≡ get_or seats w d = λ d. get_or_default seats w any d inside in
     acts-set hall domains seats w new inside row (λ d. subst (λ (s : Seated). Stays s new) (here d) stays)
     (λ d. works-for (IsFor (length seats - 1) w) actor mine (get_or seats w d) new (subst (λ (s : Seated). ActsAs actor s new) (here d) (hold-works actor r (get_or seats w any) new all filled)))
+
+-- a chunk of the rows is a row
+pub row-chunk : (hall : LockTable) (domains wide : ℕ) (seats : List Seated) (start : ℕ) (row : List Seated) → IsWide hall domains wide → length seats % wide ≡ 0 → All (IsHand hall) seats → IsChunk seats wide start row → IsRow hall domains row
+row-chunk hall domains wide seats start row is rows hands chunk = record {
+  hands = λ k d low. subst (IsHand hall) (sym (chunk.elements k d low)) (hands (start + k) d (let bound = chunk.in_bounds in omega (arith, low, bound)));
+  wide = subst (IsWide hall domains) (sym (chunk.full_size rows)) is;
+}
+
+-- seats with one part each have as many parts as they are
+pub hands-shares : (hall : LockTable) (seats : List Seated) → All (IsHand hall) seats → shares_of seats ≡ length seats
+hands-shares hall [] hands = refl
+hands-shares hall (s ∷ seats) hands =
+    let first : shares_in s ≡ 1 = (hands 0 s (omega arith)).one in
+    let rest : shares_of seats ≡ length seats = hands-shares hall seats (λ k d low. hands (suc k) d (omega (arith, low))) in
+    let all = shares-cons s seats in
+    omega (arith, first, rest, all)
+
+pub rows-even : (rows wide count n : ℕ) → count ≡ rows * wide → n ≡ count → n % wide ≡ 0
+rows-even rows wide count n is same = ap (λ (k : ℕ). k % wide) (same ∙ is) ∙ mul-mod_left rows wide

@@ -11,7 +11,7 @@ use Rattle.sched_model.specs.declared.event.Event.TheVariants as event
 use Rattle.sched_model.specs.declared.machine.Machine.{Machine}
 use Rattle.sched_model.specs.declared.state.State.{State}
 use Rattle.sched_model.specs.Machine.{event_of, first_enabled}
-use Rattle.sched_model.specs.Runs.{IsNext, IsRun, IsWholeRun, Reached, action_of, after_entries, run_start}
+use Rattle.sched_model.specs.Runs.{IsNext, IsRun, IsWholeRun, Reached, action_of, run_start}
 use Rattle.sched_model.proofs.RunLemmas.{action_of-event_of, after_entries-append}
 use Rattle.run_laws.specs.RunLaws.{IsOrderedFrom, IsOrderedRun, TakesFirst}
 use Rattle.journal_core.specs.Books.{Chronicle}

@@ -237,19 +237,20 @@ fn lead<R: Wait, G: Gate>(
     pulse.end();
 }
 
-/// The part of one thread in the run: that of the first leads, and the others help.
+/// The part of the thread whose row begins at this place: the first one leads, and the others help.
 fn take_part<R: Wait, G: Gate>(
     rt: &R,
     hall: &Hall,
     domains: u8,
     gate: &G,
     pulse: &Pulse,
-    number: usize,
+    start: usize,
     seats: &mut [HallSeat],
 )
     requires { IsRow hall.now domains seats.old }
     ensures { IsRow hall.now domains seats.new }
 {
+    let number = start / seats.len();
     if number == 0 {
         lead(rt, hall, domains, gate, pulse, seats);
     } else {
@@ -329,6 +330,6 @@ fn run_rows<R: Threads + Wait + Sync, G: Gate + Sync>(
         &|start, row|
             requires { IsRow hall.now domains row.now }
             ensures { IsRow hall.entry.now domains row.exit.now }
-        { take_part(rt, hall, domains, gate, shared, start / wide, row) },
+        { take_part(rt, hall, domains, gate, shared, start, row) },
     );
 }

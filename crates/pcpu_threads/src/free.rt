@@ -1,6 +1,6 @@
 //! The run in which each processor is simulated by a worker of its own.
 
-ghost use Rattle.std.specs.Prelude.{◌≡◌, ◌<◌, length};
+ghost use Rattle.std.specs.Prelude.{◌≡◌, ◌≤◌, length};
 ghost use Rattle.sched_model.specs.Runs.{IsRun, IsWholeRun};
 ghost use Rattle.pcpu_threads.specs.Ends.{IsCutOff};
 ghost use Rattle.pcpu_threads.specs.Workers.{AreWorkers};
@@ -17,7 +17,7 @@ use std::thread::{Threads, available_parallelism};
 /// In how many threads the workers are: as many as there are processors to run on, and at least two, so that workers of which each waits for the
 /// other at a gate may meet.
 pub fn threads_for<R: Threads>(rt: &R) -> usize
-    ensures { 0 < result }
+    ensures { 2 ≤ result }
 {
     match available_parallelism(rt) {
         Ok(processors) => processors.get().max(2),
