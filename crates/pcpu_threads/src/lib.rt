@@ -16,4 +16,5 @@ pub use ends::RunEnd;
 pub use free::{run_free, threads_for};
 pub use hall::Hall;
 pub use ordered::run_ordered;
+pub use pulse::FIRST_MOMENTS;
 pub use workers::{split_workers, work_all};

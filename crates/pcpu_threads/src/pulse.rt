@@ -36,8 +36,8 @@ impl Word {
     }
 }
 
-/// In the first moments of a run nothing is known of how much there is to do in one.
-const FIRST_MOMENTS: u32 = 16;
+/// In so many moments, the first of a run, nothing is known of how much there is to do in one: so the workers are in threads side by side.
+pub const FIRST_MOMENTS: u32 = 16;
 
 /// As many entries of a moment pay for waking other threads.
 const MANY: u32 = 2000;

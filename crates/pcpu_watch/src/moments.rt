@@ -28,12 +28,13 @@ fn work_and_watch<R: Threads + Wait + Sync, G: Gate + Sync>(
     ensures stays { StaysWatch hall.now watch.old watch.new }
     ensures looked { OnOk result (HasLooked hall.now watch.old watch.new) }
 {
+    let moment = watch.looks.len();
     let ((), written) = join_mut(
         rt,
         &mut ||
             requires { IsCrew hall.now crew.now }
             ensures { StaysCrew hall.entry.now crew.entry.now crew.exit.now }
-        { work(rt, hall, gate, crew) },
+        { work(rt, hall, gate, moment, crew) },
         &mut ||
             requires { CanLook hall.now watch.now }
             ensures stays { StaysWatch hall.entry.now watch.entry.now watch.exit.now }
@@ -58,8 +59,9 @@ fn watch_moment<R: Threads + Wait + Sync, G: Gate + Sync>(
     ensures stays { StaysWatch hall.now watch.old watch.new }
     ensures looked { OnOk result (HasLooked hall.now watch.old watch.new) }
 {
+    let moment = watch.looks.len();
     work_and_watch(rt, alloc, hall, gate, crew, watch)?;
-    Ok(end_moment(rt, hall, gate, crew))
+    Ok(end_moment(rt, hall, gate, moment, crew))
 }
 
 /// One moment after the other, each with a look, until the run is over or the book is full. Its one error is want of memory.
