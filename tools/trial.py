@@ -29,7 +29,7 @@ LINKER = """#!/bin/sh
 {linker} "$@" || exit
 while [ $# -gt 1 ]; do
     if [ "$1" = -o ]; then
-        cp "$2" {kept}
+        cp "$2" {kept}.part && mv {kept}.part {kept}
     fi
     shift
 done
