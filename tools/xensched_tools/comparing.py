@@ -73,6 +73,6 @@ def compared(all_records):
     for table, name, key in names:
         values = [figures.get((table, name, key)) for figures in each]
         counted = [value or 0 for value in values]
-        if len(set(values)) > 1:
+        if max(counted) > min(counted):
             rows.append((table, name, key, values, (max(counted) - min(counted)) / (greatest[table, key] or 1)))
     return sorted(rows, key=lambda row: -row[4])
