@@ -28,10 +28,17 @@ class Browser:
         hear, say = (fcntl.fcntl(end, fcntl.F_DUPFD, FIRST_FREE) for end in (hear, say))
         words = [chromium(), "--headless", "--remote-debugging-pipe", "--no-sandbox", "--disable-gpu", "--disable-dev-shm-usage", "--no-first-run", "--disable-background-networking",
                  f"--user-data-dir={self.folder.name}", f"--window-size={wide},{high}", "about:blank"]
-        self.process = subprocess.Popen(["sh", "-c", f'exec "$@" 3<&{hear} 4>&{say}', "sh", *words], pass_fds=(hear, say), stdout=subprocess.DEVNULL, stderr=subprocess.DEVNULL)
+        self.process = subprocess.Popen(words, pass_fds=(3, 4), preexec_fn=lambda: (os.dup2(hear, 3), os.dup2(say, 4)), stdout=subprocess.DEVNULL, stderr=subprocess.DEVNULL)
         os.close(hear)
         os.close(say)
-        target = self.call("Target.createTarget", url="about:blank", width=wide, height=high)["targetId"]
+        try:
+            self._open_page()
+        except Exception:
+            self.close()
+            raise
+
+    def _open_page(self):
+        target = self.call("Target.createTarget", url="about:blank")["targetId"]
         self.session = self.call("Target.attachToTarget", targetId=target, flatten=True)["sessionId"]
         for domain in ("Page", "Runtime", "Log"):
             self.call(f"{domain}.enable")

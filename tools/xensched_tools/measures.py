@@ -344,6 +344,8 @@ class Study(Follower):
     def _add_promise(self, visit, home, domain, span):
         says, at_most, visit.words = promised(home, domain)
         visit.words += ", changed" if domain.changed else ""
+        if not span:
+            return
         visit.says = None if says is None or visit.says is None else visit.says + says * span
         visit.at_most = None if at_most is None or visit.at_most is None else visit.at_most + at_most * span
 

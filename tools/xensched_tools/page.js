@@ -215,11 +215,10 @@ function drawHead() {
   }
 }
 
-// The lines of the marks, and their words where they have room.
+// The lines of the marks, and their words where they have room before the next one.
 function drawMarks(height) {
-  let free = 0;
-  for (const [at, kind, text] of data.marks) {
-    if (at < view.from || at > view.to) continue;
+  const seen = data.marks.filter(([at]) => at >= view.from && at <= view.to);
+  seen.forEach(([at, kind, text], k) => {
     paper.fillStyle = paper.strokeStyle = data.kinds[kind];
     paper.globalAlpha = 0.5;
     paper.setLineDash([3, 3]);
@@ -229,12 +228,9 @@ function drawMarks(height) {
     paper.stroke();
     paper.setLineDash([]);
     paper.globalAlpha = 1;
-    const width = paper.measureText(text).width + 8;
-    if (x(at) > free && x(at) + width < canvas.clientWidth && data.marks.length < 400) {
-      paper.fillText(text, x(at) + 6, 29);
-      free = x(at) + width + 6;
-    }
-  }
+    const next = seen.find(([other], n) => n > k && other > at), first = !k || seen[k - 1][0] < at;
+    if (first && seen.length < 400 && x(at) + paper.measureText(text).width + 12 < (next ? x(next[0]) : canvas.clientWidth)) paper.fillText(text, x(at) + 6, 29);
+  });
 }
 
 function draw() {

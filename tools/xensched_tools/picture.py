@@ -203,11 +203,12 @@ class Picture:
                 yield drawn(span, y)
             else:
                 narrow[y, int(self.x(span.begin))][span.doing if span.doing is HELD else span.doing.domain.index] += span.end - span.begin
-        for (y, x), counter in narrow.items():
+        columns = []
+        for (y, x), counter in sorted(narrow.items()):
             part = min(1.0, sum(counter.values()) * self.scale)
             (what, _), *_ = counter.most_common(1)
-            fill = HELD_COLOUR if what is HELD else colour(what)[0]
-            yield f'<rect class="merged" x="{x}" y="{y + high * (1 - part):.1f}" width="1" height="{high * part:.1f}" fill="{fill}"/>'
+            columns.append((HELD_COLOUR if what is HELD else colour(what)[0], x, y + high, max(1, round(high * part))))
+        yield from merged(columns)
 
     def _leg(self, leg, y):
         """A bar of a processor: the vCPU with its due and its lateness, or the wait for a sibling."""
@@ -246,8 +247,7 @@ class Picture:
                 yield self._thin(it, y + 2, PAUSED_COLOUR if it.state == PAUSED else WAITS_COLOUR, f"{it.vcpu.name} {'is paused' if it.state == PAUSED else 'waits'}", self.LOW - 4)
             else:
                 narrow[y, int(self.x(it.begin))] += (it.end - it.begin) * self.scale
-        for (y, x), part in narrow.items():
-            yield f'<rect class="merged" x="{x}" y="{y + 2}" width="1" height="{self.LOW - 4}" fill="{WAITS_COLOUR}" fill-opacity="{min(1, part):.2f}"/>'
+        yield from merged([(WAITS_COLOUR, x, y + self.LOW - 2, max(1, round((self.LOW - 4) * min(1, part)))) for (y, x), part in sorted(narrow.items())])
 
     def _thin(self, it, y, fill, text, high=None):
         width = (it.end - it.begin) * self.scale
@@ -294,6 +294,20 @@ def sample(x, y, fill, stripes):
         return f'<rect x="{x:.0f}" y="{y + 9}" width="12" height="3" fill="{fill}"/>'
     box = f'<rect x="{x:.0f}" y="{y}" width="12" height="12" fill="{fill}"/>'
     return box + (f'<rect x="{x:.0f}" y="{y}" width="12" height="12" fill="url(#stripes{stripes})"/>' if stripes else "")
+
+
+def merged(columns):
+    """Columns of a pixel, each a colour, a place, a foot and a height, as one path a colour; equal neighbours are one box."""
+    paths, before = collections.defaultdict(list), None
+    for fill, x, foot, high in columns:
+        if before and before[0] == (fill, foot, high) and before[2] == x:
+            before[2] += 1
+            continue
+        before = [(fill, foot, high), x, x + 1]
+        paths[fill].append(before)
+    for fill, boxes in paths.items():
+        path = "".join(f"M{begin} {foot}v-{high}h{end - begin}v{high}z" for (_, foot, high), begin, end in boxes)
+        yield f'<path class="merged" d="{path}" fill="{fill}"/>'
 
 
 def told(leg):

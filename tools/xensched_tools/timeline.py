@@ -2,6 +2,7 @@
 import collections
 
 from .schedule import HELD, PAUSED, WAITS, Core, Follower
+from .words import milliseconds
 
 # doing: a Vcpu, IDLE or HELD; due: None where the core does not ask again
 Leg = collections.namedtuple("Leg", "processor begin end doing due late")
@@ -45,7 +46,7 @@ class Timeline(Follower):
 
     def stalled(self, processor, until):
         self.stalls.append(Stall(processor.index, self.now, until))
-        self._mark("stall", f"p{processor.index} stalls until {until}")
+        self._mark("stall", f"p{processor.index} stalls to {milliseconds(until)} ms")
         super().stalled(processor, until)
 
     def answered_command(self, number, command, answer):
