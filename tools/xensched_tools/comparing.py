@@ -4,36 +4,38 @@ import json
 from . import tables
 from .words import milliseconds, percent
 
-# The tables that are compared, and of each the figures that answer something. Among equal differences the upper ones come first.
-FIGURES = {
-    "limits": ["missed"],
-    "terms": ["short", "missing", "greatest_missing", "extra", "greatest_late"],
-    "windows": ["lost", "greatest_lost"],
-    "waits": ["mean", "p99", "greatest", "open"],
-    "jobs": ["count", "mean", "p99", "greatest"],
-    "domains": ["share", "waited"],
-    "units": ["preempted", "moves", "late"],
-    "caps": ["had", "greatest_over"],
-    "pools": ["share"],
-    "cores": ["share", "late"],
-}
+# The figures that are compared, by what they mean to who asks: what was promised and not kept; how long it takes and how much there is; the rest.
+CLASSES = [
+    {"limits": ["missed"], "terms": ["short", "missing", "greatest_missing"], "windows": ["lost", "greatest_lost"], "waits": ["open"]},
+    {"waits": ["mean", "p99", "greatest"], "jobs": ["mean", "p99", "greatest"], "vcpus": ["runs"], "domains": ["share"], "caps": ["had"]},
+    {"jobs": ["count"], "domains": ["waited"], "units": ["preempted", "moves", "late"], "terms": ["extra", "greatest_late"], "caps": ["greatest_over"], "pools": ["share"], "cores": ["share", "late"]},
+]
+# A difference below this part of the greatest value comes behind all others.
+SMALL = 0.01
 # What the tables name a row by; a domain's pool may differ from machine to machine, and so may its number.
-NAMES = {"limits": ["vcpu", "name", "kind"], "terms": ["unit", "name"], "windows": ["pool", "window", "name"], "waits": ["vcpu", "name"], "jobs": ["vcpu", "name", "job"], "domains": ["name"],
+NAMES = {"vcpus": ["vcpu", "name"], "limits": ["vcpu", "name", "kind"], "terms": ["unit", "name"], "windows": ["pool", "window", "name"], "waits": ["vcpu", "name"], "jobs": ["vcpu", "name", "job"], "domains": ["name"],
          "units": ["unit", "name"], "caps": ["name"], "pools": ["name"], "cores": ["core"]}
 
 
 def figures_of(records):
-    """Each figure by table, row and key, from the tables as JSON has them."""
+    """Each figure by its class, table, row and key, from the tables as JSON has them."""
     found = {}
-    for table, keys in FIGURES.items():
-        for record in records.get(table, []):
-            name = " ".join(record[key] for key in NAMES[table])
-            for key in keys:
-                full = key if key in record else f"{key}_ns"
-                # a domain that was in several pools has its first row by its name, and the others by their pools too
-                place = (table, name, full) if (table, name, full) not in found else (table, f"{name} in {record.get('pool')}", full)
-                found[place] = record[full]
+    for rank, chosen in enumerate(CLASSES):
+        for table, keys in chosen.items():
+            for record, name in named(table, records.get(table, [])):
+                for key in keys:
+                    full = key if key in record else f"{key}_ns"
+                    found[rank, table, name, full] = record[full]
     return found
+
+
+def named(table, records):
+    """The rows of a table with their names. A domain that was in several pools has its first row by its name, and the others by their pools too."""
+    seen = set()
+    for record in records:
+        name = " ".join(record[key] for key in NAMES[table])
+        yield record, f"{name} in {record['pool']}" if name in seen else name
+        seen.add(name)
 
 
 def records_of(study, asked):
@@ -62,17 +64,18 @@ def as_text(names, rows):
 
 
 def compared(all_records):
-    """A row for each figure that differs: table, name, key, the values, and how much it differs, as a part of the greatest value that any row has for that key; the greatest first."""
+    """A row for each figure that differs: table, name, key, the values, and how much they differ, as a part of the greatest value that any row has for that key. The classes come in their order, in each the greatest difference first."""
     each = [figures_of(records) for records in all_records]
     names = dict.fromkeys(name for figures in each for name in figures)
     greatest = {}
     for figures in each:
-        for (table, _, key), value in figures.items():
+        for (_, table, _, key), value in figures.items():
             greatest[table, key] = max(greatest.get((table, key), 0), abs(value or 0))
     rows = []
-    for table, name, key in names:
-        values = [figures.get((table, name, key)) for figures in each]
+    for rank, table, name, key in names:
+        values = [figures.get((rank, table, name, key)) for figures in each]
         counted = [value or 0 for value in values]
         if max(counted) > min(counted):
-            rows.append((table, name, key, values, (max(counted) - min(counted)) / (greatest[table, key] or 1)))
-    return sorted(rows, key=lambda row: -row[4])
+            part = (max(counted) - min(counted)) / greatest[table, key]
+            rows.append((rank if part >= SMALL else len(CLASSES), (table, name, key, values, part)))
+    return [row for _, row in sorted(rows, key=lambda it: (it[0], -it[1][4]))]
