@@ -2,6 +2,7 @@
 from .words import Refused
 
 PANELS_IN_A_ROW = 3
+TIMES = {"end", "run", "idle", "late", "wait_mean", "wait_p99", "wait_greatest", "response_p99", "response_greatest", "missing"}
 
 
 def number(text):
@@ -34,15 +35,19 @@ def draw(path, keys, columns, head, lines):
 
 
 def panel(axis, keys, place, column, lines):
-    """A column over the first key; seeds have no order, so they are points."""
-    groups = {}
+    """A column over the first key, times in milliseconds; seeds have no order, so they are points."""
+    groups, scale = {}, 1e-6 if column in TIMES or column.endswith("_ns") else 1
     for line in lines:
-        groups.setdefault(tuple(line[1 : len(keys)]), []).append((number(line[0]), number(line[place])))
+        y = number(line[place])
+        groups.setdefault(tuple(line[1 : len(keys)]), []).append((number(line[0]), None if y is None else y * scale))
     for others, points in groups.items():
         points = [(x, y) for x, y in points if x is not None and y is not None]
         name = ", ".join(f"{key} {value}" for key, value in zip(keys[1:], others))
         axis.plot([x for x, _ in points], [y for _, y in points], "." if keys == ["seed"] else ".-", label=name or None)
+    xs = [x for points in groups.values() for x, _ in points if x]
+    if keys != ["seed"] and xs and min(xs) > 0 and max(xs) / min(xs) >= 50:
+        axis.set_xscale("symlog", linthresh=min(xs))
     axis.set_xlabel(keys[0])
-    axis.set_title(column, fontsize=10)
+    axis.set_title(f"{column.removesuffix('_ns')} [ms]" if scale != 1 else column, fontsize=10)
     if len(keys) > 1:
         axis.legend(fontsize=7)
