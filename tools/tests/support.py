@@ -64,4 +64,4 @@ def part_of(test, record, **wanted):
 
 def call(tool, *words, text="", timeout=120):
     """A call of a tool by its path below the top folder."""
-    return subprocess.run([sys.executable, TOP / tool, *map(str, words)], input=text, capture_output=True, text=True, cwd=TOP, timeout=timeout, env={**os.environ, "COLUMNS": "80"})
+    return subprocess.run([sys.executable, TOP / tool, *map(str, words)], input=text, capture_output=True, text=True, cwd=TOP, timeout=timeout, env={**os.environ, "COLUMNS": "80", "XENSCHED": str(PROGRAM)})

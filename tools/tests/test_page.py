@@ -1,6 +1,4 @@
 """The page of `tools/study --html`, in a headless Chromium (apt-get install chromium); skipped where there is none."""
-import importlib.machinery
-import importlib.util
 import pathlib
 import re
 import subprocess
@@ -8,20 +6,13 @@ import tempfile
 import unittest
 
 from browser import Browser, chromium
-from support import CASES, PROGRAM, TOP, call, stored
+from large import write_large
+from support import PROGRAM, TOP, call, stored
 from xensched_tools.machine import read_machine
 from xensched_tools.timeline import Timeline
 
 MOST_BYTES = 20_000_000
 LEFT, RIGHT = 132, 12
-
-
-def large_input():
-    """The large input of bench/run: 64 processors, 64 domains, 256 units."""
-    loader = importlib.machinery.SourceFileLoader("bench_run", str(TOP / "bench" / "run"))
-    module = importlib.util.module_from_spec(importlib.util.spec_from_loader("bench_run", loader))
-    loader.exec_module(module)
-    return module.large(None)
 
 
 class Page(unittest.TestCase):
@@ -160,10 +151,7 @@ class Run(Page):
         self.assertEqual(self.view()[0], len(self.timeline.bars()))
 
     def test_the_large_input(self):
-        domains, work = (pathlib.Path(self.folder.name) / name for name in ("large.toml", "large.txt"))
-        for path, text in zip((domains, work), large_input()):
-            path.write_text(text)
-        self.open_run(domains, work)
+        self.open_run(*write_large(self.folder.name))
         self.assertGreater(self.timeline.entries, 500_000)
         self.check_whole()
         took = self.browser.value("(() => { const begin = performance.now(); draw(); return performance.now() - begin; })()")

@@ -1,5 +1,6 @@
 """Machines that are made from others, and their runs by the program."""
 import dataclasses
+import os
 import pathlib
 import subprocess
 import tempfile
@@ -9,7 +10,8 @@ from .measures import Study
 from .words import Refused
 
 TOP = pathlib.Path(__file__).resolve().parent.parent.parent
-PROGRAM = TOP / "xensched"
+# The program: the launcher of this folder, or what the environment says.
+PROGRAM = os.environ.get("XENSCHED") or TOP / "xensched"
 MOST_ENTRIES = 4_000_000
 
 
