@@ -44,7 +44,7 @@ class Example(unittest.TestCase):
         part_of(self, row(self.study, "units", "d0u0"), run_ns=7 * MS, waited_ns=MS, picks=4, preempted=0, moves=0)
         part_of(self, row(self.study, "units", "d1u0"), run_ns=25 * MS, waited_ns=7 * MS, picks=3, preempted=3, moves=0)
         part_of(self, row(self.study, "domains", "d0"), share=7 / 32, says=0.3, at_most=0.3)
-        part_of(self, row(self.study, "domains", "d1"), share=25 / 32, says=0.4, at_most=None)
+        part_of(self, row(self.study, "domains", "d1"), share=25 / 32, says=0.4, at_most=1.0)
 
     def test_a_wake_left_out_changes_what_it_must(self):
         lines = [line for line in self.lines if line != "20000000 wake d0v0"]
@@ -68,13 +68,27 @@ class Stored(unittest.TestCase):
         part_of(self, row(study, "cores", "c0"), lates=1, late_ns=21 * MS, greatest_late_at_ns=25 * MS)
 
     def test_a_guest_that_sleeps_wants_less_than_its_window(self):
-        # [4 ms, 3 ms] windows in 10 ms; the stored schedule has the first guest asleep in a part of its window
-        domains, work, lines = stored("guest-that-sleeps")
-        study = study_of(domains, lines, work)
-        for frame in study.pools[0].tally.frames:
-            for window in frame.windows:
-                self.assertEqual(window.lost, 0)
-        self.assertEqual(study.fault_count, 0)
+        # of the window from 0 to 4 ms a runs the first and the last; that of b, from 4 to 7, is not over at the horizon of 5 ms
+        study = studied("guest-that-sleeps")
+        part_of(self, row(study, "windows", "Pool-0", "0"), windows=1, had_ns=2 * MS, lost_ns=0, unused_ns=2 * MS)
+        part_of(self, row(study, "windows", "Pool-0", "1"), windows=0, had_ns=0, lost_ns=0)
+        part_of(self, row(study, "waits", "d0v0"), count=2, greatest_ns=0)
+        part_of(self, row(study, "waits", "d1v0"), count=1, greatest_ns=4 * MS, greatest_at_ns=4 * MS)
+        part_of(self, row(study, "jobs", "d0v0", "a", "0"), count=2, mean_ns=MS, greatest_ns=MS, open_ns=None)
+        part_of(self, row(study, "releases", "d0v0"), releases=2, delayed=0, drifted=0, drift_ns=0)
+
+    def test_a_new_frame(self):
+        # at 1 ms the command gives b the first 2 of each 5 ms; the old window of a is cut and not counted
+        study = studied("new-frame")
+        part_of(self, row(study, "windows", "Pool-0", "0:0"), windows=0)
+        part_of(self, row(study, "windows", "Pool-0", "1:0"), unit="d1u0", windows=1, had_ns=2 * MS, lost_ns=0)
+
+    def test_each_unit_has_the_weight_of_its_domain(self):
+        # two units of a and one of b on one core, weights alike: two thirds and one
+        machine = {"format": 1, "processors": 1, "horizon_ns": 3 * MS, "domain": [{"name": "a", "guests": [[], []]}, {"name": "b", "guests": [[]]}]}
+        study = study_of_machine(machine, "0 arrive p0\n0 decide c0 d0u0 due 10000000 late 0 reset 0\n0 leave p0 d0v0\n0 finish")
+        part_of(self, row(study, "domains", "d0"), says=round(2 / 3, 9), at_most=1.0)
+        part_of(self, row(study, "units", "d1u0"), says=round(1 / 3, 9))
 
     def test_a_cap_shared_by_two_units(self):
         # 25 % of 10 ms are 2.5 ms, and each of the two units has half

@@ -1,5 +1,5 @@
 """What `--deadline`, `--latency` and `--share` ask of a study, and whether it was kept."""
-from .measures import Limit, part_of_pool
+from .measures import Limit, capacity_of, ran_by
 from .schedule import SLEEPS
 from .words import Refused, milliseconds, percent, time_of
 
@@ -74,6 +74,6 @@ def broken_limits(asked):
 def broken_shares(study, shares):
     """A sentence for each share that is too low."""
     for domain, least in shares:
-        had = part_of_pool(study, domain)
+        had = ran_by(domain, study.end) / (capacity_of(study, domain) or 1)
         if had < least:
             yield f"{domain.name} has {percent(had)} of its pool, and {percent(least)} were asked for"

@@ -1,5 +1,6 @@
 """What an accepted command changes of the machine that a schedule is followed on."""
 from .machine import DEFAULTS, Pool, options_of
+from .words import Refused
 
 
 def domain_of(run, which):
@@ -88,5 +89,8 @@ EFFECTS = {"cpupool-create": create, "cpupool-destroy": destroy, "cpupool-rename
 def carry_out(run, words):
     """Does what the accepted command does at once; what moves has lines of its own."""
     effect = EFFECTS.get(words[0])
-    if effect:
-        effect(run, *options_of(words))
+    try:
+        if effect:
+            effect(run, *options_of(words))
+    except (IndexError, KeyError, ValueError, StopIteration):
+        raise Refused(f"the command `{' '.join(words)}` cannot have been done: is the work file that of the run?") from None

@@ -263,31 +263,60 @@ def waited_by(domain, at):
     return sum(unit.waited_by(at) for unit in domain.units)
 
 
-def part_of_pool(study, domain):
-    """The domain's run time as a part of the time of the cores of the pools that it was in."""
-    visits = [visit for visit in study.visits if visit.domain is domain]
-    capacity = sum(visit.capacity for visit in visits)
-    return sum(visit.ran for visit in visits) / capacity if capacity else 0.0
+def visits_of(study, domain):
+    """The domain's visits, in order."""
+    return [visit for visit in study.visits if visit.domain is domain]
+
+
+def capacity_of(study, domain):
+    """The time of all cores of the pools that the domain was in, meanwhile."""
+    return sum(visit.capacity for visit in visits_of(study, domain))
+
+
+def said_of(study, domain):
+    """The core time that the parameters promised the domain, None where it is not known."""
+    said = [visit.says for visit in visits_of(study, domain)]
+    return None if None in said else sum(said)
 
 
 def promised(home, domain):
-    """What the parameters promise the domain and what they allow at most, in cores (None: nothing is said), and both in words."""
-    cores, units, sched = len(home.cores), len(domain.units), home.sched
-    if sched == "credit2":
-        weight, cap = setting(domain, "weight"), setting(domain, "cap")
-        all_weights = sum(setting(other, "weight") for other in home.domains)
-        return cores * weight / all_weights, cap / 100 if cap else None, f"weight {weight} of {all_weights}" + (f", cap {cap}%" if cap else "")
-    if sched == "rtds":
-        period, budget, extra = (setting(domain, key) for key in ("period_us", "budget_us", "extratime"))
-        reserved = units * budget / period
-        return reserved, None if extra else reserved, f"{budget} of {period} us" + (f", {units} units" if units > 1 else "") + (", extra time" if extra else "")
-    if sched == "arinc653":
-        spans = sum(run for d, _, run in home.settings.get("frame", []) if d == domain.index)
-        part = spans / home.settings["major_ns"] if spans and cores else 0.0
-        return part, part, f"windows of {spans} of {home.settings.get('major_ns', 0)} ns"
-    if sched == "null":
-        return min(units, cores), min(units, cores), f"{units} of {cores} cores" if units <= cores else f"{units} units, {cores} cores"
-    return None, None, "not known: no work file"
+    """What the parameters promise the domain and what they allow at most, in cores (None: nothing is known), and both in words. A unit has a core at most."""
+    cores, units = len(home.cores), len(domain.units)
+    most = min(units, cores)
+    if home.sched is None:
+        return None, None, "not known: no work file"
+    says, at_most, text = PROMISES[home.sched](home, domain, cores, units, most)
+    return min(says, most), min(at_most, most), text
+
+
+def credit2_promise(home, domain, cores, units, most):
+    """Each unit has the weight of its domain."""
+    weight, cap = setting(domain, "weight"), setting(domain, "cap")
+    all_weights = sum(setting(other, "weight") * len(other.units) for other in home.domains)
+    text = f"weight {weight}{f' x {units}' if units > 1 else ''} of {all_weights}" + (f", cap {cap}%" if cap else "")
+    return cores * weight * units / all_weights, cap / 100 if cap else most, text
+
+
+def rtds_promise(home, domain, cores, units, most):
+    """Each unit has the budget in each period."""
+    period, budget, extra = (setting(domain, key) for key in ("period_us", "budget_us", "extratime"))
+    text = f"{budget} of {period} us" + (f" x {units}" if units > 1 else "") + (", extra time" if extra else "")
+    return units * budget / period, most if extra else units * budget / period, text
+
+
+def arinc653_promise(home, domain, cores, units, most):
+    """The windows, where there is a frame and a core for it."""
+    major = home.settings.get("major_ns", 0)
+    spans = sum(run for d, _, run in home.settings.get("frame", []) if d == domain.index)
+    return (spans / major if spans else 0.0, spans / major if spans else 0.0, f"windows of {spans} of {major} ns" if spans else "no window")
+
+
+def null_promise(home, domain, cores, units, most):
+    """A core for each unit, as far as there are cores."""
+    return most, most, f"{units} units, {cores} cores"
+
+
+PROMISES = {"credit2": credit2_promise, "rtds": rtds_promise, "arinc653": arinc653_promise, "null": null_promise}
 
 
 class Study(Follower):

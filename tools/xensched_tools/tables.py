@@ -4,7 +4,7 @@ import dataclasses
 import io
 import json
 
-from .measures import Distribution
+from .measures import Distribution, capacity_of, said_of
 from .schedule import PAUSED, RUNS, SLEEPS, WAITS
 from .words import milliseconds, percent
 
@@ -94,16 +94,25 @@ def domains(study):
 
 
 def units(study):
-    columns = texts("unit", "name") + [Column("run", "run"), Column("cores", "in cores", "part"), Column("waited", "waited"), Column("picks", "picks", "count"),
-                                       Column("preempted", "preempted", "count"), Column("moves", "moves", "count"), Column("late", "late")]
-    rows = [[unit.name, unit.domain.name, unit.ran_by(study.end), part(unit.ran_by(study.end), study.end), unit.waited_by(study.end), unit.picks, unit.preempted, unit.moves, unit.late]
-            for unit in study.units.values()]
+    columns = texts("unit", "name") + [Column("run", "run"), Column("cores", "in cores", "part"), Column("share", "of pool", "part"), Column("says", "says", "part"), Column("waited", "waited"),
+                                       Column("picks", "picks", "count"), Column("preempted", "preempted", "count"), Column("moves", "moves", "count"), Column("late", "late")]
+    rows = []
+    for domain in study.domain_list:
+        capacity, said = capacity_of(study, domain), said_of(study, domain)
+        for unit in domain.units:
+            ran = unit.ran_by(study.end)
+            rows.append([unit.name, domain.name, ran, part(ran, study.end), part(ran, capacity), None if said is None else part(said / len(domain.units), capacity),
+                         unit.waited_by(study.end), unit.picks, unit.preempted, unit.moves, unit.late])
     return Table("units", "Units", columns, rows)
 
 
 def vcpus(study):
-    columns = texts("vcpu", "name") + [Column("runs", "runs"), Column("waits", "waits"), Column("sleeps", "sleeps"), Column("paused", "paused")]
-    rows = [[vcpu.name, vcpu.domain.name, vcpu.times[RUNS], vcpu.times[WAITS], vcpu.times[SLEEPS], vcpu.times[PAUSED]] for vcpu in study.vcpus.values()]
+    columns = texts("vcpu", "name") + [Column("runs", "runs"), Column("share", "of pool", "part"), Column("waits", "waits"), Column("sleeps", "sleeps"), Column("paused", "paused")]
+    rows = []
+    for domain in study.domain_list:
+        # a core's time is that of each of its processors
+        capacity = capacity_of(study, domain) * study.machine.granularity
+        rows += [[vcpu.name, domain.name, vcpu.times[RUNS], part(vcpu.times[RUNS], capacity), vcpu.times[WAITS], vcpu.times[SLEEPS], vcpu.times[PAUSED]] for vcpu in domain.vcpus]
     return Table("vcpus", "vCPUs: what they did with the time", columns, rows)
 
 
