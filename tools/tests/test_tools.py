@@ -4,6 +4,7 @@ import io
 import json
 import pathlib
 import shutil
+import sys
 import tempfile
 import unittest
 
@@ -80,7 +81,8 @@ class WrongInput(unittest.TestCase):
     def test_files(self):
         for tool in ("tools/study", "examples/draw"):
             for files in (("missing.toml", FILES[1]), (FILES[0], "missing.txt"), ("README.md", FILES[1]), (FILES[0], "README.md"), (FILES[0], FILES[0]), ("examples", FILES[1]),
-                          ("examples/two-pools/domains.toml", "crates/xensched_trials/stdout"), (FILES[0], "docs/pictures")):
+                          ("examples/two-pools/domains.toml", "crates/xensched_trials/stdout"), (FILES[0], "docs/pictures"),
+                          (FILES[0], "/dev/null"), (FILES[0], sys.executable), (sys.executable, FILES[1])):
                 with self.subTest(tool=tool, files=files):
                     done = call(tool, *files)
                     self.assertEqual(done.returncode, 2)

@@ -2,7 +2,7 @@
 // Draws the timeline of a page that tools/study wrote. Times are nanoseconds; what is narrower than a pixel is drawn a column at a time.
 const data = JSON.parse(document.getElementById("data").textContent);
 const frame = document.getElementById("timeline"), spacer = document.getElementById("spacer"), canvas = document.getElementById("canvas");
-const tip = document.getElementById("tip"), status = document.getElementById("status"), paper = canvas.getContext("2d");
+const tip = document.getElementById("tip"), statusLine = document.getElementById("status"), paper = canvas.getContext("2d");
 const LEFT = 132, HEAD = 34, HIGH = 20, GAP = 6, LOW = 11, RIGHT = 12, LEAST = 20;
 const view = { from: 0, to: Math.max(1, data.end), only: -1 };
 
@@ -265,7 +265,7 @@ function draw() {
   drawHead();
   drawMarks(height);
   Object.assign(canvas.dataset, { shown: count.shown, merged: count.merged, from: Math.round(view.from), to: Math.round(view.to) });
-  status.textContent = `${ms(view.from)} to ${ms(view.to)}; ${count.shown} bars` + (count.merged ? `, and ${count.merged} narrower than a pixel` : "");
+  statusLine.textContent = `${ms(view.from)} to ${ms(view.to)}; ${count.shown} bars` + (count.merged ? `, and ${count.merged} narrower than a pixel` : "");
 }
 
 let pending = false;

@@ -9,7 +9,7 @@ import json
 import pathlib
 
 from . import plots
-from .colours import HELD_COLOUR, LATE_COLOUR, PAUSED_COLOUR, WAITS_COLOUR, colour, text_colour
+from .colours import HELD_COLOUR, LATE_COLOUR, PALETTE, PAUSED_COLOUR, WAITS_COLOUR, colour, text_colour
 from .measures import Distribution, Study
 from .schedule import HELD, IDLE, PAUSED
 from .timeline import MARK_KINDS, Timeline
@@ -77,7 +77,7 @@ def spans_by_domain(study, spans_of):
         for vcpu in domain.vcpus:
             for spans in spans_of(vcpu.tally):
                 whole.add_all(spans)
-        found.append((domain.name, whole, domain.index, domain.index // 18))
+        found.append((domain.name, whole, domain.index, domain.index // len(PALETTE)))
     return found
 
 

@@ -150,10 +150,12 @@ class Follower:
                     self._go_to(int(told))
                 self.entries = number
                 handlers[words[1]](words)
+        except UnicodeDecodeError:
+            raise Refused(f"line {number + 1} or one behind it is no text: this is no schedule") from None
         except (IndexError, KeyError, ValueError):
             raise Refused(self._odd_line(number, line)) from None
-        except UnicodeDecodeError:
-            raise Refused(f"line {number + 1} is no text: this is no schedule") from None
+        if not number:
+            raise Refused("the schedule is empty")
         self.last = self.now
         self._close()
         return self
