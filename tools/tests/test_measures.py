@@ -2,6 +2,7 @@
 import unittest
 
 from support import CASES, PROGRAM, TOP, files_of, part_of, row, stored, stored_runs, studied, study_of, study_of_machine
+from xensched_tools import tables
 from xensched_tools.machine import machine_of, read_machine
 from xensched_tools.measures import Distribution, Study
 from xensched_tools.words import Refused
@@ -115,14 +116,30 @@ class Stored(unittest.TestCase):
         number, command, cause = study.refused[0]
         self.assertEqual((number, command.words, cause), (2, ["cpupool-cpu-remove", "Pool-0", "5"], "NoCpu cpu 5"))
 
-    def test_no_stored_run_contradicts_itself(self):
+    def test_all_stored_runs_add_up(self):
         for words, lines in stored_runs():
             domains, work = files_of(words)
             with self.subTest(words=words):
                 study = study_of(domains, lines, work)
                 self.assertEqual(study.faults, [])
-                for vcpu in study.vcpus.values():
-                    self.assertEqual(sum(vcpu.times), study.end)
+                self.check_vcpus(study, [line.split() for line in lines])
+                self.check_sums(study)
+
+    def check_vcpus(self, study, entries):
+        """Each wake begins a wait and a job, each block ends a job, and the states add up to the time."""
+        for vcpu in study.vcpus.values():
+            woken = sum(entry[1:3] == ["wake", vcpu.name] for entry in entries)
+            blocked = sum(entry[1] == "block" and entry[3] == vcpu.name for entry in entries)
+            waits = tables.open_wait(study, vcpu) is not None
+            self.assertEqual(vcpu.tally.waits.count + waits, 1 + woken)
+            self.assertEqual(sum(spans.count for spans in vcpu.tally.jobs), blocked)
+            self.assertEqual((vcpu.tally.releases, sum(vcpu.times)), (1 + woken, study.end))
+
+    def check_sums(self, study):
+        """What units, cores, domains and pools ran is the same time."""
+        ran = sum(unit.ran_by(study.end) for unit in study.units.values())
+        found = {table: sum(record[key] for record in tables.TABLES[table](study).records()) for table, key in (("cores", "run_ns"), ("domains", "run_ns"), ("pools", "run_ns"))}
+        self.assertEqual(found, dict.fromkeys(found, ran))
 
 
 class Small(unittest.TestCase):
