@@ -33,9 +33,11 @@ def limits_of(study, deadlines, latencies):
     for kind, texts in (("deadline", deadlines), ("latency", latencies)):
         for text in texts:
             who, value = parted(text)
-            for vcpu in vcpus_of(study, who):
-                if kind == "deadline" and not vcpu.script:
-                    raise Refused(f"{vcpu.name} of {vcpu.domain.name} has no jobs: its script is empty, and it runs without end")
+            # a guest that runs without end has no jobs
+            vcpus = [vcpu for vcpu in vcpus_of(study, who) if vcpu.script or kind == "latency"]
+            if not vcpus:
+                raise Refused(f"{who} has no jobs: its scripts are empty, and it runs without end")
+            for vcpu in vcpus:
                 asked.append(Limit(kind, vcpu, time_of(value)))
                 (vcpu.tally.deadlines if kind == "deadline" else vcpu.tally.latencies).append(asked[-1])
     return asked
