@@ -10,7 +10,7 @@ from xensched_tools.machine import machine_of, read_machine, read_work
 from xensched_tools.measures import Study
 
 TOP = pathlib.Path(__file__).resolve().parent.parent.parent
-PROGRAM = TOP / "crates" / "xensched" / "out" / "xensched"
+PROGRAM = pathlib.Path(os.environ.get("XENSCHED_PROGRAM") or TOP / "crates" / "xensched" / "out" / "xensched").resolve()
 CASES = TOP / "crates" / "xensched_trials"
 END = re.compile(r"^-- (\d+)(?: (.*))?\n", re.M)
 
@@ -64,4 +64,4 @@ def part_of(test, record, **wanted):
 
 def call(tool, *words, text="", timeout=120):
     """A call of a tool by its path below the top folder."""
-    return subprocess.run([sys.executable, TOP / tool, *map(str, words)], input=text, capture_output=True, text=True, cwd=TOP, timeout=timeout, env={**os.environ, "COLUMNS": "80", "XENSCHED": str(PROGRAM)})
+    return subprocess.run([sys.executable, TOP / tool, *map(str, words)], input=text, capture_output=True, text=True, cwd=TOP, timeout=timeout, env={**os.environ, "COLUMNS": "80", "XENSCHED_PROGRAM": str(PROGRAM)})

@@ -11,7 +11,7 @@ from .words import Refused
 
 TOP = pathlib.Path(__file__).resolve().parent.parent.parent
 # The program: the launcher of this folder, or what the environment says.
-PROGRAM = os.environ.get("XENSCHED") or TOP / "xensched"
+PROGRAM = os.environ.get("XENSCHED_PROGRAM") or TOP / "xensched"
 MOST_ENTRIES = 4_000_000
 
 
@@ -65,6 +65,12 @@ def machine_from(word):
         pool, equals, sched = item.rpartition("=")
         changes[pool if equals else None] = sched
     return with_schedulers(machine, changes)
+
+
+def get_ready():
+    """Makes one short run, so that a program that has to be built is built once and not by many runs side by side."""
+    if subprocess.run([PROGRAM, "make", "1", "1", "1", "work"], stdout=subprocess.DEVNULL).returncode:
+        raise Refused(f"the program {PROGRAM} does not run")
 
 
 def run(machine, work_path=None, prepare=lambda study: None):
