@@ -1,0 +1,81 @@
+"""What `--deadline`, `--latency` and `--share` ask of a study, and whether it was kept."""
+from .measures import Limit, capacity_of, ran_by
+from .schedule import SLEEPS
+from .words import Refused, milliseconds, percent, time_of
+
+
+def vcpus_of(study, who):
+    """The vCPUs of `web`, `d0` or `d0v1`."""
+    if who in study.vcpus:
+        return [study.vcpus[who]]
+    return domain_of(study, who).vcpus
+
+
+def domain_of(study, who):
+    """The domain of `web` or `d0`."""
+    found = next((domain for domain in study.domain_list if who in (domain.name, f"d{domain.index}")), None)
+    if found is None:
+        raise Refused(f"there is no domain or vCPU {who!r}; the domains are {', '.join(domain.name for domain in study.domain_list)}")
+    return found
+
+
+def parted(text):
+    """The two sides of `WHO=VALUE`."""
+    who, equals, value = text.partition("=")
+    if not equals:
+        raise Refused(f"{text!r} is not of the form WHO=VALUE")
+    return who, value
+
+
+def limits_of(study, deadlines, latencies):
+    """The limits that were asked for; the study judges each wait and each job by them."""
+    asked = []
+    for kind, texts in (("deadline", deadlines), ("latency", latencies)):
+        for text in texts:
+            who, value = parted(text)
+            # a guest that runs without end has no jobs
+            vcpus = [vcpu for vcpu in vcpus_of(study, who) if vcpu.script or kind == "latency"]
+            if not vcpus:
+                raise Refused(f"{who} has no jobs: its scripts are empty, and it runs without end")
+            for vcpu in vcpus:
+                asked.append(Limit(kind, vcpu, time_of(value)))
+                (vcpu.tally.deadlines if kind == "deadline" else vcpu.tally.latencies).append(asked[-1])
+    return asked
+
+
+def shares_of(study, texts):
+    """The shares that were asked for: each domain with a part of one."""
+    found = []
+    for text in texts:
+        who, value = parted(text)
+        try:
+            found.append((domain_of(study, who), float(value.removesuffix("%")) / 100))
+        except ValueError:
+            raise Refused(f"{value!r} is no share: write it as 40%") from None
+    return found
+
+
+def judge_open(study, asked):
+    """A job or a wait that is not over at the end, and is already longer than its limit, has missed it."""
+    for limit in asked:
+        vcpu = limit.vcpu
+        if vcpu.state == SLEEPS or vcpu.job_from is None or (limit.kind == "latency" and vcpu.has_run):
+            continue
+        if study.end - vcpu.job_from > limit.span:
+            limit.judge(study.end - vcpu.job_from, study.end)
+
+
+def broken_limits(asked):
+    """A sentence for each limit that was missed."""
+    for limit in asked:
+        if limit.missed:
+            yield (f"{limit.vcpu.domain.name} {limit.vcpu.name}: {limit.missed} of {limit.met + limit.missed} missed the {limit.kind} of "
+                   f"{milliseconds(limit.span)} ms, the first at {milliseconds(limit.first_missed)} ms")
+
+
+def broken_shares(study, shares):
+    """A sentence for each share that is too low."""
+    for domain, least in shares:
+        had = ran_by(domain, study.end) / (capacity_of(study, domain) or 1)
+        if had < least:
+            yield f"{domain.name} has {percent(had)} of its pool, and {percent(least)} were asked for"

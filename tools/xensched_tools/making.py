@@ -1,0 +1,89 @@
+"""Machines that are made from others, and their runs by the program."""
+import dataclasses
+import os
+import pathlib
+import subprocess
+import tempfile
+
+from .machine import DOMAIN_KEYS, POOL_KEYS, SCHEDULERS, read_machine, read_work
+from .measures import Study
+from .words import Refused
+
+TOP = pathlib.Path(__file__).resolve().parent.parent.parent
+# The program: the launcher of this folder, or what the environment says.
+PROGRAM = os.environ.get("XENSCHED_PROGRAM") or TOP / "xensched"
+MOST_ENTRIES = 4_000_000
+
+
+def with_schedulers(machine, changes):
+    """The machine with other schedulers: `changes` has a scheduler for each pool's name, or one for None, which is all pools. Keys that the new one has not go."""
+    for name in changes:
+        if name is not None and machine.pool(name) is None:
+            raise Refused(f"there is no pool {name!r}; the pools are {', '.join(pool.name for pool in machine.pools)}")
+    pools, domains, sched_of = [], [], {}
+    for pool in machine.pools:
+        sched = sched_of[pool.name] = changes.get(pool.name, changes.get(None, pool.sched))
+        if sched not in SCHEDULERS:
+            raise Refused(f"{sched!r} is no scheduler: {', '.join(SCHEDULERS)}")
+        pools.append(dataclasses.replace(pool, sched=sched, settings=kept(pool.settings, POOL_KEYS[sched])))
+    for domain in machine.domains:
+        domains.append(dataclasses.replace(domain, settings=kept(domain.settings, DOMAIN_KEYS[sched_of[domain.pool]])))
+    return dataclasses.replace(machine, pools=pools, domains=domains)
+
+
+def kept(settings, keys):
+    return {key: value for key, value in settings.items() if key in keys}
+
+
+def with_setting(machine, path, value):
+    """The machine with another value of a key: `web.weight`, `pool.Pool-0.ratelimit_us`, or `horizon_ns`."""
+    subject, _, key = path.rpartition(".")
+    if path == "horizon_ns":
+        return dataclasses.replace(machine, horizon=value)
+    if subject.startswith("pool."):
+        return dataclasses.replace(machine, pools=[changed(pool, key, value) if pool.name == subject[5:] else pool for pool in machine.pools])
+    if subject not in [domain.name for domain in machine.domains]:
+        raise Refused(f"{path!r} names no key: write DOMAIN.KEY, pool.POOL.KEY or horizon_ns")
+    return dataclasses.replace(machine, domains=[changed(domain, key, value) if domain.name == subject else domain for domain in machine.domains])
+
+
+def changed(subject, key, value):
+    """The pool or domain with another value of one of its scheduler's keys."""
+    if key not in {key for keys in (*POOL_KEYS.values(), *DOMAIN_KEYS.values()) for key in keys}:
+        raise Refused(f"{key!r} is no key of a scheduler")
+    return dataclasses.replace(subject, settings={**subject.settings, key: value})
+
+
+def machine_from(word):
+    """The machine of `FILE`, `FILE@SCHED` (all pools under that scheduler) or `FILE@POOL=SCHED` (that pool)."""
+    path, at, rest = word.partition("@")
+    machine = read_machine(path)
+    if not at:
+        return machine
+    changes = {}
+    for item in rest.split(","):
+        pool, equals, sched = item.rpartition("=")
+        changes[pool if equals else None] = sched
+    return with_schedulers(machine, changes)
+
+
+def get_ready():
+    """Makes one short run, so that a program that has to be built is built once and not by many runs side by side."""
+    if subprocess.run([PROGRAM, "make", "1", "1", "1", "work"], stdout=subprocess.DEVNULL).returncode:
+        raise Refused(f"the program {PROGRAM} does not run")
+
+
+def run(machine, work_path=None, prepare=lambda study: None):
+    """The study of the machine's ordered run with this work file, None for none; `prepare` is told the study before it begins."""
+    with tempfile.TemporaryDirectory(prefix="xensched-") as folder:
+        domains, empty, schedule = (pathlib.Path(folder) / name for name in ("domains.toml", "work.txt", "schedule.txt"))
+        domains.write_text(machine.text())
+        empty.touch()
+        with open(schedule, "wb") as out:
+            done = subprocess.run([PROGRAM, "run", "--ordered", "--events", str(MOST_ENTRIES), domains, work_path or empty], stdout=out, stderr=subprocess.PIPE, text=True)
+        if done.returncode not in (0, 7):
+            raise Refused(f"the program refuses the machine: {done.stderr.strip()}")
+        study = Study(machine, read_work(work_path) if work_path else None)
+        prepare(study)
+        with open(schedule, encoding="ascii") as lines:
+            return study.follow(lines)

@@ -1,0 +1,121 @@
+"""The machines of a sweep, and what a row of it says of one."""
+import itertools
+import json
+import pathlib
+import subprocess
+import tempfile
+
+from . import making, tables
+from .machine import read_machine
+from .measures import Distribution
+from .words import Refused
+
+
+def joined(study, spans_of):
+    """The spans of all vCPUs together."""
+    whole = Distribution()
+    for vcpu in study.vcpus.values():
+        for spans in spans_of(vcpu.tally):
+            whole.add_all(spans)
+    return whole
+
+
+def waits(study):
+    return joined(study, lambda tally: [tally.waits])
+
+
+def responses(study):
+    return joined(study, lambda tally: tally.jobs)
+
+
+def in_all(study, subjects, value):
+    """A figure added up over the units, cores or vCPUs."""
+    return sum(value(subject) for subject in getattr(study, subjects).values())
+
+
+# The figures of a whole run. What a report says ends at the last entry; all others are those of docs/MEASURES.md.
+WHOLE = {
+    "entries": lambda study: study.entries,
+    "end": lambda study: study.last,
+    "units": lambda study: len(study.units),
+    "run": lambda study: sum(it[0] for it in study.reported.units.values()),
+    "idle": lambda study: sum(it[1] for it in study.reported.cores.values()),
+    "picks": lambda study: sum(it[1] for it in study.reported.units.values()),
+    "late": lambda study: sum(it[3] for it in study.reported.units.values()),
+    "wait_mean": lambda study: None if waits(study).mean is None else round(waits(study).mean),
+    "wait_p99": lambda study: waits(study).percentiles([990])[0],
+    "wait_greatest": lambda study: waits(study).most,
+    "response_p99": lambda study: responses(study).percentiles([990])[0],
+    "response_greatest": lambda study: responses(study).most,
+    "preempted": lambda study: in_all(study, "units", lambda unit: unit.preempted),
+    "moves": lambda study: in_all(study, "units", lambda unit: unit.moves),
+    "drifted": lambda study: in_all(study, "vcpus", lambda vcpu: vcpu.tally.drifted),
+    "short": lambda study: in_all(study, "units", lambda unit: unit.tally[1].short),
+    "missing": lambda study: in_all(study, "units", lambda unit: unit.tally[1].missing),
+}
+USUAL = ["entries", "end", "units", "run", "idle", "picks", "late", "wait_mean", "wait_p99", "wait_greatest", "preempted", "moves"]
+
+
+def figure(study, column):
+    """A figure of the whole run, or TABLE.ROW.KEY: that of a row of a study's table, as domains.web.share."""
+    if column in WHOLE:
+        return WHOLE[column](study)
+    table, _, rest = column.partition(".")
+    name, _, key = rest.rpartition(".")
+    if table not in tables.TABLES or not name:
+        raise Refused(f"{column!r} is no column: it is one of {', '.join(WHOLE)}, or TABLE.ROW.KEY of a study, as domains.web.share")
+    made = tables.TABLES[table](study)
+    if key not in [it.full_key for it in made.columns]:
+        raise Refused(f"the table {table} has no column {key!r}; it has {', '.join(it.full_key for it in made.columns)}")
+    return next((record[key] for record, row in zip(made.records(), made.rows) if name in row[: made.names]), None)
+
+
+def made_files(folder, seed, processors, domains):
+    """The files of a made machine."""
+    paths = []
+    for what, name in (("domains", "domains.toml"), ("work", "work.txt")):
+        done = subprocess.run([making.PROGRAM, "make", str(seed), str(processors), str(domains), what], capture_output=True, text=True)
+        if done.returncode:
+            raise Refused(f"xensched make {seed} {processors} {domains}: {done.stderr.strip()}")
+        paths.append(pathlib.Path(folder) / name)
+        paths[-1].write_text(done.stdout)
+    return paths
+
+
+def studied(job):
+    """The study of one machine of the sweep."""
+    if "seed" in job:
+        with tempfile.TemporaryDirectory(prefix="xensched-") as folder:
+            domains, work = made_files(folder, job["seed"], job["processors"], job["domains"])
+            return making.run(read_machine(domains), work)
+    machine = making.machine_from(job["machine"])
+    for path, value in job["settings"].items():
+        machine = making.with_setting(machine, path, value)
+    return making.run(machine, job["work"])
+
+
+def value_of(text):
+    """A value of a key: a whole number, or true or false."""
+    if text in ("true", "false"):
+        return text == "true"
+    try:
+        return int(text)
+    except ValueError:
+        raise Refused(f"{text!r} is no value of a key: whole numbers, true or false") from None
+
+
+def settings_over(texts):
+    """Each choice of values for the keys of `web.weight=128,256,512`."""
+    keys, choices = [], []
+    for text in texts:
+        key, equals, values = text.partition("=")
+        if not equals:
+            raise Refused(f"{text!r} is not of the form KEY=VALUE,VALUE")
+        keys.append(key)
+        choices.append([value_of(value) for value in values.split(",")])
+    return keys, [dict(zip(keys, chosen)) for chosen in itertools.product(*choices)]
+
+
+def line_of(job):
+    """A job as a line for GNU parallel."""
+    return json.dumps(job, separators=(",", ":"))

@@ -1,0 +1,64 @@
+"""Times as people write them, and how a tool ends: with a sentence and a status, never with a traceback."""
+import os
+import re
+import sys
+
+UNITS = {"ns": 1, "us": 1_000, "µs": 1_000, "ms": 1_000_000, "s": 1_000_000_000}
+TIME = re.compile(r"(\d+(?:\.\d+)?)(ns|us|µs|ms|s)?")
+
+WRONG_WORDS, CONTRADICTION = 2, 3
+
+
+class Refused(Exception):
+    """What a tool cannot do, as a sentence for its user."""
+
+
+def time_of(text):
+    """The nanoseconds of `2ms`, `1.5s`, `300us`, `40ns` or `40`."""
+    found = TIME.fullmatch(text)
+    if not found:
+        raise Refused(f"{text!r} is no time: write digits and ns, us, ms or s, as 2ms")
+    whole, _, part = found[1].partition(".")
+    unit = UNITS[found[2] or "ns"]
+    span = int(whole) * unit + (int(part) * unit) // 10 ** len(part) if part else int(whole) * unit
+    if part and int(part) * unit % 10 ** len(part):
+        raise Refused(f"{text!r} is no whole number of nanoseconds")
+    return span
+
+
+def milliseconds(span):
+    """A time in milliseconds, with as many decimals as it has, at most six."""
+    whole, part = divmod(abs(round(span)), 1_000_000)
+    sign = "-" if round(span) < 0 else ""
+    return f"{sign}{whole}" + (f".{part:06}".rstrip("0") if part else "")
+
+
+def percent(part):
+    """A part of one as a percentage with two decimals."""
+    return f"{100 * part:.2f}%"
+
+
+def warn(name, text):
+    """One line on standard error."""
+    print(f"{name}: {text}", file=sys.stderr)
+
+
+def end_with(name, main):
+    """Runs a tool's main function and ends with its status."""
+    try:
+        status = main()
+        sys.stdout.flush()
+    except Refused as refusal:
+        warn(name, refusal)
+        status = WRONG_WORDS
+    except OSError as error:
+        if isinstance(error, BrokenPipeError):
+            # whoever reads has enough; the interpreter would complain when it flushes
+            os.dup2(os.open(os.devnull, os.O_WRONLY), sys.stdout.fileno())
+            status = 0
+        else:
+            warn(name, f"{error.filename or 'the output'}: {error.strerror}")
+            status = WRONG_WORDS
+    except KeyboardInterrupt:
+        status = 130
+    sys.exit(status)
