@@ -224,7 +224,7 @@ void begin(void)
             align_deadlines(number);
     settle();
     present_moment = plan.origin;
-    while ( run_timer(stalled_until) )  /* those of this very moment, as of caps */
+    while ( run_timer(stalled_until) >= 0 ) /* those of this very moment, as of caps */
         ;
     is_begun = true;
     for ( number = 0; number < plan.pool_count; number++ )

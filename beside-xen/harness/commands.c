@@ -153,13 +153,29 @@ static long answer_to(const struct line *line)
     }
 }
 
+/* The pool that a command names, or that has the domain that it names. */
+static int pool_of_line(const struct line *line)
+{
+    switch ( line->what )
+    {
+    case RATE: case FRAME: case CREATE: case DESTROY: case ADD: case REMOVE: return line->values[0];
+    default: return domains[line->values[0]]->cpupool->cpupool_id;
+    }
+}
+
 void carry_out(const struct line *line)
 {
     static int number;
     long answer;
+    int pool;
     present_cpu = TOOLSTACK;
     if ( line->what == STALL )
         return stall(line->values[0], line->values[1]);
+    pool = pool_of_line(line);
     answer = answer_to(line);
     tell("xl %d %s %ld", ++number, answer ? "refused" : "ok", answer);
+    if ( !answer )
+        look(pool);
+    if ( line->what == MIGRATE )
+        look(pool_of_line(line));
 }

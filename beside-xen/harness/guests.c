@@ -34,6 +34,12 @@ static void start_guest(unsigned int processor, struct vcpu *vcpu)
     }
 }
 
+static bool is_saving(unsigned int processor)
+{
+    const struct sched_unit *unit = get_sched_res(processor)->prev;
+    return unit && !is_idle_unit(unit);
+}
+
 /* Called by schedule() once it has decided. By rank, all cores of a moment decide before one leaves, and leave before one saves. */
 void context_switch(struct vcpu *from, struct vcpu *to)
 {
@@ -42,7 +48,8 @@ void context_switch(struct vcpu *from, struct vcpu *to)
     stand_at(processor, BEFORE_LEAVING);
     stop_guest(from);
     start_guest(processor, to);
-    stand_at(processor, BEFORE_SAVING);
+    if ( is_saving(processor) )
+        stand_at(processor, BEFORE_SAVING);
     sched_context_switched(from, to);
 }
 

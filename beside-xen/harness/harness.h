@@ -77,7 +77,7 @@ extern struct domain *domains[MAX_DOMAINS];
 void start_processor(unsigned int number);
 long chance_of_lateness(void);
 long next_timer(const long *stalled_until);
-bool run_timer(const long *stalled_until);
+int run_timer(const long *stalled_until);
 
 /* boot.c */
 void boot(void);
@@ -95,7 +95,7 @@ void carry_out(const struct line *line);
 /* machine.c */
 extern long stalled_until[NR_CPUS];
 void settle(void);
-void look(void);
+void look(int pool);
 void run_moment(void);
 long next_moment(void);
 void make_processors(void);

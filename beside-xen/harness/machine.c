@@ -14,6 +14,13 @@ static bool is_up(unsigned int processor)
     return stalled_until[processor] <= present_moment;
 }
 
+/* The number of the processor's pool, -1 where it is in none. */
+static int pool_of(unsigned int processor)
+{
+    const struct cpupool *pool = get_sched_res(processor)->cpupool;
+    return pool ? pool->cpupool_id : -1;
+}
+
 /* A processor is a thread of control that goes through its softirqs whenever it is let. */
 static void live(void)
 {
@@ -59,26 +66,28 @@ void stand_at(unsigned int processor, enum place place)
 extern bool rtds_is_to_decide(unsigned int processor) __attribute__((weak));
 extern bool credit2_is_to_decide(unsigned int processor) __attribute__((weak));
 
-static bool is_to_decide(unsigned int processor, int scheduler)
+static bool is_to_decide(unsigned int processor)
 {
+    const struct sched_resource *core = get_sched_res(processor);
+    int scheduler = core->scheduler->sched_id;
+    if ( !cpumask_test_cpu(processor, core->cpupool->cpu_valid) )
+        return false;
+    if ( core->curr->rendezvous_in_cnt )    /* its processors gather for a decision already */
+        return false;
     if ( scheduler == XEN_SCHEDULER_RTDS )
         return rtds_is_to_decide && rtds_is_to_decide(processor);
     return scheduler == XEN_SCHEDULER_CREDIT2 && credit2_is_to_decide && credit2_is_to_decide(processor);
 }
 
-/* Each core is looked at, as xensched does after each event. */
-void look(void)
+/* Each core of the pool is looked at, as xensched does after each event of a pool. */
+void look(int pool)
 {
     unsigned int processor;
     if ( !rtds_is_to_decide && !credit2_is_to_decide )
         return;
-    for ( processor = 0; processor < plan.processors; processor++ )
-    {
-        struct sched_resource *core = get_sched_res(processor);
-        if ( core->master_cpu == processor && core->cpupool && cpumask_test_cpu(processor, core->cpupool->cpu_valid)
-             && is_to_decide(processor, core->scheduler->sched_id) )
+    for ( processor = 0; processor < plan.processors; processor += core_size )
+        if ( pool_of(processor) == pool && is_to_decide(processor) )
             cpu_raise_softirq(processor, SCHEDULE_SOFTIRQ);
-    }
 }
 
 static bool may_decide(unsigned int processor)
@@ -98,7 +107,7 @@ static bool pass_by_number(void)
         if ( !may_decide(processor) )
             continue;
         let_go_on(processor);
-        look();
+        look(pool_of(processor));
         any |= !(was_waiting && is_waiting[processor]);
     }
     return any;
@@ -112,7 +121,7 @@ static bool step_from(enum place place)
         if ( is_up(processor) && places[processor] == place )
         {
             let_go_on(processor);
-            look();
+            look(pool_of(processor));
             return true;
         }
     return false;
@@ -127,7 +136,6 @@ static bool step_by_rank(void)
 /* Lets all processors go through their softirqs until nothing is left to do. */
 void settle(void)
 {
-    look();
     while ( plan.by_rank && is_begun ? step_by_rank() : pass_by_number() )
         ;
 }
@@ -153,7 +161,6 @@ static void carry_out_lines(void)
     {
         const struct line *line = &plan.lines[next_line++];
         carry_out(line);
-        look();
         if ( line->what != STALL && !plan.by_rank )
             settle();
     }
@@ -170,7 +177,7 @@ static bool wake_guests(void)
                 if ( vcpu->arch.wakes >= 0 && vcpu->arch.wakes <= present_moment )
                 {
                     wake_guest(vcpu);
-                    look();
+                    look(vcpu->domain->cpupool->cpupool_id);
                     any = true;
                 }
     return any;
@@ -184,7 +191,7 @@ static bool block_guests(void)
         if ( is_up(processor) && done_at(processor) >= 0 && done_at(processor) <= present_moment )
         {
             block_guest(processor);
-            look();
+            look(pool_of(processor));
             any = true;
         }
     return any;
@@ -193,9 +200,10 @@ static bool block_guests(void)
 static bool run_timers(void)
 {
     bool any = false;
-    while ( run_timer(stalled_until) )
+    int processor;
+    while ( (processor = run_timer(stalled_until)) >= 0 )
     {
-        look();
+        look(pool_of(processor));
         any = true;
     }
     return any;

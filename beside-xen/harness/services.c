@@ -179,21 +179,22 @@ long next_timer(const long *stalled_until)
     return best;
 }
 
-/* Runs one timer that has come, on its processor. Whether there was one. */
-bool run_timer(const long *stalled_until)
+/* Runs one timer that has come, on its processor. Which processor that is, -1 where none has come. */
+int run_timer(const long *stalled_until)
 {
     int place;
     for ( place = 0; place < timer_count; place++ )
         if ( comes_at(place, stalled_until) <= present_moment )
         {
             struct timer *timer = timers[place];
+            int processor = timer->cpu;
             stop_timer(timer);
-            present_cpu = timer->cpu;
+            present_cpu = processor;
             timer->function(timer->data);
             present_cpu = TOOLSTACK;
-            return true;
+            return processor;
         }
-    return false;
+    return -1;
 }
 
 /* Domains */
@@ -252,7 +253,7 @@ void domain_unpause(struct domain *domain)
     for_each_vcpu ( domain, vcpu )
     {
         vcpu_wake(vcpu);
-        look();
+        look(domain->cpupool->cpupool_id);
     }
 }
 
