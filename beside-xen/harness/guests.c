@@ -40,12 +40,21 @@ static bool is_saving(unsigned int processor)
     return unit && !is_idle_unit(unit);
 }
 
+/* Whether one processor alone changes its vCPU, because that sleeps or wakes while its siblings go on. */
+static bool is_alone(const struct vcpu *to)
+{
+    return core_size > 1 && !atomic_read(&to->sched_unit->rendezvous_out_cnt);
+}
+
 /* Called by schedule() once it has decided. By rank, all cores of a moment decide before one leaves, and leave before one saves. */
 void context_switch(struct vcpu *from, struct vcpu *to)
 {
     unsigned int processor = present_cpu;
-    tell_decision(processor);
-    stand_at(processor, BEFORE_LEAVING);
+    if ( !is_alone(to) )
+    {
+        tell_decision(processor);
+        stand_at(processor, BEFORE_LEAVING);
+    }
     stop_guest(from);
     start_guest(processor, to);
     if ( is_saving(processor) )

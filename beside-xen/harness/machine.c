@@ -66,13 +66,23 @@ void stand_at(unsigned int processor, enum place place)
 extern bool rtds_is_to_decide(unsigned int processor) __attribute__((weak));
 extern bool credit2_is_to_decide(unsigned int processor) __attribute__((weak));
 
+/* Whether a processor of the core is to schedule already. */
+static bool is_asked(unsigned int first)
+{
+    unsigned int processor;
+    for ( processor = first; processor < first + core_size; processor++ )
+        if ( test_bit(SCHEDULE_SOFTIRQ, &softirq_pending(processor)) )
+            return true;
+    return false;
+}
+
 static bool is_to_decide(unsigned int processor)
 {
     const struct sched_resource *core = get_sched_res(processor);
     int scheduler = core->scheduler->sched_id;
     if ( !cpumask_test_cpu(processor, core->cpupool->cpu_valid) )
         return false;
-    if ( core->curr->rendezvous_in_cnt )    /* its processors gather for a decision already */
+    if ( core->curr->rendezvous_in_cnt || is_asked(processor) )
         return false;
     if ( scheduler == XEN_SCHEDULER_RTDS )
         return rtds_is_to_decide && rtds_is_to_decide(processor);
@@ -95,21 +105,35 @@ static bool may_decide(unsigned int processor)
     return is_up(processor) && places[processor] == AT_REST && (is_waiting[processor] || softirq_pending(processor));
 }
 
-/* One pass over the processors, each of which goes on until it has nothing to do. Whether any had. */
+/* The processor goes on, if it may, until it has nothing to do. Whether that brought anything about. */
+static bool step(unsigned int processor)
+{
+    bool was_waiting = is_waiting[processor];
+    if ( !may_decide(processor) )
+        return false;
+    let_go_on(processor);
+    look(pool_of(processor));
+    return !(was_waiting && is_waiting[processor]);
+}
+
+/* One pass over all processors. */
 static bool pass_by_number(void)
 {
-    unsigned int first = plan.most_late ? chance_of_lateness() % plan.processors : 0, step;
+    unsigned int first = plan.most_late ? chance_of_lateness() % plan.processors : 0, place;
     bool any = false;
-    for ( step = 0; step < plan.processors; step++ )
-    {
-        unsigned int processor = (first + step) % plan.processors;
-        bool was_waiting = is_waiting[processor];
-        if ( !may_decide(processor) )
-            continue;
-        let_go_on(processor);
-        look(pool_of(processor));
-        any |= !(was_waiting && is_waiting[processor]);
-    }
+    for ( place = 0; place < plan.processors; place++ )
+        any |= step((first + place) % plan.processors);
+    return any;
+}
+
+/* The processors of the first core that has something to do. */
+static bool step_of_first_core(void)
+{
+    unsigned int core, processor;
+    bool any = false;
+    for ( core = 0; core < plan.processors && !any; core += core_size )
+        for ( processor = core; processor < core + core_size; processor++ )
+            any |= step(processor);
     return any;
 }
 
@@ -127,10 +151,10 @@ static bool step_from(enum place place)
     return false;
 }
 
-/* All that may decide do so first, then one leaves, and where none is to leave one saves. */
+/* The cores that may decide do so first, by number; then processors leave, and where none is to leave one saves. */
 static bool step_by_rank(void)
 {
-    return pass_by_number() || step_from(BEFORE_LEAVING) || step_from(BEFORE_SAVING);
+    return step_of_first_core() || step_from(BEFORE_LEAVING) || step_from(BEFORE_SAVING);
 }
 
 /* Lets all processors go through their softirqs until nothing is left to do. */
