@@ -126,11 +126,14 @@ static bool pass_by_number(void)
     return any;
 }
 
-/* The processors of the first core that has something to do. */
+/* The processors of the first core that has something to do, after a look for each that arrives. */
 static bool step_of_first_core(void)
 {
     unsigned int core, processor;
     bool any = false;
+    for ( processor = 0; processor < plan.processors; processor++ )
+        if ( may_decide(processor) )
+            look(pool_of(processor));
     for ( core = 0; core < plan.processors && !any; core += core_size )
         for ( processor = core; processor < core + core_size; processor++ )
             any |= step(processor);
