@@ -1,5 +1,5 @@
 # file: credit2
-# What running units hold is taken off the most that a refill gives.
+# A refill charges the running units first, and what they hold is taken off the most that it gives.
 /^#include "private.h"/ a\
 struct csched2_dom;\
 static s_time_t held_by_running(struct csched2_dom *domain, s_time_t now);

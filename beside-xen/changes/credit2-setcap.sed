@@ -4,6 +4,7 @@
 extern bool is_cap_given;\
 static void decide_anew(struct domain *domain);
 /^csched2_dom_cntl/,/^\}/ {
+    s/else if \( sdom->cap != 0 \)/else if ( sdom->cap != 0 || is_cap_given )/
     s/if \( sdom->cap == 0 \)/if ( sdom->cap == 0 || is_cap_given )/
     s/sdom->cap = 0;/& decide_anew(d);/
 }

@@ -62,9 +62,11 @@ void context_switch(struct vcpu *from, struct vcpu *to)
     sched_context_switched(from, to);
 }
 
+/* Called where the processor keeps its vCPU. */
 void continue_running(struct vcpu *vcpu)
 {
     tell_decision(present_cpu);
+    stand_at(present_cpu, BEFORE_LEAVING);
 }
 
 /* When the guest that the processor runs has done its work; -1 where it never will, or where none runs. */
