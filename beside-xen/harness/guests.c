@@ -60,13 +60,16 @@ void context_switch(struct vcpu *from, struct vcpu *to)
     if ( is_saving(processor) )
         stand_at(processor, BEFORE_SAVING);
     sched_context_switched(from, to);
+    stand_at(processor, AT_REST);
 }
 
 /* Called where the processor keeps its vCPU. */
 void continue_running(struct vcpu *vcpu)
 {
-    tell_decision(present_cpu);
-    stand_at(present_cpu, BEFORE_LEAVING);
+    unsigned int processor = present_cpu;
+    tell_decision(processor);
+    stand_at(processor, BEFORE_LEAVING);
+    stand_at(processor, AT_REST);
 }
 
 /* When the guest that the processor runs has done its work; -1 where it never will, or where none runs. */

@@ -175,7 +175,8 @@ class Work:
 
     def cap(self, random):
         name, domain = self.domain("credit2")
-        return f"xl sched-credit2 -d {name} -c {random.choice([0, random.randrange(10, 100 * len(domain['guests']) + 1)])}"
+        units = -(-len(domain["guests"]) // self.made["granularity"])
+        return f"xl sched-credit2 -d {name} -c {random.choice([0, random.randrange(10, 100 * units + 1)])}"
 
     def limit(self, random):
         return f"xl sched-credit2 -s -p Pool-0 -r {random.choice(RATE_LIMITS_US)}"
