@@ -16,22 +16,37 @@ static void tell_decision(unsigned int processor)
              core->curr->unit_id / core_size, due);
 }
 
-static void stop_guest(struct vcpu *vcpu)
+static bool is_held[NR_CPUS];           /* the processor is in Xen's code, and its guest stands still */
+
+static void count_work(struct vcpu *vcpu)
 {
     if ( !is_idle_vcpu(vcpu) && vcpu->arch.left >= 0 )
         vcpu->arch.left = max(0l, vcpu->arch.left - (present_moment - vcpu->arch.started));
 }
 
+/* The guest of the processor stands still from now on. */
+void hold_guest(unsigned int processor)
+{
+    if ( !is_held[processor] )
+        count_work(current_vcpus[processor]);
+    is_held[processor] = true;
+}
+
+/* It goes on. */
+static void release_guest(unsigned int processor)
+{
+    current_vcpus[processor]->arch.started = present_moment;
+    is_held[processor] = false;
+}
+
 static void start_guest(unsigned int processor, struct vcpu *vcpu)
 {
     current_vcpus[processor] = vcpu;
+    release_guest(processor);
     if ( is_idle_vcpu(vcpu) )
         tell("leave p%u idle", processor);
     else
-    {
-        vcpu->arch.started = present_moment;
         tell("leave p%u d%dv%d", processor, vcpu->domain->domain_id, vcpu->vcpu_id);
-    }
 }
 
 static bool is_saving(unsigned int processor)
@@ -55,7 +70,7 @@ void context_switch(struct vcpu *from, struct vcpu *to)
         tell_decision(processor);
         stand_at(processor, BEFORE_LEAVING);
     }
-    stop_guest(from);
+    hold_guest(processor);
     start_guest(processor, to);
     if ( is_saving(processor) )
         stand_at(processor, BEFORE_SAVING);
@@ -69,6 +84,8 @@ void continue_running(struct vcpu *vcpu)
     unsigned int processor = present_cpu;
     tell_decision(processor);
     stand_at(processor, BEFORE_LEAVING);
+    if ( is_held[processor] )
+        start_guest(processor, vcpu);
     stand_at(processor, AT_REST);
 }
 
@@ -76,7 +93,7 @@ void continue_running(struct vcpu *vcpu)
 long done_at(unsigned int processor)
 {
     struct vcpu *vcpu = current_vcpus[processor];
-    if ( !vcpu || is_idle_vcpu(vcpu) || vcpu->arch.left < 0 || vcpu->arch.wakes >= 0 )
+    if ( !vcpu || is_idle_vcpu(vcpu) || is_held[processor] || vcpu->arch.left < 0 || vcpu->arch.wakes >= 0 )
         return -1;
     return vcpu->arch.started + vcpu->arch.left;
 }

@@ -126,11 +126,22 @@ static bool pass_by_number(void)
     return any;
 }
 
+/* The processors of a core that is to decide arrive as soon as they are up, also where one that is late has not asked them yet. */
+static void let_arrive(void)
+{
+    unsigned int core, processor;
+    for ( core = 0; core < plan.processors; core += core_size )
+        for ( processor = core; processor < core + core_size; processor++ )
+            if ( is_asked(core) && is_up(processor) && places[processor] == AT_REST )
+                hold_guest(processor);
+}
+
 /* The processors of the first core that has something to do, after a look for each that arrives. */
 static bool step_of_first_core(void)
 {
     unsigned int core, processor;
     bool any = false;
+    let_arrive();
     for ( processor = 0; processor < plan.processors; processor++ )
         if ( may_decide(processor) )
             look(pool_of(processor));
@@ -177,6 +188,8 @@ void let_others_run(void)
         return;
     }
     is_waiting[processor] = true;
+    if ( get_sched_res(processor)->curr->rendezvous_in_cnt )
+        hold_guest(processor);
     host_stop(processor);
     is_waiting[processor] = false;
     present_cpu = processor;
@@ -193,6 +206,19 @@ static void carry_out_lines(void)
     }
 }
 
+/* A vCPU that wakes beside its siblings starts at once by xensched's rule, also where its processor is late. */
+static void start_beside_siblings(const struct vcpu *vcpu)
+{
+    unsigned int processor = vcpu->processor;
+    bool asked = test_bit(SCHEDULE_SOFTIRQ, &softirq_pending(processor));
+    if ( !plan.by_rank || !vcpu->force_context_switch || is_up(processor) || places[processor] != AT_REST || is_waiting[processor] )
+        return;
+    clear_bit(SCHEDULE_SOFTIRQ, &softirq_pending(processor));
+    let_go_on(processor);
+    if ( asked )
+        set_bit(SCHEDULE_SOFTIRQ, &softirq_pending(processor));
+}
+
 static bool wake_guests(void)
 {
     bool any = false;
@@ -204,6 +230,7 @@ static bool wake_guests(void)
                 if ( vcpu->arch.wakes >= 0 && vcpu->arch.wakes <= present_moment )
                 {
                     wake_guest(vcpu);
+                    start_beside_siblings(vcpu);
                     look(vcpu->domain->cpupool->cpupool_id);
                     any = true;
                 }
