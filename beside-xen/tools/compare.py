@@ -147,28 +147,25 @@ class Reader:
 
 
 def call(words, text=None):
-    return subprocess.run([str(word) for word in words], input=text, capture_output=True, text=True, timeout=SECONDS)
+    try:
+        return subprocess.run([str(word) for word in words], input=text, capture_output=True, text=True, timeout=SECONDS)
+    except subprocess.TimeoutExpired as hung:
+        raise Fault(f"{words[0]} has not ended after {SECONDS} seconds") from hung
 
 
-class Both:
-    """The two runs of a machine."""
+class Model:
+    """A machine, and what xensched makes of it."""
 
-    def __init__(self, program, beside, domains, work="", options=()):
-        self.domains, self.work, self.options = domains, work, tuple(options)
-        self.machine = tomllib.loads(domains)
-        self.texts = (self.model_text(program), self.xen_text(beside))
-        size = self.machine.get("granularity", 1)
-        self.model, self.xen = (Reader(self.machine["horizon_ns"], size).read(text) for text in self.texts)
-        # Xen counts a vCPU as running from the decision on; a sibling that is late then begins later.
-        if size == 1 or " stall " not in work:
-            self.check_accounts()
+    def __init__(self, program, domains, work=""):
+        self.domains, self.work, self.machine = domains, work, tomllib.loads(domains)
+        self.size = self.machine.get("granularity", 1)
+        self.text = self.run_program(program)
+        self.run = self.read(self.text)
 
-    def check_accounts(self):
-        for vcpu, time in self.xen.accounts.items():
-            if time != self.xen.time[vcpu]:
-                raise Fault(f"Xen counts {time} for {vcpu}, the log {self.xen.time[vcpu]}")
+    def read(self, text):
+        return Reader(self.machine["horizon_ns"], self.size).read(text)
 
-    def model_text(self, program):
+    def run_program(self, program):
         with tempfile.TemporaryDirectory() as name:
             folder = pathlib.Path(name)
             (folder / "domains.toml").write_text(self.domains)
@@ -178,15 +175,39 @@ class Both:
             raise Fault(f"{program} ends with {done.returncode}: {done.stderr.strip()}")
         return done.stdout
 
-    def xen_text(self, beside):
-        done = call([beside, "-"], plan.input_for(self.domains, self.work, self.options))
+    def shares(self, run):
+        """The part of the horizon that each domain has, in processors."""
+        return [sum(run.time[f"d{number}v{vcpu}"] for vcpu in range(len(domain["guests"]))) / self.machine["horizon_ns"]
+                for number, domain in enumerate(self.machine["domain"])]
+
+
+class Both:
+    """A machine as xensched has run it, and the same by Xen's code."""
+
+    def __init__(self, model, beside, options=()):
+        self.of, self.options = model, tuple(options)
+        self.input = plan.input_for(model.domains, model.work, self.options)
+        self.text = self.run_harness(beside)
+        self.model, self.xen = model.run, model.read(self.text)
+        # Xen counts a vCPU as running from the decision on; a sibling that is late begins later.
+        if model.size == 1 or " stall " not in model.work:
+            self.check_accounts()
+
+    def run_harness(self, beside):
+        done = call([beside, "-"], self.input)
         if done.returncode:
-            raise Fault(f"{beside} ends with {done.returncode}: {done.stderr.strip()}")
+            raise Fault(f"{pathlib.Path(beside).name} ends with {done.returncode}: {done.stderr.strip()}")
         return done.stdout
+
+    def check_accounts(self):
+        for vcpu, time in self.xen.accounts.items():
+            if time != self.xen.time[vcpu]:
+                raise Fault(f"Xen counts {time} for {vcpu}, the log {self.xen.time[vcpu]}")
 
     def is_equal(self):
         """Each processor runs the same vCPU at each moment."""
-        return {p: stays for p, stays in self.model.by_processor.items() if stays} == {p: stays for p, stays in self.xen.by_processor.items() if stays}
+        one, other = ({p: stays for p, stays in run.by_processor.items() if stays} for run in (self.model, self.xen))
+        return one == other
 
     def is_equal_by_vcpu(self):
         """Each vCPU runs at the same moments, on whichever processor."""
@@ -198,16 +219,11 @@ class Both:
         return min(((first_of(model.get(vcpu, []), xen.get(vcpu, [])), vcpu) for vcpu in {*model, *xen}
                     if model.get(vcpu) != xen.get(vcpu)), default=None)
 
-    def shares(self, run):
-        """The part of the horizon that each domain has, in processors."""
-        return [sum(run.time[f"d{number}v{vcpu}"] for vcpu in range(len(domain["guests"]))) / self.machine["horizon_ns"]
-                for number, domain in enumerate(self.machine["domain"])]
-
     def keep(self, folder):
         """Writes the machine, the harness's input and the two logs into the folder."""
         folder.mkdir(parents=True, exist_ok=True)
-        for name, text in [("domains.toml", self.domains), ("work.txt", self.work), ("options", " ".join(self.options) + "\n"),
-                           ("input", plan.input_for(self.domains, self.work, self.options)), ("xensched.log", self.texts[0]), ("xen.log", self.texts[1])]:
+        for name, text in [("domains.toml", self.of.domains), ("work.txt", self.of.work), ("input", self.input),
+                           ("xensched.log", self.of.text), ("xen.log", self.text)]:
             (folder / name).write_text(text)
 
 

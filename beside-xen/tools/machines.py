@@ -140,7 +140,7 @@ class Work:
     def lines(self, what):
         horizon = self.made["horizon_ns"]
         moments = sorted(self.random.randrange(horizon // 10, horizon) for _ in range(8))
-        return "".join(f"{moment} {line}\n" for moment in moments for line in [getattr(self, what)(self.random)] if line)
+        return "".join(f"{moment} {line}\n" for moment in moments for line in getattr(self, what)(self.random).splitlines())
 
     def domain(self, sched=None):
         """A domain of a pool with the scheduler: its name and its table."""
@@ -186,6 +186,22 @@ class Work:
         own = [number for number, domain in enumerate(self.made["domain"]) if domain.get("pool", "Pool-0") == pool["name"]]
         frame = arinc_frame(random, [self.made["domain"][number] for number in own])
         return f"xl arinc-set {pool['name']} {frame['major_ns']} " + ",".join(f"{own[d]}:{unit}:{run}" for d, unit, run in frame["frame"])
+
+    def core(self, random):
+        """A core goes from a pool that has another to one that is not ARINC 653's, which has its one core for good."""
+        size = self.made["granularity"]
+        source = random.choice([pool for pool in self.made["pool"] if len(pool["cpus"]) > size])
+        target = random.choice([pool for pool in self.made["pool"] if pool["sched"] != "arinc653"])
+        first = random.choice(source["cpus"]) // size * size
+        for cpu in range(first, first + size):
+            source["cpus"].remove(cpu)
+            target["cpus"].append(cpu)
+        return f"xl cpupool-cpu-remove {source['name']} {first}\nxl cpupool-cpu-add {target['name']} {first}"
+
+    def migrate(self, random):
+        name, domain = self.domain()
+        domain["pool"] = random.choice([pool["name"] for pool in self.made["pool"]])
+        return f"xl cpupool-migrate {name} {domain['pool']}"
 
     def pin(self, random):
         name, domain = self.domain()
