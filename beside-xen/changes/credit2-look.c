@@ -7,7 +7,7 @@ bool credit2_is_to_decide(unsigned int processor)
     bool is_better;
     s_time_t limit = MICROSECS(csched2_priv(get_sched_res(processor)->scheduler)->ratelimit_us);
     list_for_each_entry ( it, &queue->runq, runq_elem )
-        if ( cpumask_test_cpu(processor, it->unit->cpu_hard_affinity) && (!has_cap(it) || it->sdom->budget > 0) )
+        if ( unit_runnable(it->unit) && cpumask_test_cpu(processor, it->unit->cpu_hard_affinity) && (!has_cap(it) || it->sdom->budget > 0) )
         {
             if ( is_idle_unit(own->unit) )
                 return true;

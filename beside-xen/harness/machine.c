@@ -182,11 +182,12 @@ void settle(void)
 void let_others_run(void)
 {
     unsigned int processor = present_cpu;
-    if ( processor == TOOLSTACK )
-    {
+    if ( processor == TOOLSTACK && plan.by_rank && is_begun )
+        step_by_rank();
+    else if ( processor == TOOLSTACK )
         settle();
+    if ( processor == TOOLSTACK )
         return;
-    }
     is_waiting[processor] = true;
     if ( get_sched_res(processor)->curr->rendezvous_in_cnt )
         hold_guest(processor);

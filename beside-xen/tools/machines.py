@@ -187,12 +187,16 @@ class Work:
         frame = arinc_frame(random, [self.made["domain"][number] for number in own])
         return f"xl arinc-set {pool['name']} {frame['major_ns']} " + ",".join(f"{own[d]}:{unit}:{run}" for d, unit, run in frame["frame"])
 
+    def may_lose(self, pool, size):
+        """The processors that may leave the pool: not the last core, and processor 0 stays in the first pool, as Xen has it."""
+        return [cpu for cpu in pool["cpus"] if len(pool["cpus"]) > size and (cpu >= size or pool is not self.made["pool"][0])]
+
     def core(self, random):
         """A core goes from a pool that has another to one that is not ARINC 653's, which has its one core for good."""
         size = self.made["granularity"]
-        source = random.choice([pool for pool in self.made["pool"] if len(pool["cpus"]) > size])
+        source = random.choice([pool for pool in self.made["pool"] if self.may_lose(pool, size)])
         target = random.choice([pool for pool in self.made["pool"] if pool["sched"] != "arinc653"])
-        first = random.choice(source["cpus"]) // size * size
+        first = random.choice(self.may_lose(source, size)) // size * size
         for cpu in range(first, first + size):
             source["cpus"].remove(cpu)
             target["cpus"].append(cpu)
