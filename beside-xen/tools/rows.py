@@ -8,13 +8,13 @@ ALL = ("credit2_runqueue=all", "sched_credit2_max_cpus_runqueue=64")    # one ru
 BY_RANK = ("by-rank",)
 NO_RESISTANCE = ("sched_credit2_migrate_resist=0",)
 
-RTDS = ("rtds-look", "rtds-replenish", "rtds-tie", "rtds-arrival", "rtds-due", "rtds-joins", "rtds-term")
+RTDS = ("rtds-look", "rtds-replenish", "rtds-tie", "rtds-arrival", "rtds-due", "rtds-joins", "rtds-term", "rtds-remove")
 CREDIT2 = ("credit2-look", "credit2-rate", "credit2-most", "credit2-wait", "credit2-other", "credit2-floor", "credit2-reset", "credit2-arrival",
-           "credit2-compensation", "credit2-capcut", "credit2-budget", "credit2-refill", "credit2-setcap", "credit2-residual", "credit2-timer")
+           "credit2-compensation", "credit2-capcut", "credit2-budget", "credit2-refill", "credit2-setcap", "credit2-residual", "credit2-timer", "credit2-leaving")
 ONE_CORE = ("credit2-rate", "credit2-wait", "credit2-tolerance", "credit2-floor", "credit2-head")
 ARINC = ("arinc-pools", "arinc-set", "arinc-grid", "arinc-wake")
 NULL = ("null-queue",)
-CORE = ("core-sibling", "core-pin", "core-gather")
+CORE = ("core-sibling", "core-pin", "core-leave", "core-gather")
 EVERY = RTDS + CREDIT2 + ARINC + NULL + CORE
 
 # What Xen as it is has in common with xensched, on every machine of a row.
@@ -31,6 +31,7 @@ class Row:
     changes: tuple = ()
     options: tuple = BY_RANK
     own: tuple = ()             # options of both runs
+    is_settled: bool = True     # with the changes all are to be equal; else the page says what is left
 
     def machine(self, seed):
         """The domain file and the work file of a seed."""
@@ -59,6 +60,26 @@ def credit2(name, make, lines=()):
 
 def several(name, make, lines=()):
     return Row("pools, " + name, make, lines, DIFFERS, EVERY, BY_RANK + NO_RESISTANCE)
+
+
+def unsettled(row):
+    return dataclasses.replace(row, is_settled=False)
+
+
+def two_credit2(random):
+    return made.pools(made.credit2(random, 2, True), made.credit2(random, 2))
+
+
+def two_rtds(random):
+    return made.pools(made.rtds(random, 2), made.rtds(random, 2, None))
+
+
+def credit2_and_rtds(random):
+    return made.pools(made.credit2(random, 2), made.rtds(random, 2))
+
+
+def two_null(random):
+    return made.pools(made.null(random, 2), made.null(random, 2))
 
 
 EQUALITY = [
@@ -114,6 +135,15 @@ EQUALITY = [
     credit2("2 cores of two, caps, all of these set", lambda r: made.of_two(r, made.credit2(r, 2, True)), ("pause", "weight", "cap", "limit", "pin")),
     several("one of each scheduler", made.all_schedulers),
     several("one of each scheduler, stalls, pause and parameters set", made.all_schedulers, ("stall", "pause", "weight", "cap", "budget", "extra", "frame")),
+    several("two of Credit2, cores moved", two_credit2, ("core",)),
+    several("two of RTDS, cores moved", two_rtds, ("core",)),
+    several("Credit2 and RTDS, cores moved", credit2_and_rtds, ("core",)),
+    several("two of Credit2, domains moved", two_credit2, ("migrate",)),
+    several("Credit2 and RTDS, domains moved", credit2_and_rtds, ("migrate",)),
+    unsettled(several("two of null, cores and domains moved", two_null, ("core", "migrate"))),
+    unsettled(arinc("1 core of two, stalls", lambda r: made.of_two(r, made.arinc(r)), ("stall",))),
+    unsettled(rtds("2 cores of two, stalls", lambda r: made.of_two(r, made.rtds(r, 2)), ("stall",))),
+    unsettled(credit2("2 cores of two, stalls", lambda r: made.of_two(r, made.credit2(r, 2)), ("stall",))),
 ]
 
 # For each change of Xen's code, and for each option that stands for one, the row on which it is tried without it.
@@ -130,5 +160,8 @@ WITNESSES = {
     "credit2-timer": "Credit2, 4 cores, stalls, caps", "credit2-tolerance": "Credit2, 1 core, five changes, Xen's own order",
     "credit2-head": "Credit2, 1 core, five changes, Xen's own order", "core-sibling": "Credit2, 2 cores of two", "core-pin": "Credit2, 4 cores, pins set",
     "arinc-pools": "ARINC 653, two pools", "arinc-set": "ARINC 653, frames set", "arinc-grid": "ARINC 653, stalls",
-    "null-queue": "null, all started in one moment",
+    "null-queue": "null, all started in one moment", "rtds-joins": "pools, Credit2 and RTDS, domains moved",
+    "rtds-remove": "pools, two of RTDS, cores moved", "credit2-leaving": "pools, two of Credit2, cores moved",
+    "core-leave": "pools, two of Credit2, cores moved", "arinc-wake": "ARINC 653, 1 core of two, stalls",
+    "core-gather": "Credit2, 2 cores of two, stalls",
 }

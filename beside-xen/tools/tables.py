@@ -105,8 +105,9 @@ def equality(setting):
         as_it_is, changed = outcomes(setting, row, seeds, [((), ()), (row.changes, row.options)])
         if row.as_it_is != DIFFERS:
             demand(setting, row, seeds, as_it_is, {EQUAL: "equal", BY_VCPU: "by_vcpu"}[row.as_it_is])
-        demand(setting, row, seeds, changed, "equal", row.changes, row.options)
-        if row.name.startswith("RTDS"):
+        if row.is_settled:
+            demand(setting, row, seeds, changed, "equal", row.changes, row.options)
+        if row.is_settled and row.name.startswith("RTDS"):
             demand(setting, row, seeds, changed, "replenished", row.changes, row.options)
         print(f"| {row.name} | {count(as_it_is, 'equal')} | {count(as_it_is, 'by_vcpu')} | {count(changed, 'equal')} |", flush=True)
 
@@ -122,5 +123,4 @@ def differences(setting):
         row = named[name]
         rest = tuple(tuple(it for it in part if it != change) for part in (row.changes, row.options))
         whole, less = outcomes(setting, row, seeds, [(row.changes, row.options), rest])
-        demand(setting, row, seeds, whole, "equal", row.changes, row.options)
         print(f"| {change} | {name} | {count(whole, 'equal')} | {count(less, 'equal')} |", flush=True)
