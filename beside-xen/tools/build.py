@@ -14,7 +14,7 @@ OWN = ["machine", "guests", "commands", "boot", "input", "services"]
 EMPTY = ["asm/cpufeature.h", "asm/delay.h", "asm/desc.h", "asm/event.h", "asm/flushtlb.h", "asm/guest.h", "asm/init.h", "asm/page.h",
          "asm/percpu.h", "asm/string.h", "asm/trace.h", "xen/hypercall.h", "xen/hypfs.h", "xen/iommu.h", "xen/symbols.h"]
 FLAGS = ["-O1", "-g", "-std=gnu99", "-fno-strict-aliasing", "-fno-builtin", "-fno-common", "-nostdinc", "-fno-pie", "-Wall", "-Wno-unused",
-         "-Wno-format"]
+         "-Wno-format", "-Werror=implicit-function-declaration"]
 
 
 class Failed(Exception):
