@@ -207,17 +207,27 @@ static void carry_out_lines(void)
     }
 }
 
-/* A vCPU that wakes beside its siblings starts at once by xensched's rule, also where its processor is late. */
-static void start_beside_siblings(const struct vcpu *vcpu)
+/*
+ * A vCPU that wakes while its siblings run starts beside them. By xensched's rule it does so at once, also where its
+ * processor is late, and not at all where that has arrived for a decision.
+ */
+static void start_beside_siblings(struct vcpu *vcpu)
 {
     unsigned int processor = vcpu->processor;
-    bool asked = test_bit(SCHEDULE_SOFTIRQ, &softirq_pending(processor));
-    if ( !plan.by_rank || !vcpu->force_context_switch || is_up(processor) || places[processor] != AT_REST || is_waiting[processor] )
+    unsigned long asked = softirq_pending(processor) & (1ul << SCHEDULE_SOFTIRQ);
+    if ( !plan.by_rank || !vcpu->force_context_switch || places[processor] != AT_REST || is_waiting[processor] )
         return;
-    clear_bit(SCHEDULE_SOFTIRQ, &softirq_pending(processor));
-    let_go_on(processor);
-    if ( asked )
-        set_bit(SCHEDULE_SOFTIRQ, &softirq_pending(processor));
+    if ( has_arrived(processor) )
+    {
+        vcpu->force_context_switch = false;
+        clear_bit(SCHED_SLAVE_SOFTIRQ, &softirq_pending(processor));
+    }
+    else if ( !is_up(processor) )
+    {
+        softirq_pending(processor) &= ~asked;
+        let_go_on(processor);
+        softirq_pending(processor) |= asked;
+    }
 }
 
 static bool wake_guests(void)

@@ -31,7 +31,7 @@ class Row:
     changes: tuple = ()
     options: tuple = BY_RANK
     own: tuple = ()             # options of both runs
-    is_settled: bool = True     # with the changes all are to be equal; else the page says what is left
+    with_changes: str = EQUAL   # what Xen with the changes has in common with xensched; where it differs, the page says what is left
 
     def machine(self, seed):
         """The domain file and the work file of a seed."""
@@ -63,7 +63,7 @@ def several(name, make, lines=()):
 
 
 def unsettled(row):
-    return dataclasses.replace(row, is_settled=False)
+    return dataclasses.replace(row, with_changes=DIFFERS)
 
 
 def two_credit2(random):
@@ -95,7 +95,7 @@ EQUALITY = [
     null("cores of two", lambda r: made.of_two(r, made.null(r))),
     null("pinned units", lambda r: made.pinned(r, made.null(r, 4))),
     null("pause and stalls", lambda r: made.null(r, 4), ("pause", "stall")),
-    null("pins set", lambda r: made.null(r, 4), ("pin",)),
+    dataclasses.replace(null("pins set", lambda r: made.null(r, 4), ("pin",)), with_changes=BY_VCPU),
     rtds("1 core, no extra time", made.rtds, as_it_is=EQUAL),
     rtds("4 cores, no extra time", lambda r: made.rtds(r, 4), as_it_is=BY_VCPU),
     rtds("1 core of two", lambda r: made.of_two(r, made.rtds(r)), as_it_is=EQUAL),
