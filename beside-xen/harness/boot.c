@@ -186,6 +186,7 @@ static void align_deadlines(int number)
     for_each_vcpu ( domains[number], vcpu )
         clear_bit(_VPF_down, &vcpu->pause_flags);
     domain_unpause(domains[number]);
+    run_timers();
     atomic_inc(&domains[number]->pause_count);
     for_each_vcpu ( domains[number], vcpu )
         vcpu_sleep_nosync(vcpu);
@@ -224,13 +225,13 @@ void begin(void)
             align_deadlines(number);
     settle();
     present_moment = plan.origin;
-    while ( run_timer(stalled_until) >= 0 ) /* those of this very moment, as of caps */
-        ;
+    run_timers();                       /* those of this very moment, as of caps */
     is_begun = true;
     for ( number = 0; number < plan.pool_count; number++ )
         if ( plan.pools[number].frame.count )
             BUG_ON(set_frame(number, &plan.pools[number].frame));
     for ( number = 0; number < plan.domain_count; number++ )
         start_domain(domains[number]);
+    run_timers();
     settle();
 }

@@ -96,6 +96,7 @@ void carry_out(const struct line *line);
 extern long stalled_until[NR_CPUS];
 void settle(void);
 void look(int pool);
+bool run_timers(void);
 void run_moment(void);
 long next_moment(void);
 void make_processors(void);

@@ -61,10 +61,22 @@ void stand_at(unsigned int processor, enum place place)
 
 /*
  * What a change of Xen's code may bring: whether the core with this first processor is to decide anew, by xensched's
- * rule. Without such a change the two are missing, and Xen's own tickling alone says which core decides.
+ * rule. Without such a change they are missing, and Xen's own tickling alone says which core decides.
  */
 extern bool rtds_is_to_decide(unsigned int processor) __attribute__((weak));
 extern bool credit2_is_to_decide(unsigned int processor) __attribute__((weak));
+extern bool arinc653_is_to_decide(unsigned int processor) __attribute__((weak));
+
+static bool (*rule_of(int scheduler))(unsigned int processor)
+{
+    switch ( scheduler )
+    {
+    case XEN_SCHEDULER_RTDS: return rtds_is_to_decide;
+    case XEN_SCHEDULER_CREDIT2: return credit2_is_to_decide;
+    case XEN_SCHEDULER_ARINC653: return arinc653_is_to_decide;
+    default: return NULL;
+    }
+}
 
 /* Whether a processor of the core is to schedule already. */
 static bool is_asked(unsigned int first)
@@ -79,22 +91,18 @@ static bool is_asked(unsigned int first)
 static bool is_to_decide(unsigned int processor)
 {
     const struct sched_resource *core = get_sched_res(processor);
-    int scheduler = core->scheduler->sched_id;
+    bool (*rule)(unsigned int processor) = rule_of(core->scheduler->sched_id);
     if ( !cpumask_test_cpu(processor, core->cpupool->cpu_valid) )
         return false;
     if ( core->curr->rendezvous_in_cnt || is_asked(processor) )
         return false;
-    if ( scheduler == XEN_SCHEDULER_RTDS )
-        return rtds_is_to_decide && rtds_is_to_decide(processor);
-    return scheduler == XEN_SCHEDULER_CREDIT2 && credit2_is_to_decide && credit2_is_to_decide(processor);
+    return rule && rule(processor);
 }
 
 /* Each core of the pool is looked at, as xensched does after each event of a pool. */
 void look(int pool)
 {
     unsigned int processor;
-    if ( !rtds_is_to_decide && !credit2_is_to_decide )
-        return;
     for ( processor = 0; processor < plan.processors; processor += core_size )
         if ( pool_of(processor) == pool && is_to_decide(processor) )
             cpu_raise_softirq(processor, SCHEDULE_SOFTIRQ);
@@ -262,7 +270,8 @@ static bool block_guests(void)
     return any;
 }
 
-static bool run_timers(void)
+/* Runs the timers that have come, each on its processor. Whether there were any. */
+bool run_timers(void)
 {
     bool any = false;
     int processor;

@@ -3,6 +3,7 @@
 A change is a file `changes/NAME.sed`, whose first line names the file of Xen that it edits, and beside it there may be
 `changes/NAME.c`, which is put at the end of the edited file. The source of Xen is only read.
 """
+import hashlib
 import pathlib
 import subprocess
 
@@ -65,7 +66,7 @@ class Builder:
         rest = [self.xen / "common" / f"{name}.c" for name in COMMON] + [HERE / "harness" / f"{name}.c" for name in OWN]
         objects = [self.compiled(source, self.flags) for source in [*sources.values(), *rest]]
         objects.append(self.compiled(HERE / "harness" / "host.c", ["-O1", "-g", "-Wall", "-fno-pie"]))
-        target = self.folder / "beside-{}".format("+".join(place.stem for place in sources.values() if "+" in place.stem) or "unchanged")
+        target = self.folder / ("beside-" + hashlib.sha256(" ".join(changes).encode()).hexdigest()[:12] if changes else "beside")
         if not target.exists():
             call("gcc", "-no-pie", "-o", target, *objects, "-T", HERE / "harness" / "sections.ld")
         return target

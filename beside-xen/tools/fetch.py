@@ -42,9 +42,10 @@ class Apt:
         return done.returncode == 0
 
 
-def unpacked(folder):
-    """The folder xen/ of a source that was fetched before."""
-    return next((path for path in sorted(folder.glob("xen-*/xen"), reverse=True) if path.is_dir()), None)
+def unpacked(folder, version=None):
+    """The folder xen/ of a source that was fetched before, of this version where one is given."""
+    name = f"xen-{version.rsplit('-', 1)[0]}" if version else "xen-*"
+    return next((path for path in sorted(folder.glob(f"{name}/xen"), reverse=True) if path.is_dir()), None)
 
 
 def version_of(xen):
@@ -65,14 +66,14 @@ def check(xen, any_version):
 def source(folder, version=None):
     """The folder xen/ of Xen's source, which is fetched where it is not there yet."""
     folder.mkdir(parents=True, exist_ok=True)
-    if found := unpacked(folder):
+    if found := unpacked(folder, version):
         return found
     apt = Apt(folder / "apt")
     print("fetching the list of Debian's source packages", file=sys.stderr)
     done = apt.call("apt-get", "update", "-qq")
     for wanted in [version] if version else apt.versions():
         print(f"fetching xen {wanted}", file=sys.stderr)
-        if apt.fetch(wanted, folder) and (found := unpacked(folder)):
+        if apt.fetch(wanted, folder) and (found := unpacked(folder, wanted)):
             return found
     raise Refused(f"no source package of Xen could be had; apt says: {done.stderr.strip()}")
 

@@ -8,11 +8,12 @@ ALL = ("credit2_runqueue=all", "sched_credit2_max_cpus_runqueue=64")    # one ru
 BY_RANK = ("by-rank",)
 NO_RESISTANCE = ("sched_credit2_migrate_resist=0",)
 
-RTDS = ("rtds-look", "rtds-replenish", "rtds-tie", "rtds-arrival", "rtds-due", "rtds-joins", "rtds-term", "rtds-remove")
+RTDS = ("rtds-look", "rtds-replenish", "rtds-tie", "rtds-arrival", "rtds-due", "rtds-joins", "rtds-term", "rtds-wake",
+        "rtds-remove")
 CREDIT2 = ("credit2-look", "credit2-rate", "credit2-most", "credit2-wait", "credit2-other", "credit2-floor", "credit2-reset", "credit2-arrival",
            "credit2-compensation", "credit2-capcut", "credit2-budget", "credit2-refill", "credit2-setcap", "credit2-residual", "credit2-timer", "credit2-leaving")
 ONE_CORE = ("credit2-rate", "credit2-wait", "credit2-tolerance", "credit2-floor", "credit2-head")
-ARINC = ("arinc-pools", "arinc-set", "arinc-grid", "arinc-wake")
+ARINC = ("arinc-pools", "arinc-set", "arinc-grid", "arinc-look")
 NULL = ("null-queue",)
 CORE = ("core-sibling", "core-pin", "core-leave", "core-gather")
 EVERY = RTDS + CREDIT2 + ARINC + NULL + CORE
@@ -161,7 +162,7 @@ WITNESSES = {
     "credit2-head": "Credit2, 1 core, five changes, Xen's own order", "core-sibling": "Credit2, 2 cores of two", "core-pin": "Credit2, 4 cores, pins set",
     "arinc-pools": "ARINC 653, two pools", "arinc-set": "ARINC 653, frames set", "arinc-grid": "ARINC 653, stalls",
     "null-queue": "null, all started in one moment", "rtds-joins": "pools, Credit2 and RTDS, domains moved",
-    "rtds-remove": "pools, two of RTDS, cores moved", "credit2-leaving": "pools, two of Credit2, cores moved",
-    "core-leave": "pools, two of Credit2, cores moved", "arinc-wake": "ARINC 653, 1 core of two, stalls",
+    "rtds-wake": "RTDS, 4 cores, stalls", "rtds-remove": "pools, two of RTDS, cores moved", "credit2-leaving": "pools, two of Credit2, cores moved",
+    "core-leave": "pools, two of Credit2, cores moved", "arinc-look": "ARINC 653, 1 core of two, stalls",
     "core-gather": "Credit2, 2 cores of two, stalls",
 }

@@ -21,8 +21,8 @@ class Setting:
     begun: float = dataclasses.field(default_factory=time.monotonic)
     faults: list = dataclasses.field(default_factory=list)
 
-    def seeds(self, part=1):
-        return range(1, max(1, round(self.machines * part)) + 1)
+    def seeds(self):
+        return range(1, self.machines + 1)
 
     def tell(self, what):
         print(f"{(time.monotonic() - self.begun) / 60:4.1f} minutes: {what}", file=sys.stderr, flush=True)
