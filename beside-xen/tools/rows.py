@@ -106,10 +106,11 @@ EQUALITY = [
     rtds("1 core, deadlines that meet", lambda r: made.rtds(r, 1, False, True)),
     rtds("4 cores, deadlines that meet, some extra time", lambda r: made.rtds(r, 4, None, True)),
     rtds("4 cores, pinned units", lambda r: made.pinned(r, made.rtds(r, 4))),
-    rtds("1 core, stalls", made.rtds, ("stall",), EQUAL),
+    rtds("1 core, stalls", made.rtds, ("stall",)),
     rtds("1 core, pause", made.rtds, ("pause",), EQUAL),
     rtds("4 cores, pause", lambda r: made.rtds(r, 4), ("pause",), BY_VCPU),
     rtds("4 cores, stalls", lambda r: made.rtds(r, 4), ("stall",)),
+    rtds("2 cores of two, stalls", lambda r: made.of_two(r, made.rtds(r, 2)), ("stall",)),
     rtds("4 cores, budgets and periods set", lambda r: made.rtds(r, 4), ("budget", "period")),
     rtds("4 cores, extra time set", lambda r: made.rtds(r, 4), ("extra",)),
     rtds("4 cores, pins set", lambda r: made.rtds(r, 4), ("pin",)),
@@ -143,7 +144,6 @@ EQUALITY = [
     several("Credit2 and RTDS, domains moved", credit2_and_rtds, ("migrate",)),
     unsettled(several("two of null, cores and domains moved", two_null, ("core", "migrate"))),
     unsettled(arinc("1 core of two, stalls", lambda r: made.of_two(r, made.arinc(r)), ("stall",))),
-    unsettled(rtds("2 cores of two, stalls", lambda r: made.of_two(r, made.rtds(r, 2)), ("stall",))),
     unsettled(credit2("2 cores of two, stalls", lambda r: made.of_two(r, made.credit2(r, 2)), ("stall",))),
 ]
 
