@@ -93,7 +93,8 @@ def demand(setting, row, seeds, found, expected, changes=(), options=()):
     """A fault for each machine on which the two are not equal in the sense that is expected."""
     for seed, outcome in zip(seeds, found):
         if not {EQUAL: outcome.equal, BY_VCPU: outcome.by_vcpu, DIFFERS: True}[expected]:
-            setting.fault(f"{row.name}, machine {seed}: {outcome.where}", row, seed, changes, options)
+            side = "with the changes" if changes else "Xen as it is"
+            setting.fault(f"{row.name}, {side}, machine {seed}: {outcome.where}", row, seed, changes, options)
 
 
 def equality(setting):
