@@ -1,0 +1,19 @@
+/* What the harness takes from the host: memory, text, and a thread of control for each processor. */
+#pragma once
+void *host_memory(unsigned long size);              /* filled with zeros */
+void host_release(void *memory);
+void host_print(const char *format, ...) __attribute__((__format__(__printf__, 1, 2)));
+void host_entry(long moment, const char *format, ...) __attribute__((__format__(__printf__, 2, 3)));
+void host_complain(const char *format, ...) __attribute__((__format__(__printf__, 1, 2)));
+void host_end(int status) __attribute__((__noreturn__));
+
+/* The words of the input, which is a list of words parted by white space. */
+void host_open(const char *name);
+int host_word(char *word, int size);                /* whether there was one */
+long host_number(void);
+long host_number_of(const char *word);
+
+/* A thread of control goes on where it stopped, until it stops again. */
+void host_make_thread(int number, void (*body)(void));
+void host_go_on(int number);
+void host_stop(int number);

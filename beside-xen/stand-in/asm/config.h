@@ -1,0 +1,11 @@
+#pragma once
+#define BITS_PER_LONG 64
+#define BITS_PER_BYTE 8
+#define BYTES_PER_LONG 8
+#define BITS_PER_XEN_ULONG 64
+#define LONG_BYTEORDER 3
+#define PAGE_SHIFT 12
+#define PAGE_SIZE 4096UL
+#define MAX_VIRT_CPUS 64
+#define INVALID_VCPU_ID ((int)~0)
+#define CONFIG_GCC_VERSION 120200

@@ -1,0 +1,3 @@
+#pragma once
+#define evaluate_nospec(c) (c)
+#define block_speculation() do { } while (0)

@@ -1,0 +1,2 @@
+#pragma once
+#define NR_ARCH_SOFTIRQS 0

@@ -1,0 +1,2 @@
+#pragma once
+#define arch_lock_signal_wmb() barrier()

@@ -1,0 +1,2 @@
+#pragma once
+typedef u64 cycles_t;

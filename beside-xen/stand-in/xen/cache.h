@@ -1,0 +1,3 @@
+#pragma once
+#include <asm/cache.h>
+#define __cacheline_aligned

@@ -1,0 +1,2 @@
+#pragma once
+#define register_keyhandler(a...) do { } while (0)

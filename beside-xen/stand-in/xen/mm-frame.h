@@ -1,0 +1,2 @@
+#pragma once
+typedef struct { unsigned long mfn; } mfn_t;

@@ -1,0 +1,2 @@
+#pragma once
+struct vpci_vcpu { int none; };

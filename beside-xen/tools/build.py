@@ -1,0 +1,78 @@
+"""Compiles Xen's scheduler files with the harness around them, as they are or with changes.
+
+A change is a file `changes/NAME.sed`, whose first line names the file of Xen that it edits, and beside it there may be
+`changes/NAME.c`, which is put at the end of the edited file. The source of Xen is only read.
+"""
+import hashlib
+import pathlib
+import subprocess
+
+HERE = pathlib.Path(__file__).resolve().parent.parent
+SCHEDULERS = ["null", "arinc653", "rt", "credit2", "core", "cpupool"]
+COMMON = ["softirq", "bitmap"]
+OWN = ["machine", "guests", "commands", "boot", "input", "services"]
+# Headers that Xen's files name and of which they need nothing here.
+EMPTY = ["asm/cpufeature.h", "asm/delay.h", "asm/desc.h", "asm/event.h", "asm/flushtlb.h", "asm/guest.h", "asm/init.h", "asm/page.h",
+         "asm/percpu.h", "asm/string.h", "asm/trace.h", "xen/hypercall.h", "xen/hypfs.h", "xen/iommu.h", "xen/symbols.h"]
+FLAGS = ["-O1", "-g", "-std=gnu99", "-fno-strict-aliasing", "-fno-builtin", "-fno-common", "-nostdinc", "-fno-pie", "-Wall", "-Wno-unused",
+         "-Wno-format", "-Werror=implicit-function-declaration"]
+
+
+class Failed(Exception):
+    """A tool that the build calls has failed, or a change fits nowhere."""
+
+
+def call(*words):
+    done = subprocess.run([str(word) for word in words], capture_output=True, text=True)
+    if done.returncode:
+        raise Failed(f"{words[0]} failed:\n{done.stderr}")
+    return done.stdout
+
+
+class Builder:
+    """Makes programs from one source of Xen in one folder. An object that was made before is taken again."""
+
+    def __init__(self, xen, folder):
+        self.xen, self.folder = xen, folder
+        for name in EMPTY:
+            path = folder / "empty" / name
+            path.parent.mkdir(parents=True, exist_ok=True)
+            path.touch()
+        places = [HERE / "stand-in", folder / "empty", HERE / "harness", xen / "include", xen / "common" / "sched"]
+        self.flags = [*FLAGS, *(f"-I{place}" for place in places), "-D__XEN__", "-include", xen / "include" / "xen" / "config.h"]
+
+    def edited(self, source, change):
+        """The file with the change made in it. A change that fits nowhere any more is a fault."""
+        script, more = (HERE / "changes" / f"{change}.{kind}" for kind in ("sed", "c"))
+        text = call("sed", "-E", "-f", script, source)
+        if text == source.read_text():
+            raise Failed(f"the change {change} fits nowhere in {source}")
+        target = self.folder / f"{source.stem}+{change.split('-')[1]}.c"
+        target.write_text(text + (more.read_text() if more.exists() else ""))
+        return target
+
+    def compiled(self, source, flags):
+        target = self.folder / f"{source.stem}.o"
+        if not target.exists():
+            call("gcc", "-c", *flags, "-o", target, source)
+        return target
+
+    def program(self, changes=()):
+        """The program with these changes, which are made in their order."""
+        sources = {name: self.xen / "common" / "sched" / f"{name}.c" for name in SCHEDULERS}
+        for change in changes:
+            name = file_of(change)
+            sources[name] = self.edited(sources[name], change)
+        rest = [self.xen / "common" / f"{name}.c" for name in COMMON] + [HERE / "harness" / f"{name}.c" for name in OWN]
+        objects = [self.compiled(source, self.flags) for source in [*sources.values(), *rest]]
+        objects.append(self.compiled(HERE / "harness" / "host.c", ["-O1", "-g", "-Wall", "-fno-pie"]))
+        target = self.folder / ("beside-" + hashlib.sha256(" ".join(changes).encode()).hexdigest()[:12] if changes else "beside")
+        if not target.exists():
+            call("gcc", "-no-pie", "-o", target, *objects, "-T", HERE / "harness" / "sections.ld")
+        return target
+
+
+def file_of(change):
+    """The file of Xen that the change edits."""
+    first = (HERE / "changes" / f"{change}.sed").read_text().splitlines()[0]
+    return first.removeprefix("# file: ")

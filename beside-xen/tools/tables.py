@@ -1,0 +1,124 @@
+"""The tables: each prints its rows and gives the faults, that is what is not as docs/XEN.md says."""
+import dataclasses
+import pathlib
+import sys
+import time
+
+import build
+import compare
+import rows as table_rows
+from rows import ALL, BY_VCPU, DIFFERS, EQUAL
+
+
+@dataclasses.dataclass
+class Setting:
+    """What all tables need: the program, the built harnesses, how many machines, where files are kept, the pool of processes."""
+    program: str
+    builder: build.Builder
+    machines: int
+    kept: pathlib.Path
+    pool: object
+    begun: float = dataclasses.field(default_factory=time.monotonic)
+    faults: list = dataclasses.field(default_factory=list)
+
+    def seeds(self):
+        return range(1, self.machines + 1)
+
+    def tell(self, what):
+        print(f"{(time.monotonic() - self.begun) / 60:4.1f} minutes: {what}", file=sys.stderr, flush=True)
+
+    def fault(self, text, row=None, seed=None, changes=(), options=()):
+        """Remembers what is not as expected, and keeps the files of the first machine of which that is known."""
+        self.faults.append(text)
+        if row and not self.kept.exists():
+            keep(self, row, seed, changes, options)
+
+
+@dataclasses.dataclass(frozen=True)
+class Outcome:
+    """How far two runs of a machine agree."""
+    equal: bool
+    by_vcpu: bool
+    where: str
+
+
+def outcome_of(model, beside, options):
+    try:
+        both = compare.Both(model, beside, options)
+    except compare.Fault as fault:
+        return Outcome(False, False, f"failed: {fault}")
+    found = both.first_difference()
+    answers = both.model.answers == both.xen.answers
+    replenished = sorted(both.model.replenishments) == sorted(both.xen.replenishments)
+    # A domain that joins a pool has its first deadline told by Xen alone.
+    where = (f"differs first at {found[0]}, vCPU {found[1]}" if found else "differs in which core has which vCPU" if answers
+             and replenished else "differs in the replenishments" if answers else "differs in the answers to commands")
+    alike = answers and (replenished or " cpupool-migrate " in model.work)
+    return Outcome(both.is_equal() and alike, both.is_equal_by_vcpu() and alike, where)
+
+
+def compared(job):
+    """One machine of a row, by each of several harnesses."""
+    program, texts, harnesses = job
+    try:
+        model = compare.Model(program, *texts)
+    except compare.Fault as fault:
+        return [Outcome(False, False, f"failed: {fault}")] * len(harnesses)
+    return [outcome_of(model, beside, options) for beside, options in harnesses]
+
+
+def outcomes(setting, row, seeds, variants):
+    """For each variant, which is changes and options of Xen, the outcomes of all machines."""
+    harnesses = [(setting.builder.program(changes), (*ALL, *row.own, *options)) for changes, options in variants]
+    return zip(*setting.pool.map(compared, [(setting.program, row.machine(seed), harnesses) for seed in seeds]))
+
+
+def keep(setting, row, seed, changes, options):
+    """Writes the machine, the harness's input and the two logs, or what failed."""
+    domains, work = row.machine(seed)
+    try:
+        model = compare.Model(setting.program, domains, work)
+        compare.Both(model, setting.builder.program(changes), (*ALL, *row.own, *options)).keep(setting.kept)
+    except compare.Fault as fault:
+        setting.kept.mkdir(parents=True, exist_ok=True)
+        for name, text in [("domains.toml", domains), ("work.txt", work), ("fault", f"{fault}\n")]:
+            (setting.kept / name).write_text(text)
+
+
+def count(found, what):
+    return sum(getattr(it, what) for it in found)
+
+
+def demand(setting, row, seeds, found, expected, changes=(), options=()):
+    """A fault for each machine on which the two are not equal in the sense that is expected."""
+    for seed, outcome in zip(seeds, found):
+        if not {EQUAL: outcome.equal, BY_VCPU: outcome.by_vcpu, DIFFERS: True}[expected]:
+            side = "with the changes" if changes else "Xen as it is"
+            setting.fault(f"{row.name}, {side}, machine {seed}: {outcome.where}", row, seed, changes, options)
+
+
+def equality(setting):
+    """Which machines are equal with Xen as it is, and with the changes."""
+    seeds = setting.seeds()
+    print(f"## Equality\n\n{len(seeds)} made machines a row. By vCPU: each vCPU runs at the same moments, on whichever core.\n\n"
+          "| Machines | Xen as it is: equal | by vCPU | with the changes: equal |\n|---|---|---|---|")
+    for number, row in enumerate(table_rows.EQUALITY, 1):
+        setting.tell(f"equality, row {number} of {len(table_rows.EQUALITY)}")
+        as_it_is, changed = outcomes(setting, row, seeds, [((), ()), (row.changes, row.options)])
+        demand(setting, row, seeds, as_it_is, row.as_it_is)
+        demand(setting, row, seeds, changed, row.with_changes, row.changes, row.options)
+        print(f"| {row.name} | {count(as_it_is, 'equal')} | {count(as_it_is, 'by_vcpu')} | {count(changed, 'equal')} |", flush=True)
+
+
+def differences(setting):
+    """What each change is for: how many machines are equal with all changes, and how many without this one."""
+    seeds = setting.seeds()
+    print(f"\n## Differences\n\nEach change on {len(seeds)} machines on which it counts: how many are equal with all changes, and how many without this one.\n\n"
+          "| Change | Machines | with all | without it |\n|---|---|---|---|")
+    named = {row.name: row for row in table_rows.EQUALITY}
+    for number, (change, name) in enumerate(table_rows.WITNESSES.items(), 1):
+        setting.tell(f"differences, row {number} of {len(table_rows.WITNESSES)}")
+        row = named[name]
+        rest = tuple(tuple(it for it in part if it != change) for part in (row.changes, row.options))
+        whole, less = outcomes(setting, row, seeds, [(row.changes, row.options), rest])
+        print(f"| {change} | {name} | {count(whole, 'equal')} | {count(less, 'equal')} |", flush=True)
