@@ -179,11 +179,19 @@ static bool step_by_rank(void)
     return step_of_first_core() || step_from(BEFORE_LEAVING) || step_from(BEFORE_SAVING);
 }
 
+/* A moment takes some dozens of steps. One that takes so many has no end: two rules undo each other's choice. */
+#define MOST_STEPS 200000
+
 /* Lets all processors go through their softirqs until nothing is left to do. */
 void settle(void)
 {
+    int steps = 0;
     while ( plan.by_rank && is_begun ? step_by_rank() : pass_by_number() )
-        ;
+        if ( ++steps == MOST_STEPS )
+        {
+            host_complain("the moment %ld has no end\n", present_moment - plan.origin);
+            host_end(4);
+        }
 }
 
 /* Xen's cpu_relax(): who waits for another processor lets it go on. */
