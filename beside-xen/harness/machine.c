@@ -179,19 +179,30 @@ static bool step_by_rank(void)
     return step_of_first_core() || step_from(BEFORE_LEAVING) || step_from(BEFORE_SAVING);
 }
 
-/* A moment takes some dozens of steps. One that takes so many has no end: two rules undo each other's choice. */
+/* A moment takes some hundreds of steps. One that takes so many has no end: two rules undo each other's choice. */
 #define MOST_STEPS 200000
+
+/* One step of the present moment. Whether there was anything to do. */
+static bool go_on(void)
+{
+    static long moment = -1;
+    static int steps;
+    if ( moment != present_moment )
+        steps = 0;
+    moment = present_moment;
+    if ( ++steps == MOST_STEPS )
+    {
+        host_complain("the moment %ld has no end\n", moment - plan.origin);
+        host_end(4);
+    }
+    return plan.by_rank && is_begun ? step_by_rank() : pass_by_number();
+}
 
 /* Lets all processors go through their softirqs until nothing is left to do. */
 void settle(void)
 {
-    int steps = 0;
-    while ( plan.by_rank && is_begun ? step_by_rank() : pass_by_number() )
-        if ( ++steps == MOST_STEPS )
-        {
-            host_complain("the moment %ld has no end\n", present_moment - plan.origin);
-            host_end(4);
-        }
+    while ( go_on() )
+        ;
 }
 
 /* Xen's cpu_relax(): who waits for another processor lets it go on. */
@@ -199,7 +210,7 @@ void let_others_run(void)
 {
     unsigned int processor = present_cpu;
     if ( processor == TOOLSTACK && plan.by_rank && is_begun )
-        step_by_rank();
+        go_on();
     else if ( processor == TOOLSTACK )
         settle();
     if ( processor == TOOLSTACK )
