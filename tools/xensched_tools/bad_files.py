@@ -4,6 +4,7 @@ import tomllib
 from .trials import Trial
 
 MOST_ENTRIES = 500
+SPOILED = 20
 # What TOML allows, or nearly, and a domain file does not.
 FRAGMENTS = [
     b"weight = 1.5", b"weight = inf", b"weight = -nan", b"cap = 1e3", b"horizon_ns = 2026-11-30T12:00:00Z", b"horizon_ns = 12:00:00", b"period_us = 1_0_0", b"period_us = 1__0", b"budget_us = 0xff",
@@ -108,7 +109,7 @@ class BadFiles(Trial):
             self.put(name, text)
         good["schedule"] = self.call("run", *self.limit, "domains", "work").out
         self.put("schedule", good["schedule"])
-        for _ in range(8):
+        for _ in range(SPOILED):
             self.spoil_one(good)
 
     def spoil_one(self, good):

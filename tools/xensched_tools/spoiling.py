@@ -6,14 +6,17 @@ have one of them left out. What is owed is therefore said for each spoiling alon
 - The ordered run is one text. So with --ordered each other text is refused at the first line that differs, and where the verdict names the entry
   that is due, it is that line of the ordered run.
 - In free order the cause is known where the spoiled line alone decides it: the moment, the form, the ending, a field that follows from the state.
-- A line doubled, and a line of the kinds in ALWAYS_MISSED left out, makes no run, at that line or later.
+- A line doubled makes no run, at that line or later; nor does one left out of the kinds in ALWAYS_MISSED, and of those in MOSTLY_MISSED where nothing comes
+  behind it in its moment that stops a processor or makes its core pending again, as a stall does.
 - Of all else only this: the lines before the spoiled one stay a run, so no line before it is named.
 """
 import re
 from typing import NamedTuple
 
 # Left out, such a line leaves something undone that has to be done in its moment.
-ALWAYS_MISSED = ("end", "finish", "xl", "stall", "wake", "decide", "leave", "moved", "dom-moved")
+ALWAYS_MISSED = ("end", "finish", "xl", "stall", "wake")
+MOSTLY_MISSED = ("decide", "leave", "moved", "dom-moved")
+FROM_OUTSIDE = ("xl", "stall", "wake", "repl", "refill")
 # Fields behind the subject that follow from the state: a word, and behind it the number.
 FIELDS = {"decide": ("late", "reset"), "repl": ("deadline", "budget"), "refill": ("periods", "budget"), "stall": ("until",)}
 
@@ -107,7 +110,18 @@ def left_out(lines, at, draw):
     if at == len(lines) - 1:
         return None
     verdict = f"no {at + 1} Moment {moment}" if kind == "end" else None
-    return Spoiled(f"{kind} left out", put(lines, at), verdict, least=at + 1, is_refused=kind in ALWAYS_MISSED)
+    is_missed = kind in ALWAYS_MISSED or kind in MOSTLY_MISSED and not any(it in FROM_OUTSIDE for it in kinds_behind(lines, at))
+    return Spoiled(f"{kind} left out", put(lines, at), verdict, least=at + 1, is_refused=is_missed)
+
+
+def kinds_behind(lines, at):
+    """The kinds of the lines behind this one in its moment."""
+    moment = lines[at].split()[0]
+    for line in lines[at + 1 :]:
+        words = line.split()
+        if words[0] != moment:
+            return
+        yield words[1]
 
 
 def swapped(lines, at, draw):

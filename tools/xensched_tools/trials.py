@@ -20,6 +20,8 @@ LAST = re.compile(r"entries (\d+) end (\d+)")
 # A watched run makes threads in each moment, so it is slow.
 MOST_WATCHED = 1_000
 SPOILED = 6
+# Free runs of each machine; the last one's schedule is spoiled too.
+FREE_RUNS = 3
 
 
 class Failure(NamedTuple):
@@ -92,27 +94,31 @@ class Trial:
             return
         again = self.call("run", "--ordered", *self.limit, "domains", "work")
         self.claim(again == ordered, "two ordered runs are the same")
-        self.judge("ordered", ordered, texts.limit)
+        if self.judge("ordered", ordered, texts.limit):
+            self.spoil("ordered", ordered)
+        self.finish("ordered", ordered, texts)
         self.report(ordered)
-        self.look_at_free(texts, ordered)
+        self.run_freely(texts, ordered)
         self.watch(min(texts.limit, MOST_WATCHED))
         self.refuse(texts)
         if texts.made:
             self.load(texts)
 
     def judge(self, name, ended, limit):
-        """A run ends as its status says, and `check` takes it; of a run that was cut it takes all lines and misses the next."""
+        """Whether `check` takes a run, or, of one that was cut, takes all lines and misses the next. The run has to end as its status says."""
         entries = ended.out.count(b"\n")
         self.counts["entries"] += entries
         self.put(name, ended.out)
         is_whole = ended.out.endswith(b" finish\n")
         self.claim(is_whole and entries <= limit if ended.status == 0 else entries == limit, f"{name} run: the entries are those of the status", f"status {ended.status}, {entries} entries")
         self.claim(ended.status == 0 or ended.err == b"xensched: full at %d entries\n" % limit, f"{name} run: the line names the limit", ended.err)
+        self.answers(name, ended.out)
+        owed = (0, b"yes %d\n" % entries) if ended.status == 0 else (9, b"no %d Unfinished\n" % (entries + 1))
+        taken = []
         for words in [[], ["--ordered"]] if name == "ordered" else [[]]:
             verdict = self.call("check", *words, "domains", "work", name)
-            owed = (0, b"yes %d\n" % entries) if ended.status == 0 else (9, b"no %d Unfinished\n" % (entries + 1))
-            self.claim(verdict[:2] == owed, " ".join(["check", *words, f"takes the {name} run"]), verdict[:2])
-        self.answers(name, ended.out)
+            taken.append(self.claim(verdict[:2] == owed, " ".join(["check", *words, f"takes the {name} run"]), verdict[:2]))
+        return all(taken)
 
     def answers(self, name, out):
         """Words that are no command are answered with the place that the page gives."""
@@ -134,23 +140,27 @@ class Trial:
         self.claim(not followed.fault_count, "no line of the schedule contradicts another", followed.faults)
         self.claim(said.out == report_text(followed), "the report has the sums of the schedule", said.out.decode()[-2000:])
 
-    def look_at_free(self, texts, ordered):
-        """A free run is judged, its report adds up, and a work line at the horizon ends both forms there."""
-        free = self.call("run", *self.limit, "domains", "work")
-        if not self.claim(free.status in (0, 7), "a free run ends as an ordered one may", free):
-            return
-        self.judge("free", free, texts.limit)
-        self.counts["free runs"] += 1
-        self.counts["free runs in another order"] += free.out != ordered.out
-        horizon = read_machine(self.folder / "domains").horizon
-        for name, ended in (("ordered", ordered), ("free", free)):
-            if ended.status == 0:
-                last = int(ended.out.splitlines()[-1].split()[0])
-                is_due = last == horizon if texts.work.endswith(b"\n%d stall 0 1\n" % horizon) else last <= horizon
-                self.claim(is_due, f"{name} run: the finish is where it is due", f"finish at {last}, horizon {horizon}")
+    def run_freely(self, texts, ordered):
+        """Free runs are judged, a free report adds up, and a stall at the horizon ends both forms there."""
+        for _ in range(FREE_RUNS):
+            free = self.call("run", *self.limit, "domains", "work")
+            if not self.claim(free.status in (0, 7), "a free run ends as an ordered one may", free):
+                return
+            is_taken = self.judge("free", free, texts.limit)
+            self.finish("free", free, texts)
+            self.counts["free runs"] += 1
+            self.counts["free runs in another order"] += free.out != ordered.out
         self.add_up(self.call("report", *self.limit, "domains", "work"))
-        self.spoil("ordered", ordered)
-        self.spoil("free", free)
+        if is_taken:
+            self.spoil("free", free)
+
+    def finish(self, name, ended, texts):
+        """A run that was not cut ends by the horizon, and at the horizon where a stall stands there."""
+        if ended.status:
+            return
+        horizon, last = read_machine(self.folder / "domains").horizon, int(ended.out.splitlines()[-1].split()[0])
+        is_due = last == horizon if texts.work.endswith(b"\n%d stall 0 1\n" % horizon) else last <= horizon
+        self.claim(is_due, f"{name} run: the finish is where it is due", f"finish at {last}, horizon {horizon}")
 
     def add_up(self, said):
         """A report of a free run, whose schedule nobody sees: the times of units and of cores are the same ones."""
