@@ -9,6 +9,7 @@ from typing import NamedTuple
 from . import calls, shrinking, wild
 from .bad_files import BadFiles
 from .trials import Texts, Trial
+from .words import Refused
 
 MADE, BAD = "made", "bad files"
 KINDS = (MADE, *wild.KINDS, BAD)
@@ -46,9 +47,9 @@ def tried(program, texts, seed, kind):
         trial = (BadFiles if kind == BAD else Trial)(program, folder, seed)
         try:
             trial.run(texts)
-        except (ValueError, IndexError, KeyError, ArithmeticError, AssertionError) as odd:
-            # what the program wrote has another form than the pages give it
-            trial.claim(False, f"the output can be read: {type(odd).__name__}", odd)
+        except (Refused, ValueError, LookupError) as odd:
+            # what the program wrote has another form than the pages give it, or a file that it takes is none to the tools
+            trial.claim(False, f"what the program writes and takes can be read: {type(odd).__name__}", odd)
         return trial
 
 
