@@ -11,7 +11,7 @@ STATUSES = {
 }
 LINES = {
     0: "", 1: "xensched: usage\n", 2: "xensched: cannot read\n", 3: "xensched: not TOML\n",
-    4: r"xensched: domains: (?:top|pool|domain) \d+ [^\n]+ (?:Missing|Kind|Range -?\d+|Twice|NoSuch|Empty|Unknown)\n",
+    4: r"xensched: domains: (?:top|pool|domain) \d+ [^\n]* (?:Missing|Kind|Range -?\d+|Twice|NoSuch|Empty|Unknown)\n",
     5: r"xensched: work: line \d+ (?:Number|Word|Target|Order|Many)\n", 6: "xensched: cannot write\n",
     7: r"xensched: full at \d+ entries\n", 8: "xensched: no memory\n", 9: "xensched: not a run\n",
 }
