@@ -105,6 +105,11 @@ class Runs(unittest.TestCase):
         self.assertIn("seed 500, siblings: check takes the ordered run: ", done.stdout)
         self.assertLessEqual({"note.txt", "small", "domains", "work"}, set(kept))
 
+    def test_no_program(self):
+        with tempfile.TemporaryDirectory() as folder:
+            done = self.soak(folder, "--runs", "1", program=folder)
+        self.assertEqual((done.returncode, done.stderr), (2, f"soak: {pathlib.Path(folder).resolve()} is no program\n"))
+
     def test_wrong_words(self):
         for said in (["--minutes", "0"], ["--runs", "x"], ["--seed", "-1"], ["more"]):
             self.assertEqual(call("tools/soak", *said).returncode, 2)

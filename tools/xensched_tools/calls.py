@@ -1,7 +1,10 @@
 """Calls of the program with a limit of time, and what each may end with: the statuses of README.md and the lines of docs/FORMATS.md."""
+import os
 import re
 import subprocess
 from typing import NamedTuple
+
+from .words import Refused
 
 # A call that takes longer counts as hung.
 SECONDS = 120
@@ -25,6 +28,17 @@ class Ended(NamedTuple):
     status: int | None
     out: bytes
     err: bytes
+
+
+def program_of(ask):
+    """The program that this function names, `built.proved_program`. Where there is none it ends the process; here that is a refusal, since status 1 says something else."""
+    try:
+        program = ask()
+    except SystemExit as missing:
+        raise Refused(missing.code) from None
+    if not os.access(program, os.X_OK) or os.path.isdir(program):
+        raise Refused(f"{program} is no program")
+    return program
 
 
 def call(program, words, folder, seconds=SECONDS):
