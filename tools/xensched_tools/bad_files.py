@@ -1,4 +1,5 @@
 """Spoils domain files, work files and schedules, so that mostly they are none: each call has to end as the pages say, whatever the bytes are."""
+import math
 import tomllib
 
 from .trials import Trial
@@ -81,7 +82,7 @@ WAYS = {"domains": {**ANY, "filled with TOML": filled(FRAGMENTS), "another value
 
 
 def integers_fit(value):
-    """All whole numbers have at most 64 bits: TOML lets a reader refuse others."""
+    """All numbers have at most 64 bits: TOML lets a reader refuse others."""
     if isinstance(value, dict):
         return all(map(integers_fit, value.values()))
     if isinstance(value, list):
@@ -89,10 +90,16 @@ def integers_fit(value):
     return not isinstance(value, int) or -(2**63) <= value < 2**63
 
 
+def float_of(text):
+    """A float, or a whole number that is too large, where the text is more than 64 bits hold."""
+    value = float(text)
+    return 2**64 if math.isinf(value) and "inf" not in text else value
+
+
 def is_toml(text):
     """Whether Python's reader takes the text, or None where it cannot say: it gives up where values stand too deep in others."""
     try:
-        return integers_fit(tomllib.loads(text.decode("utf-8")))
+        return integers_fit(tomllib.loads(text.decode("utf-8"), parse_float=float_of))
     except (tomllib.TOMLDecodeError, UnicodeDecodeError):
         return False
     except RecursionError:
