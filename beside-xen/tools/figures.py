@@ -4,7 +4,7 @@ import machines as made
 from rows import ALL, Row
 
 # The most that a row's mean and greatest distance of shares may be: what docs/XEN.md promises.
-MEAN, GREATEST = 0.06, 0.50
+MEAN, GREATEST = 0.06, 0.60
 LATE = 2000                 # how late Xen's timers may be noticed, in nanoseconds, where its own spread is measured
 
 
