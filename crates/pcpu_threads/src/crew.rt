@@ -237,7 +237,7 @@ fn lead<R: Wait, G: Gate>(
     pulse.end();
 }
 
-/// The part of the thread whose row begins at this place: the first one leads, and the others help.
+/// The part of the thread whose row begins at this place: the first one that comes leads, and the others help.
 fn take_part<R: Wait, G: Gate>(
     rt: &R,
     hall: &Hall,
@@ -250,10 +250,10 @@ fn take_part<R: Wait, G: Gate>(
     requires { IsRow hall.now domains seats.old }
     ensures { IsRow hall.now domains seats.new }
 {
-    let number = start / seats.len();
-    if number == 0 {
+    if pulse.comes_first() {
         lead(rt, hall, domains, gate, pulse, seats);
     } else {
+        let number = start / seats.len();
         help(rt, hall, domains, gate, pulse, 1u64 << (number % 16), seats);
     }
 }

@@ -1,5 +1,5 @@
 //! What the threads of a run share beside the hall: which pools have something to do, and whether somebody is at it. No contract speaks of it: a wrong
-//! word here costs time, and no entry.
+//! word here costs time, or the run does not end, and no entry is wrong.
 
 use hall::Hints;
 use sched_base::{DomId, ProcId};
@@ -73,10 +73,11 @@ impl Pace {
     }
 }
 
-/// The pools that wait for a thread, with bit i for the pool i, and with whom each begins; how many of them are not through; whether the run is over; the
-/// bell for those who sleep, and how many they are.
+/// How many threads have come; the pools that wait for a thread, with bit i for the pool i, and with whom each begins; how many of them are not through;
+/// whether the run is over; the bell for those who sleep, and how many they are.
 #[derive(Drop)]
 pub(crate) struct Pulse {
+    came: Word,
     first: [AtomicU64; 16],
     open: Word,
     left: Word,
@@ -118,6 +119,7 @@ impl Pulse {
     /// Nothing to do yet.
     pub(crate) fn new() -> Pulse {
         Pulse {
+            came: Word::new(),
             first: [
                 AtomicU64::new(0),
                 AtomicU64::new(0),
@@ -142,6 +144,11 @@ impl Pulse {
             bell: Word::new(),
             asleep: Word::new(),
         }
+    }
+
+    /// Whether nobody has come before. So there is one who leads also where no thread can be made, and the caller takes one row after the other.
+    pub(crate) fn comes_first(&self) -> bool {
+        self.came.word.fetch_add(1, Ordering::SeqCst) == 0
     }
 
     /// The pools that have something to do wait for threads from now on, and those who sleep are woken.
