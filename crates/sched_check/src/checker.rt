@@ -1,39 +1,20 @@
 //! The checker: a plain machine that follows a schedule, and refuses each entry that may not come next.
 
-ghost use Rattle.std.specs.Prelude.{◌≡◌, ◌↔◌, false, IsOk, OnOk, OnErr};
-ghost use Rattle.sched_model.specs.Machine.{after};
+ghost use Rattle.std.specs.Prelude.{◌≡◌, ◌↔◌, false, IsOk, OnOk};
 ghost use Rattle.sched_model.specs.Runs.{after_entry, after_quiet};
-ghost use Rattle.sched_check.specs.Checking.{IsDue, IsQuietDue, IsTaken};
+ghost use Rattle.sched_check.specs.Checking.{IsQuietDue, IsTaken};
 ghost use Rattle.sched_check.specs.ReachedState.{state_after};
-ghost use Rattle.sched_check.specs.Verdicts.{action_verdict, is_finish as is_finish_spec, moment_verdict, quiet_verdict};
+ghost use Rattle.sched_check.specs.Verdicts.{is_finish as is_finish_spec, moment_verdict, quiet_verdict};
 ghost use Rattle.sched_model.specs.Machine.{first_enabled, next_in_horizon};
 
 use crate::judge::{action_of, end_of, judge_action, judge_quiet};
 use crate::verdict::NotStep;
 use sched_base::{Moment, NoMemory};
-use sched_model::action::Action;
 use sched_model::event::{Entry, Event};
 use sched_model::machine::Machine;
 use sched_plain::plain::Plain;
 use std::alloc::Global;
 use std::marker::Model;
-
-/// Takes the event of an action, where it is due.
-fn take_action(plain: &mut Plain, ordered: bool, e: Event, action: Action) -> Result<(), NotStep>
-    ensures verdict { result ≡ action_verdict ordered plain.old.machine plain.old.state e action }
-    ensures taken { IsOk result ↔ IsDue ordered plain.old.machine plain.old.state e action }
-    ensures ok { OnOk result (plain.new ≡ record plain.old
-        { state = after plain.old.machine plain.old.state plain.old.state.now action }) }
-    ensures err { OnErr result (plain.new ≡ plain.old) }
-{
-    match judge_action(plain, ordered, e, action) {
-        Err(refusal) => Err(refusal),
-        Ok(()) => {
-            plain.perform(action);
-            Ok(())
-        }
-    }
-}
 
 /// Takes an End, which names a next moment, or a Finish, which names none, where it is due.
 fn take_quiet(plain: &mut Plain, named: Option<u64>) -> Result<(), NotStep>
@@ -43,7 +24,6 @@ fn take_quiet(plain: &mut Plain, named: Option<u64>) -> Result<(), NotStep>
     ensures taken { IsOk result ↔ IsQuietDue plain.old.machine plain.old.state named }
     ensures ok { OnOk result (plain.new ≡ record plain.old
         { state = (after_quiet named (record { state = plain.old.state; over = false })).state }) }
-    ensures err { OnErr result (plain.new ≡ plain.old) }
 {
     match judge_quiet(plain, named) {
         Err(refusal) => Err(refusal),
@@ -63,14 +43,13 @@ fn take(plain: &mut Plain, ordered: bool, e: Entry) -> Result<(), NotStep>
         (record { state = plain.old.state; over = false }) e }
     ensures ok { OnOk result (plain.new ≡ record plain.old
         { state = state_after plain.old.machine plain.old.state e }) }
-    ensures err { OnErr result (plain.new ≡ plain.old) }
 {
     let now = plain.now();
     if e.at.0 != now.0 {
         return Err(NotStep::Moment { now });
     }
     match action_of(e.event) {
-        Some(action) => take_action(plain, ordered, e.event, action),
+        Some(action) => judge_action(plain, ordered, e.event, action),
         None => take_quiet(plain, end_of(e.event)),
     }
 }
@@ -107,7 +86,7 @@ impl Model for Checker {
 }
 
 impl Checker {
-    ghost use Rattle.std.specs.Prelude.{◌≡◌, ◌↔◌, IfOk, IsOk, OnOk, OnErr};
+    ghost use Rattle.std.specs.Prelude.{◌≡◌, ◌↔◌, IfOk, IsOk, OnOk};
     ghost use Rattle.sched_model.specs.CheckedMachine.{IsChecked};
     ghost use Rattle.sched_model.specs.Runs.{after_entry, run_start};
     ghost use Rattle.sched_check.specs.Checking.{IsTaken};
@@ -133,7 +112,8 @@ impl Checker {
     /// Gives back the memory of the checker.
     pub fn close(self) {}
 
-    /// Takes the entry, where it may come next; else says why it may not, and stays as it was. It takes no memory.
+    /// Takes the entry, where it may come next; else says why it may not, and is of no more use: what is due in its place may have been done. It takes no
+    /// memory.
     pub fn step(&mut self, e: &Entry) -> Result<(), NotStep>
         ensures verdict { result ≡ verdict_of self.old.machine self.old.ordered self.old.reached
             e.now }
@@ -141,7 +121,6 @@ impl Checker {
             e.now }
         ensures goes_on { OnOk result (self.new
             ≡ record self.old { reached = after_entry self.old.machine self.old.reached e.now }) }
-        ensures unchanged { OnErr result (self.new ≡ self.old) }
     {
         if self.finished {
             return Err(NotStep::AfterFinish);

@@ -1,7 +1,7 @@
-//! What is answered to an entry, by the plain machine.
+//! What is answered to an entry, by the plain machine. An action that is answered is done: so it is known what its line prints.
 
-ghost use Rattle.std.specs.Prelude.{◌≡◌, ◌↔◌, true, Some, Ok, Err, IsOk, OnOk, OnErr, if◌then◌else◌};
-ghost use Rattle.sched_model.specs.Machine.{first_enabled, is_enabled, next_in_horizon};
+ghost use Rattle.std.specs.Prelude.{◌≡◌, ◌↔◌, true, Some, Ok, Err, IsOk, OnOk, if◌then◌else◌};
+ghost use Rattle.sched_model.specs.Machine.{after, event_of, first_enabled, is_enabled, next_in_horizon};
 ghost use Rattle.sched_model.specs.Runs.{entry_of as entry_of_spec, action_of as action_of_spec, end_of as end_of_spec};
 ghost use Rattle.sched_check.specs.declared.verdict.NotStep.TheVariants as no;
 ghost use Rattle.sched_check.specs.Same.{same_event};
@@ -48,14 +48,15 @@ pub fn end_of(e: Event) -> Option<u64>
     }
 }
 
-/// The entry of an action that may come now, with nothing done.
-fn entry_of(plain: &mut Plain, action: Action) -> Entry
+/// The entry of an action that may come now, which is done.
+fn perform(plain: &mut Plain, action: Action) -> Entry
     requires { is_enabled plain.old.machine plain.old.state plain.old.state.now action ≡ true }
     ensures entry { result ≡ entry_of_spec plain.old.machine plain.old.state action }
-    ensures unchanged { plain.new ≡ plain.old }
+    ensures state { plain.new ≡ record plain.old
+        { state = after plain.old.machine plain.old.state plain.old.state.now action } }
 {
     let at = plain.now();
-    let event = plain.event_of(action);
+    let event = plain.perform(action);
     Entry { at, event }
 }
 
@@ -67,6 +68,21 @@ fn number_of(e: Event) -> u32
     match e {
         Event::Stall { p, .. } => u32::from(p.0),
         Event::Xl { k, .. } => k,
+        _ => 0,
+    }
+}
+
+/// The same number of the entry of an action, where that comes now.
+fn due_number(plain: &Plain, action: Action) -> u64
+    ensures { result ≡ number_of_spec (event_of plain.now.machine plain.now.state
+        plain.now.state.now action) }
+{
+    match action {
+        Action::Stall => match plain.next_stall() {
+            None => 0,
+            Some(p) => u64::from(p.0),
+        },
+        Action::Xl => plain.next_number(),
         _ => 0,
     }
 }
@@ -89,7 +105,7 @@ fn judge_first(plain: &mut Plain, action: Action) -> Result<(), NotStep>
         (first_enabled plain.old.machine plain.old.state plain.old.state.now) }
     ensures first { IsOk result ↔ (first_enabled plain.old.machine plain.old.state
         plain.old.state.now ≡ Some action) }
-    ensures unchanged { plain.new ≡ plain.old }
+    ensures unchanged { OnOk result (plain.new ≡ plain.old) }
 {
     match plain.first_enabled() {
         None => Err(NotStep::NotEnabled),
@@ -98,7 +114,7 @@ fn judge_first(plain: &mut Plain, action: Action) -> Result<(), NotStep>
                 Ok(())
             } else {
                 Err(NotStep::NotFirst {
-                    first: entry_of(plain, first),
+                    first: perform(plain, first),
                 })
             }
         }
@@ -110,7 +126,7 @@ fn judge_turn(plain: &mut Plain, ordered: bool, action: Action) -> Result<(), No
     ensures verdict { result ≡ turn_refusal ordered plain.old.machine plain.old.state action }
     ensures first { IsOk result ↔ (ordered ≡ true → first_enabled plain.old.machine plain.old.state
         plain.old.state.now ≡ Some action) }
-    ensures unchanged { plain.new ≡ plain.old }
+    ensures unchanged { OnOk result (plain.new ≡ plain.old) }
 {
     if ordered {
         judge_first(plain, action)
@@ -119,26 +135,24 @@ fn judge_turn(plain: &mut Plain, ordered: bool, action: Action) -> Result<(), No
     }
 }
 
-/// Judges the event of an action, which may come and whose entry is then this one.
-fn judge_due(
-    plain: &mut Plain,
-    ordered: bool,
-    e: Event,
-    action: Action,
-    due: Entry,
-) -> Result<(), NotStep>
-    requires { due ≡ entry_of_spec plain.old.machine plain.old.state action }
+/// Judges the event of an action, which may come and has its number.
+fn judge_due(plain: &mut Plain, ordered: bool, e: Event, action: Action) -> Result<(), NotStep>
+    requires { is_enabled plain.old.machine plain.old.state plain.old.state.now action ≡ true }
     ensures verdict { result ≡ due_verdict ordered plain.old.machine plain.old.state e action }
     ensures taken { IsOk result ↔ HasTurn ordered plain.old.machine plain.old.state e action }
-    ensures unchanged { plain.new ≡ plain.old }
+    ensures ok { OnOk result (plain.new ≡ record plain.old
+        { state = after plain.old.machine plain.old.state plain.old.state.now action }) }
 {
     match judge_turn(plain, ordered, action) {
         Err(refusal) => Err(refusal),
-        Ok(()) => judge_fields(e, due),
+        Ok(()) => {
+            let due = perform(plain, action);
+            judge_fields(e, due)
+        }
     }
 }
 
-/// Judges the event of an action.
+/// Judges the event of an action, and does it where it is due.
 pub fn judge_action(
     plain: &mut Plain,
     ordered: bool,
@@ -147,14 +161,14 @@ pub fn judge_action(
 ) -> Result<(), NotStep>
     ensures verdict { result ≡ action_verdict ordered plain.old.machine plain.old.state e action }
     ensures taken { IsOk result ↔ IsDue ordered plain.old.machine plain.old.state e action }
-    ensures unchanged { plain.new ≡ plain.old }
+    ensures ok { OnOk result (plain.new ≡ record plain.old
+        { state = after plain.old.machine plain.old.state plain.old.state.now action }) }
 {
     if !plain.is_enabled(action) {
         return Err(NotStep::NotEnabled);
     }
-    let due = entry_of(plain, action);
-    if number_of(e) == number_of(due.event) {
-        judge_due(plain, ordered, e, action, due)
+    if u64::from(number_of(e)) == due_number(plain, action) {
+        judge_due(plain, ordered, e, action)
     } else {
         Err(NotStep::NotEnabled)
     }
@@ -166,11 +180,11 @@ pub fn judge_quiet(plain: &mut Plain, named: Option<u64>) -> Result<(), NotStep>
         (first_enabled plain.old.machine plain.old.state plain.old.state.now)
         (next_in_horizon plain.old.machine plain.old.state) }
     ensures taken { IsOk result ↔ IsQuietDue plain.old.machine plain.old.state named }
-    ensures unchanged { plain.new ≡ plain.old }
+    ensures unchanged { OnOk result (plain.new ≡ plain.old) }
 {
     if let Some(first) = plain.first_enabled() {
         return Err(NotStep::NotQuiet {
-            first: entry_of(plain, first),
+            first: perform(plain, first),
         });
     }
     match plain.next_moment() {

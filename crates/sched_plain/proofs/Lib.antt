@@ -1,7 +1,6 @@
 pub mod Reaching
 pub mod Bridges
 pub mod Performing
-pub mod Telling
 pub mod Moving
 pub mod Stalling
 pub mod DomMoving

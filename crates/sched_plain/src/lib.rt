@@ -11,4 +11,3 @@ pub mod perform;
 pub mod plain;
 pub mod scan;
 pub mod stall;
-pub mod tell;

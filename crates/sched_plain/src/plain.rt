@@ -1,22 +1,19 @@
 //! The plain machine: a machine and the state that it stands in.
 
-ghost use Rattle.std.specs.Prelude.{◌≡◌, ◌<◌, IfOk, length};
+ghost use Rattle.std.specs.Prelude.{◌≡◌, IfOk};
 ghost use Rattle.cpupool.specs.Tool.{tool_of};
 ghost use Rattle.plain_opening.specs.OpeningPool.{spares_of};
-ghost use Rattle.plain_telling.specs.Rooms.{HasPlaces};
 ghost use Rattle.sched_model.specs.CheckedMachine.{IsChecked};
-ghost use Rattle.sched_model.specs.Opening.{opening, core_count as core_count_spec};
+ghost use Rattle.sched_model.specs.Opening.{opening};
 
 use crate::enabled::is_enabled;
 use crate::next::next_moment;
 use crate::perform::perform;
 use crate::scan::first_enabled;
-use crate::tell::tell;
 use cpupool::ToolState;
 use plain_opening::opening::open_state;
-use plain_opening::spare::{core_count, open_spares};
-use plain_telling::scratch::Scratch;
-use sched_base::{Moment, NoMemory};
+use plain_opening::spare::open_spares;
+use sched_base::{Moment, NoMemory, ProcId};
 use sched_model::action::Action;
 use sched_model::event::Event;
 use sched_model::machine::Machine;
@@ -35,7 +32,6 @@ pub struct Plain {
     state: State,
     tool: ToolState,
     spares: Row<Option<Pool>>,
-    scratch: Scratch,
 }
 
 impl Model for Plain {
@@ -43,9 +39,6 @@ impl Model for Plain {
 
     ghost Value = { Standing };
 
-    ghost use Rattle.std.specs.Prelude.{length};
-    ghost use Rattle.sched_model.specs.Opening.{core_count};
-    ghost use Rattle.plain_telling.specs.Rooms.{HasPlaces};
     ghost use Rattle.cpupool.specs.Tool.{KnowsMachine};
     ghost use Rattle.sched_plain.specs.CommandList.{HasSpares};
     ghost use Rattle.sched_plain.specs.ReachedStates.{Stands};
@@ -53,8 +46,7 @@ impl Model for Plain {
     ghost view = { λ p. record { machine = p.machine; state = p.state } };
 
     ghost invariant = { λ p. Stands p.machine p.state × KnowsMachine p.machine p.tool
-        × HasSpares p.machine p.state.next_command p.spares
-        × HasPlaces (length p.machine.config.domains) (core_count p.machine.config) p.scratch };
+        × HasSpares p.machine p.state.next_command p.spares };
 }
 
 /// The state of a machine at its opening, and what its tool knows then.
@@ -73,39 +65,19 @@ fn open_states(alloc: Global, m: &Machine) -> Result<(State, ToolState), NoMemor
     }
 }
 
-/// The pools that the commands of a machine may make, and the records on which a decision is tried.
-fn open_rooms(alloc: Global, m: &Machine) -> Result<(Row<Option<Pool>>, Scratch), NoMemory>
-    requires { 0 < m.now.config.granularity }
-    ensures spares { IfOk result (λ r. r.0 ≡ spares_of m.now) }
-    ensures scratch { IfOk result (λ r. HasPlaces (length m.now.config.domains)
-        (core_count_spec m.now.config) r.1) }
-{
-    let cores = core_count(&m.config) as usize;
-    let scratch = Scratch::open(alloc, m.config.domains.len(), cores)?;
-    match open_spares(alloc, m) {
-        Ok(spares) => Ok((spares, scratch)),
-        Err(full) => {
-            drop(scratch);
-            Err(full)
-        }
-    }
-}
-
 /// All that stands beside the machine.
 fn open_beside(
     alloc: Global,
     m: &Machine,
-) -> Result<(State, ToolState, Row<Option<Pool>>, Scratch), NoMemory>
+) -> Result<(State, ToolState, Row<Option<Pool>>), NoMemory>
     requires { IsChecked m.now }
     ensures state { IfOk result (λ r. r.0 ≡ opening m.now) }
     ensures tool { IfOk result (λ r. r.1 ≡ tool_of m.now (opening m.now)) }
     ensures spares { IfOk result (λ r. r.2 ≡ spares_of m.now) }
-    ensures scratch { IfOk result (λ r. HasPlaces (length m.now.config.domains)
-        (core_count_spec m.now.config) r.3) }
 {
     let (state, tool) = open_states(alloc, m)?;
-    match open_rooms(alloc, m) {
-        Ok((spares, scratch)) => Ok((state, tool, spares, scratch)),
+    match open_spares(alloc, m) {
+        Ok(spares) => Ok((state, tool, spares)),
         Err(full) => {
             drop(state);
             drop(tool);
@@ -115,7 +87,8 @@ fn open_beside(
 }
 
 impl Plain {
-    ghost use Rattle.std.specs.Prelude.{◌≡◌, true, None, Some, IfOk, option_map};
+    ghost use Rattle.std.specs.Prelude.{◌≡◌, true, suc, None, Some, IfOk, option_map, slice_get};
+    ghost use Rattle.sched_model.specs.declared.work.StallLine.{StallLine};
     ghost use Rattle.sched_base.specs.Numbers.{moment};
     ghost use Rattle.sched_model.specs.Opening.{opening};
     ghost use Rattle.sched_model.specs.CheckedMachine.{IsChecked};
@@ -127,12 +100,11 @@ impl Plain {
         ensures { IfOk result (λ p. p ≡ record { machine = machine; state = opening machine }) }
     {
         match open_beside(alloc, &machine) {
-            Ok((state, tool, spares, scratch)) => Ok(Plain {
+            Ok((state, tool, spares)) => Ok(Plain {
                 machine,
                 state,
                 tool,
                 spares,
-                scratch,
             }),
             Err(full) => {
                 drop(machine);
@@ -163,21 +135,20 @@ impl Plain {
         first_enabled(&self.machine, &self.state, Moment(self.state.now))
     }
 
-    /// The event of an action that may come now, with the fields that its line prints. Nothing is done.
-    pub fn event_of(&mut self, action: Action) -> Event
-        requires { is_enabled_spec self.old.machine self.old.state self.old.state.now action
-            ≡ true }
-        ensures event { result ≡ event_of self.old.machine self.old.state self.old.state.now
-            action }
-        ensures unchanged { self.new ≡ self.old }
+    /// The processor of the workload's next stall, or none where all have come.
+    pub fn next_stall(&self) -> Option<ProcId>
+        ensures { result ≡ option_map (λ (line : StallLine). line.cpu)
+            (slice_get self.now.machine.work.stalls self.now.state.next_stall) }
     {
-        tell(
-            &self.machine,
-            &self.state,
-            &mut self.tool,
-            &mut self.scratch,
-            action,
-        )
+        let stalls = self.machine.work.stalls.as_slice();
+        stalls.get(self.state.next_stall as usize).map(|line| line.cpu)
+    }
+
+    /// The number of the workload's next command.
+    pub fn next_number(&self) -> u64
+        ensures { result ≡ suc self.now.state.next_command }
+    {
+        u64::from(self.state.next_command) + 1
     }
 
     /// Does the event of an action that may come now, and answers it with the fields that its line prints.

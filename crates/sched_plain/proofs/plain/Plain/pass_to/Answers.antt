@@ -14,5 +14,4 @@ invariant_of-self c =
           (subst (λ (v : Standing). next_in_horizon v.machine v.state ≡ Some c.args.next.0) (sym c.self.view_is) c.requires.next),
       c.self.invariant.1,
       c.self.invariant.2,
-      c.self.invariant.3,
     )
