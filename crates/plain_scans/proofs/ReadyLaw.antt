@@ -94,11 +94,11 @@ module _ (g : ℕ) (pool : Pool) (p : ℕ) (c : Resource) (q : Processor) (there
   unfolding block_end work_on done_of
   blocking_is =
       let of_processor : Option Processor → Option Moment = λ o. later_moment
-          (elim (elim o as (λ _. Option VcpuId) [ None ↦ None | Some x ↦ elim x.doing as (λ _. Option VcpuId) [ Guest v ↦ Some v | Idle ↦ None | Held ↦ None ] ]) as (λ _. Option Moment) [
-            | None ↦ None
-            | Some v ↦ elim (vcpu_of pool v) as (λ _. Option Moment) [ None ↦ None | Some x ↦ done_at x ]
-          ])
-          (end_of o) in
+      (elim (elim o as (λ _. Option VcpuId) [ None ↦ None | Some x ↦ elim x.doing as (λ _. Option VcpuId) [ Guest v ↦ Some v | Idle ↦ None | Held ↦ None ] ]) as (λ _. Option Moment) [
+        | None ↦ None
+        | Some v ↦ elim (vcpu_of pool v) as (λ _. Option Moment) [ None ↦ None | Some x ↦ done_at x ]
+      ])
+      (end_of o) in
       ap of_processor processor_is
 
   -- what may come of it by the pool's law

@@ -330,13 +330,7 @@ fn of_units(n: u8, best: u64, end: Moment, pool: &Pool, d: DomId, units: &[RtdsU
 }
 
 /// The same of each unit of these domains, of which the first has the number d.
-fn of_all_units(
-    d: u8,
-    best: u64,
-    end: Moment,
-    pool: &Pool,
-    domains: &[Option<RtdsUnits>],
-) -> u64
+fn of_all_units(d: u8, best: u64, end: Moment, pool: &Pool, domains: &[Option<RtdsUnits>]) -> u64
     requires few { d + length domains.now ≤ 64 }
     requires cores { length pool.now.resources ≤ 64 }
     ensures { result ≡ least_of_all_units pool.now end best (numbered_items d domains.now) }
