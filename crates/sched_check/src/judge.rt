@@ -182,17 +182,20 @@ pub fn judge_quiet(plain: &mut Plain, named: Option<u64>) -> Result<(), NotStep>
     ensures taken { IsOk result ↔ IsQuietDue plain.old.machine plain.old.state named }
     ensures unchanged { OnOk result (plain.new ≡ plain.old) }
 {
+    let now = plain.now();
+    if let Some(next) = plain.soonest()
+        && now.0 < next.0
+    {
+        return judge_end(named, next);
+    }
     if let Some(first) = plain.first_enabled() {
         return Err(NotStep::NotQuiet {
             first: perform(plain, first),
         });
     }
-    match plain.next_moment() {
-        Some(next) => judge_end(named, next),
-        None => match named {
-            Some(_) => Err(NotStep::FinishDue),
-            None => Ok(()),
-        },
+    match named {
+        Some(_) => Err(NotStep::FinishDue),
+        None => Ok(()),
     }
 }
 

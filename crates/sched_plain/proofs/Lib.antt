@@ -9,4 +9,4 @@ pub mod Judging
 pub mod Spares
 pub mod Searching
 pub mod Domains
-pub mod SoonestLemmas
+pub mod Turns

@@ -1,41 +1,69 @@
--- The soonest later moment, of those looked at so far and those of a list, at which something may happen.
-use Rattle.std.specs.Prelude.{ℕ, ◌&&◌, Bool, true, List, [], ◌∷◌, Option, Some, None, filter, min, nat_lt, is_some, option_map, slice_get}
+-- The least moment from which on an action may come in the whole machine.
+use Rattle.std.specs.Prelude.{◌≡◌, ◌≢◌, ◌≤◌, ◌<◌, ◌⊎◌, ℕ, not, List, [], ◌∷◌, Option, Some, None, is_some, slice_get, true}
+use Rattle.sched_base.specs.declared.Moment.{Moment}
+use Rattle.sched_model.specs.declared.action.Action.{Action}
 use Rattle.sched_model.specs.declared.machine.Machine.{Machine}
+use Rattle.sched_model.specs.declared.state.FreeCore.{FreeCore}
+use Rattle.sched_model.specs.declared.state.Pool.{Pool}
 use Rattle.sched_model.specs.declared.state.State.{State}
-use Rattle.sched_model.specs.declared.state.Credit2Domain.{Credit2Domain}
-use Rattle.sched_model.specs.Places.{least_number}
-use Rattle.sched_model.specs.declared.work.StallLine.{StallLine}
-use Rattle.sched_model.specs.declared.work.CommandLine.{CommandLine}
-use Rattle.sched_model.specs.Machine.{first_enabled, some_of}
+use Rattle.sched_model.specs.Machine.{first_enabled, is_enabled, is_move_under_way, next_in_horizon}
+use Rattle.sched_model.specs.Places.{at_place}
+use Rattle.sched_laws.specs.EachPlace.{EachPlace}
+use Rattle.pool_laws.specs.ReadyMoments.{moment_if}
+use Rattle.plain_scans.specs.Ready.{AreWhole, IsReadyIn, least_each, lesser}
 
--- the lesser of two moments, where they are there
-abbrev pub lesser_moment : Option ℕ → Option ℕ → Option ℕ
-lesser_moment None b = b
-lesser_moment (Some a) b = elim b [ None ↦ Some a | Some n ↦ Some (min a n) ]
+-- from when on the next stall may come
+abbrev pub stall_ready : Machine → State → Option Moment
+stall_ready m s = elim (slice_get m.work.stalls s.next_stall) [ None ↦ None | Some line ↦ Some line.at ]
 
--- whether the moment is after t and something may happen at it
-abbrev pub is_later : Machine → State → ℕ → ℕ → Bool
-is_later m s t later = nat_lt t later && is_some (first_enabled m s later)
+-- from when on the next command may come
+abbrev pub command_ready : Machine → State → Option Moment
+command_ready m s = elim (slice_get m.work.commands s.next_command) [ None ↦ None | Some line ↦ moment_if (not (is_move_under_way s)) (Some line.at) ]
 
--- the soonest of the best so far and of those of the list
-unfoldable pub soonest_moment : Machine → State → ℕ → Option ℕ → List ℕ → Option ℕ
-soonest_moment m s t best moments = lesser_moment best (least_number (filter (is_later m s t) moments))
+-- the first of the moments
+abbrev pub first_of : List Moment → Option Moment
+first_of [] = None
+first_of (end ∷ ends) = Some end
 
--- whether it is sooner than the best so far
-abbrev pub is_sooner : Machine → State → ℕ → Option ℕ → ℕ → Bool
-is_sooner m s t best later = nat_lt t later && elim best [ None ↦ true | Some b ↦ nat_lt later b ] && is_some (first_enabled m s later)
+-- from when on the core of no pool may move
+abbrev pub free_end : FreeCore → Option Moment
+free_end c = moment_if (is_some c.target) (first_of c.stall_ends)
 
--- the moments of the next stall and of the next command
-abbrev pub line_moments : Machine → State → List ℕ
-line_moments m s =
-    some_of (option_map (λ (line : StallLine). line.at) (slice_get m.work.stalls s.next_stall) ∷ option_map (λ (line : CommandLine). line.at) (slice_get m.work.commands s.next_command) ∷ [])
+-- the least so far, and of these cores of no pool
+abbrev pub least_of_free : ℕ → List (ℕ × FreeCore) → ℕ
+least_of_free best cores = least_each (λ so_far (e : ℕ × FreeCore). lesser so_far (free_end e.1)) best cores
 
--- the soonest of the best so far and of those that f names of each of the things that stand at places
-abbrev pub soonest_of_places : {X : Type 0} → Machine → State → ℕ → (X → List ℕ) → Option ℕ → List (Option X) → Option ℕ
-soonest_of_places m s t f best [] = best
-soonest_of_places m s t f best (None ∷ places) = soonest_of_places m s t f best places
-soonest_of_places m s t f best (Some x ∷ places) = soonest_of_places m s t f (soonest_moment m s t best (f x)) places
+-- it is the moment from which on some action may come in one of the pools
+pub record IsReadyAmong (g : ℕ) (pools : List (Option Pool)) (at : ℕ) : Type 0 where
+  pub place : ℕ
+  pub pool : Pool
+  pub there : at_place pools place ≡ Some pool
+  pub ready : IsReadyIn g pool at
 
--- the moment of the domain's refill, where it has one
-abbrev pub refill_moments : Credit2Domain → List ℕ
-refill_moments d = elim d.refill [ None ↦ [] | Some at ↦ at ∷ [] ]
+-- each core of each pool has g processors
+abbrev pub AreAllWhole : ℕ → List (Option Pool) → Type 0
+AreAllWhole g pools = EachPlace (AreWhole g) pools
+
+-- the greatest number that a moment may have
+abbrev pub last_moment : ℕ
+last_moment = 18446744073709551615
+
+-- no action may come before it, and one may come from it on, or it is the greatest number that a moment may have
+pub record IsSoonest (m : Machine) (s : State) (soonest : ℕ) : Type 0 where
+  pub none_before : (t : ℕ) (action : Action) → is_enabled m s t action ≡ true → soonest ≤ t
+  pub one : (soonest ≡ last_moment) ⊎ ((action : Action) × (is_enabled m s soonest action ≡ true))
+
+-- nothing may come now, and the next moment within the horizon is this one
+pub record IsQuiet (m : Machine) (s : State) (next : Option ℕ) : Type 0 where
+  pub nothing : first_enabled m s s.now ≡ None
+  pub next_is : next_in_horizon m s ≡ next
+
+-- where the moment has come, something may come now; where it has not, nothing may, and it is the next moment within the horizon
+pub record IsNextTurn (m : Machine) (s : State) (at : ℕ) : Type 0 where
+  pub come : at ≤ s.now → first_enabled m s s.now ≢ None
+  pub later : s.now < at → IsQuiet m s (Some at)
+
+-- from when on something may come, within the horizon; none where nothing may come any more
+abbrev pub IsTurn : Machine → State → Option Moment → Type 0
+IsTurn m s None = IsQuiet m s None
+IsTurn m s (Some at) = IsNextTurn m s at.0

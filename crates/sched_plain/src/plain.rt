@@ -7,12 +7,13 @@ ghost use Rattle.sched_model.specs.CheckedMachine.{IsChecked};
 ghost use Rattle.sched_model.specs.Opening.{opening};
 
 use crate::enabled::is_enabled;
-use crate::next::next_moment;
 use crate::perform::perform;
 use crate::scan::first_enabled;
+use crate::soonest::soonest;
 use cpupool::ToolState;
 use plain_opening::opening::open_state;
 use plain_opening::spare::open_spares;
+use run_laws::laws::{law_enabled_stays, law_next_moment};
 use sched_base::{Moment, NoMemory, ProcId};
 use sched_model::action::Action;
 use sched_model::event::Event;
@@ -93,6 +94,7 @@ impl Plain {
     ghost use Rattle.sched_model.specs.Opening.{opening};
     ghost use Rattle.sched_model.specs.CheckedMachine.{IsChecked};
     ghost use Rattle.sched_model.specs.Machine.{is_enabled as is_enabled_spec, first_enabled as first_enabled_spec, next_in_horizon, event_of, after};
+    ghost use Rattle.sched_plain.specs.Soonest.{IsTurn};
 
     /// The machine at its opening. Its values have passed the checks of the domain file and of the work file.
     pub fn open(alloc: Global, machine: Machine) -> Result<Plain, NoMemory>
@@ -169,13 +171,18 @@ impl Plain {
         )
     }
 
-    /// The least later moment at which something may happen, where it is at most the horizon.
-    pub fn next_moment(&self) -> Option<Moment>
-        ensures { result ≡ option_map moment (next_in_horizon self.now.machine self.now.state) }
+    /// The least moment from which on an action may come, where that is at most the horizon: a moment that has come exactly where something
+    /// may come now, and else the next moment. `None` where nothing may come any more within the horizon.
+    pub fn soonest(&self) -> Option<Moment>
+        ensures { IsTurn self.now.machine self.now.state result }
     {
-        match next_moment(&self.machine, &self.state, Moment(self.state.now)) {
-            Some(next) if next <= self.machine.config.horizon.0 => Some(Moment(next)),
-            _ => None,
+        law_enabled_stays();
+        law_next_moment();
+        let at = soonest(&self.machine, &self.state);
+        if at <= self.machine.config.horizon.0 {
+            Some(Moment(at))
+        } else {
+            None
         }
     }
 

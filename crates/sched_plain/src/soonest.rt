@@ -1,0 +1,94 @@
+//! The least moment from which on an action may come, by one scan of the state.
+
+ghost use Rattle.std.specs.Prelude.{◌≡◌, ℕ, ◌+◌, ◌<◌, ◌≤◌, ◌^◌, length};
+ghost use Rattle.sched_model.specs.Places.{numbered_items, AllPlaces};
+ghost use Rattle.plain_scans.specs.Ready.{IsLeastWith, ScanFits, lesser as lesser_spec};
+ghost use Rattle.sched_plain.specs.Fits.{StateFits};
+ghost use Rattle.sched_plain.specs.ReachedStates.{Stands};
+ghost use Rattle.sched_plain.specs.Soonest.{AreAllWhole, IsReadyAmong, IsSoonest, command_ready, first_of, free_end as free_end_spec, least_of_free, stall_ready as stall_ready_spec};
+
+use crate::homes::is_move_under_way;
+use plain_scans::ready::{end_if, least_ready, lesser};
+use sched_base::Moment;
+use sched_model::machine::Machine;
+use sched_model::state::{FreeCore, Pool, State};
+
+/// From when on the next stall may come.
+fn stall_ready(m: &Machine, s: &State) -> Option<Moment>
+    ensures { result ≡ stall_ready_spec m.now s.entry.now }
+{
+    match m.work.stalls.as_slice().get(s.next_stall as usize) {
+        None => None,
+        Some(line) => Some(line.at),
+    }
+}
+
+/// The least so far, or from when on the next command may come. Whether a move is under way is asked only where the command's moment
+/// comes before the least so far.
+fn of_command(best: u64, m: &Machine, s: &State) -> u64
+    requires { StateFits s.now }
+    ensures { result ≡ lesser_spec best (command_ready m.now s.entry.now) }
+{
+    match m.work.commands.as_slice().get(s.next_command as usize) {
+        None => best,
+        Some(line) => {
+            if best <= line.at.0 {
+                best
+            } else {
+                lesser(best, end_if(!is_move_under_way(s), Some(line.at)))
+            }
+        }
+    }
+}
+
+/// The end of the stall of the first processor.
+fn first_end(ends: &[Moment]) -> Option<Moment>
+    ensures { result ≡ first_of ends.now }
+{
+    match ends {
+        [] => None,
+        [end, ..] => Some(*end),
+    }
+}
+
+/// From when on the core of no pool may move to the pool to which it is leaving.
+fn free_end(c: &FreeCore) -> Option<Moment>
+    ensures { result ≡ free_end_spec c.now }
+{
+    end_if(c.target.is_some(), first_end(c.stall_ends.as_slice()))
+}
+
+/// The least so far, or from when on one of these cores of no pool may move. The first of them has the number r.
+fn of_free(r: usize, best: u64, cores: &[Option<FreeCore>]) -> u64
+    requires { r + length cores.now < 2 ^ 64 }
+    ensures { result ≡ least_of_free best (numbered_items r cores.now) }
+{
+    match cores {
+        [] => best,
+        [None, rest @ ..] => of_free(r + 1, best, rest),
+        [Some(c), rest @ ..] => of_free(r + 1, lesser(best, free_end(c)), rest),
+    }
+}
+
+/// The least so far, or from when on something of one of these pools may come.
+fn of_pools(best: u64, pools: &[Option<Pool>]) -> u64
+    requires { AllPlaces ScanFits pools.now }
+    ensures { (g : ℕ) → AreAllWhole g pools.now →
+        IsLeastWith best (IsReadyAmong g pools.now) result }
+{
+    match pools {
+        [] => best,
+        [None, rest @ ..] => of_pools(best, rest),
+        [Some(pool), rest @ ..] => of_pools(least_ready(best, pool), rest),
+    }
+}
+
+/// The least moment from which on an action may come, and the greatest number that a moment may have where there is none.
+pub fn soonest(m: &Machine, s: &State) -> u64
+    requires { Stands m.now s.now }
+    ensures { IsSoonest m.now s.entry.now result }
+{
+    let lines = of_command(lesser(u64::MAX, stall_ready(m, s)), m, s);
+    let free = of_free(0, lines, s.free.as_slice());
+    of_pools(free, s.pools.as_slice())
+}
