@@ -9,11 +9,10 @@ ghost use Rattle.sched_model.specs.Opening.{opening};
 use crate::enabled::is_enabled;
 use crate::perform::perform;
 use crate::scan::first_enabled;
-use crate::soonest::soonest;
+use crate::soonest::next_turn;
 use cpupool::ToolState;
 use plain_opening::opening::open_state;
 use plain_opening::spare::open_spares;
-use run_laws::laws::{law_enabled_stays, law_next_moment};
 use sched_base::{Moment, NoMemory, ProcId};
 use sched_model::action::Action;
 use sched_model::event::Event;
@@ -176,14 +175,7 @@ impl Plain {
     pub fn soonest(&self) -> Option<Moment>
         ensures { IsTurn self.now.machine self.now.state result }
     {
-        law_enabled_stays();
-        law_next_moment();
-        let at = soonest(&self.machine, &self.state);
-        if at <= self.machine.config.horizon.0 {
-            Some(Moment(at))
-        } else {
-            None
-        }
+        next_turn(&self.machine, &self.state)
     }
 
     /// Goes on to the next moment, where nothing may come now.
