@@ -65,7 +65,8 @@ class Pages(unittest.TestCase):
         before, _ = said(self.top)
         self.add("README.md", "A `name_that_nobody_has`, `examples/run_anything`, `Engine::step_back`, `rekey` of `due_heap`, `horizon_in_hours`, `--evnts`.")
         self.add("README.md", "A [file](docs/NOWHERE.md), a [head](docs/XL.md#no-such-head), an [own one](#nor-this).")
-        self.add("README.md", "- 9,999 stored calls", "- 73 crates", "- 999 mutants", "- 99 worked examples", "- 999 laws", "- 99 stored runs", "- 9,999 definitions", "- measured with 61 crates")
+        self.add("README.md", "- 9,999 stored calls", "- 73 crates", "- 999 mutants", "- 99 worked examples", "- 999 laws", "- 99 stored runs")
+        self.add("README.md", "- 9,999 definitions", "- measured with 61 crates")
         self.add("README.md", "```", "pub fn law_headline()", "    ensures whole { (m : Machine) → IsWholeRun m }", "```")
         self.add("README.md", "```", "file: src/rtds.rt", "old: deadline", "new: no deadline", "```")
         self.add("docs/XL.md", "`no_such_word` in a page of docs/.")
@@ -76,9 +77,11 @@ class Pages(unittest.TestCase):
         found = [line for line in after[:-1] if line not in before]
         wanted = {
             "README.md": (
-                "no source has the name name_that_nobody_has", "there is no file examples/run_anything", "Engine has no step_back", "no source has the name step_back, of `Engine::step_back`",
+                "no source has the name name_that_nobody_has", "there is no file examples/run_anything",
+                "Engine has no step_back", "no source has the name step_back, of `Engine::step_back`",
                 "due_heap has no rekey", "no source has the name horizon_in_hours", "no source has the name evnts, of `--evnts`",
-                "the link docs/NOWHERE.md leads to no file", "the link docs/XL.md#no-such-head leads to no head of docs/XL.md", "the link #nor-this leads to no head of README.md",
+                "the link docs/NOWHERE.md leads to no file", "the link docs/XL.md#no-such-head leads to no head of docs/XL.md",
+                "the link #nor-this leads to no head of README.md",
                 "9,999 stored calls: ", "73 crates: ", "999 mutants: ", "99 worked examples: ", "999 laws: ", "99 stored runs: ", "9,999 definitions: ",
                 "no source has the contract pub fn law_headline() ensures ..", "no mutant is as it stands here: file: src/rtds.rt ..",
             ),
@@ -103,7 +106,8 @@ class Pages(unittest.TestCase):
         self.change("crates.txt", f"{line}\n", "")
         self.add("crates.txt", "# of no line", "# the definitions, too late", line)
         faults, status = said(self.top, "map", "--check")
-        for wanted in ("sched_laws comes before sched_model, which it uses", "a comment that is of no line", "crates/README.md:1: is stale", "crates/sched_model/README.md:1: is stale"):
+        early, stale = "sched_laws comes before sched_model, which it uses", ("crates/README.md:1: is stale", "crates/sched_model/README.md:1: is stale")
+        for wanted in (early, "a comment that is of no line", *stale):
             self.assertTrue(any(wanted in it for it in faults), wanted)
         self.assertEqual(status, 1)
         said(self.top, "map")
@@ -121,7 +125,7 @@ class Pages(unittest.TestCase):
         self.change("crates/runq/README.md", "## Used by\n\n[credit2_core]", "## Used by\n\n[rtds_core]")
         self.change("crates/due_heap/README.md", " Map: ", " Mop: ")
         faults, _ = said(self.top, "map", "--check")
-        self.assertEqual(faults, ["crates/due_heap/README.md:1: is stale: tools/map makes it anew", "crates/runq/README.md:1: is stale: tools/map makes it anew"])
+        self.assertEqual(faults, [f"crates/{it}/README.md:1: is stale: tools/map makes it anew" for it in ("due_heap", "runq")])
 
     @unittest.skipUnless(shutil.which("rt"), "the toolchain is not in PATH")
     def test_what_a_reader_must_believe_goes_stale(self):
