@@ -73,6 +73,7 @@ class Pages(unittest.TestCase):
         self.change("crates/runq/README.md", "## Proved", "`Gone.antt` has it, and so do `specs/Gone.antt` and `Kept.antt`.\n\n## Proved")
         self.change("crates/runq/README.md", "## Depends on", "The contracts: `Runq::insert`, `judge`.\n\n## Depends on")
         self.change("crates/README.md", "xensched_top", "xensched_bottom")
+        self.change("crates/due_heap/README.md", "## Tested only\n", "## Tried\n")
         after, status = said(self.top)
         found = [line for line in after[:-1] if line not in before]
         wanted = {
@@ -88,6 +89,7 @@ class Pages(unittest.TestCase):
             "docs/XL.md": ("no source has the name no_such_word",),
             "crates/runq/README.md": ("there is no file Gone.antt", "there is no file specs/Gone.antt", "there is no file Kept.antt", "runq has no judge"),
             "crates/README.md": ("no source has the name xensched_bottom",),
+            "crates/due_heap/README.md": ("has no head Tested only",),
         }
         for page, faults in wanted.items():
             mine = [re.sub(rf"^{re.escape(page)}:\d+: ", "", line) for line in found if line.startswith(f"{page}:")]
