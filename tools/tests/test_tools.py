@@ -79,7 +79,7 @@ class WrongInput(unittest.TestCase):
     """A sentence and a status, and no traceback."""
 
     def test_files(self):
-        for tool in ("tools/study", "examples/draw"):
+        for tool in ("tools/study", "tools/draw"):
             for files in (("missing.toml", FILES[1]), (FILES[0], "missing.txt"), ("README.md", FILES[1]), (FILES[0], "README.md"), (FILES[0], FILES[0]), ("examples", FILES[1]),
                           ("examples/two-pools/domains.toml", "crates/xensched_trials/stdout"), (FILES[0], "docs/pictures"),
                           (FILES[0], "/dev/null"), (FILES[0], sys.executable), (sys.executable, FILES[1])):
@@ -235,7 +235,7 @@ class Sweeping(unittest.TestCase):
 
 class Drawing(unittest.TestCase):
     def test_the_text_keeps_to_the_terminal(self):
-        done = call("examples/draw", *FILES)
+        done = call("tools/draw", *FILES)
         rows = done.stdout.splitlines()
         self.assertTrue(all(len(line) <= 80 for line in rows))
         # 32 ms in 72 columns: b runs from 2 to 10 ms
@@ -244,13 +244,13 @@ class Drawing(unittest.TestCase):
 
     def test_wrong_moments(self):
         for words in (["--from", "40ms"], ["--from", "5ms", "--to", "5ms"], ["--to", "soon"]):
-            done = call("examples/draw", *FILES, *words)
+            done = call("tools/draw", *FILES, *words)
             self.assertEqual(done.returncode, 2)
             self.assertRegex(done.stderr, r"\Adraw: .*\n\Z")
 
     def test_a_picture_with_many_domains(self):
         domains, work, lines = stored("realistic")
-        done = call("examples/draw", "--form", "svg", "--work", work, domains, text="".join(f"{line}\n" for line in lines))
+        done = call("tools/draw", "--form", "svg", "--work", work, domains, text="".join(f"{line}\n" for line in lines))
         import xml.dom.minidom
         picture = xml.dom.minidom.parseString(done.stdout)
         wide = float(picture.documentElement.getAttribute("width"))
