@@ -10,13 +10,12 @@ ghost use Rattle.sched_model.specs.Opening.{opening, core_count as core_count_sp
 use crate::enabled::is_enabled;
 use crate::perform::perform;
 use crate::scan::first_enabled;
-use crate::soonest::soonest;
+use crate::soonest::next_turn;
 use crate::tell::tell;
 use cpupool::ToolState;
 use plain_opening::opening::open_state;
 use plain_opening::spare::{core_count, open_spares};
 use plain_telling::scratch::Scratch;
-use run_laws::laws::{law_enabled_stays, law_next_moment};
 use sched_base::{Moment, NoMemory};
 use sched_model::action::Action;
 use sched_model::event::Event;
@@ -205,14 +204,7 @@ impl Plain {
     pub fn soonest(&self) -> Option<Moment>
         ensures { IsTurn self.now.machine self.now.state result }
     {
-        law_enabled_stays();
-        law_next_moment();
-        let at = soonest(&self.machine, &self.state);
-        if at <= self.machine.config.horizon.0 {
-            Some(Moment(at))
-        } else {
-            None
-        }
+        next_turn(&self.machine, &self.state)
     }
 
     /// Goes on to the next moment, where nothing may come now.

@@ -5,10 +5,11 @@ ghost use Rattle.sched_model.specs.Places.{numbered_items, AllPlaces};
 ghost use Rattle.plain_scans.specs.Ready.{IsLeastWith, ScanFits, lesser as lesser_spec};
 ghost use Rattle.sched_plain.specs.Fits.{StateFits};
 ghost use Rattle.sched_plain.specs.ReachedStates.{Stands};
-ghost use Rattle.sched_plain.specs.Soonest.{AreAllWhole, IsReadyAmong, IsSoonest, command_ready, first_of, free_end as free_end_spec, least_of_free, stall_ready as stall_ready_spec};
+ghost use Rattle.sched_plain.specs.Soonest.{AreAllWhole, IsReadyAmong, IsSoonest, IsTurn, command_ready, first_of, free_end as free_end_spec, least_of_free, stall_ready as stall_ready_spec};
 
 use crate::homes::is_move_under_way;
 use plain_scans::ready::{end_if, least_ready, lesser};
+use run_laws::laws::{law_enabled_stays, law_next_moment};
 use sched_base::Moment;
 use sched_model::machine::Machine;
 use sched_model::state::{FreeCore, Pool, State};
@@ -84,11 +85,27 @@ fn of_pools(best: u64, pools: &[Option<Pool>]) -> u64
 }
 
 /// The least moment from which on an action may come, and the greatest number that a moment may have where there is none.
-pub fn soonest(m: &Machine, s: &State) -> u64
+fn soonest(m: &Machine, s: &State) -> u64
     requires { Stands m.now s.now }
     ensures { IsSoonest m.now s.entry.now result }
 {
     let lines = of_command(lesser(u64::MAX, stall_ready(m, s)), m, s);
     let free = of_free(0, lines, s.free.as_slice());
     of_pools(free, s.pools.as_slice())
+}
+
+/// From when on an action may come, where that is at most the horizon: a moment that has come exactly where something may come now, and else
+/// the next moment. `None` where nothing may come any more within the horizon.
+pub fn next_turn(m: &Machine, s: &State) -> Option<Moment>
+    requires { Stands m.now s.now }
+    ensures { IsTurn m.now s.entry.now result }
+{
+    law_enabled_stays();
+    law_next_moment();
+    let at = soonest(m, s);
+    if at <= m.config.horizon.0 {
+        Some(Moment(at))
+    } else {
+        None
+    }
 }
