@@ -1,7 +1,7 @@
 -- The moments of a pool's parts are those from which on its actions may come.
-use Rattle.std.proofs.Common.{◌≡◌, ◌<◌, ◌+◌, ◌*◌, ◌/◌, ◌%◌, ◌∙◌, ◌⊎◌, ℕ, Bool, true, false, List, refl, sym, ap, subst, inl, inr, arith, length}
+use Rattle.std.proofs.Common.{◌≡◌, ◌<◌, ◌+◌, ◌*◌, ◌/◌, ◌%◌, ◌∙◌, ◌⊎◌, ℕ, Bool, true, false, List, refl, sym, ap, inl, inr, arith}
 use Rattle.std.specs.Prelude.{◌&&◌, ◌||◌, not, Option, Some, None, is_some, option_map, slice_get, if◌then◌else◌}
-use Rattle.std.specs.List.{list_any, list_all}
+use Rattle.std.specs.List.{list_any}
 use Rattle.std.proofs.lemmas.Nat.{div-mul-add, mod-mul-add}
 use Rattle.std.proofs.lemmas.Option.{slice_get_within}
 use Rattle.sched_base.specs.Numbers.{core, domain, moment, processor}
@@ -24,9 +24,9 @@ use Rattle.sched_model.specs.Places.{at_place, numbered_items}
 use Rattle.sched_model.specs.Policy.{next_refill, rtds_record}
 use Rattle.sched_model.specs.Pool.{done_at, is_held, is_of_domain, is_open, processor_of, vcpu_of}
 use Rattle.pool_laws.specs.ReadyMoments.{deadline_of, end_of, end_where, gathers, later_moment, lowest_end, may_move, moment_if, ready_in, sibling_end, slice_end, work_end}
-use Rattle.plain_scans.specs.Ready.{AreWhole, IsLeastWith, IsReadyIn, block_end, decide_end, decides, done_of, dom_moved_end, due_end, is_about, least_of_cores, least_of_domains, least_of_scheduler, may_dom_move, move_end, moved_end, refill_end, repl_end, save_end, saves, work_on}
-use Rattle.plain_scans.proofs.Leasts.{AtItem, AtPlace, IsAt, least_same}
-use Rattle.plain_scans.proofs.ReadyParts.{OfCore, OfCores, OfDomain, OfDomains, OfParts, OfProcessor, OfProcessors, OfScheduler, OfTimers, OfUnits, parts_least}
+use Rattle.plain_scans.specs.Ready.{AreWhole, IsLeastWith, IsReadyIn, block_end, decide_end, decides, done_of, dom_moved_end, due_end, is_about, least_of_cores, least_of_domains, least_of_scheduler, move_end, moved_end, refill_end, repl_end, save_end, saves, work_on}
+use Rattle.plain_scans.proofs.Leasts.{IsAt, least_same}
+use Rattle.plain_scans.proofs.ReadyParts.{OfCore, OfDomain, OfParts, OfProcessor, OfScheduler, OfTimers, parts_least}
 
 -- a moment that comes of something there, where nothing gives none
 found : {X : Type 0} (f : Option X → Option Moment) (o : Option X) (at : ℕ) → f None ≡ None → IsAt (f o) at → (x : X) × (o ≡ Some x) × IsAt (f (Some x)) at

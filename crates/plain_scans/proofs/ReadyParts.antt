@@ -1,9 +1,8 @@
 -- The least so far and of a pool's parts: which moments it is the least of.
-use Rattle.std.proofs.Common.{◌≡◌, ◌+◌, ◌⊎◌, ℕ, zero, suc, List, [], ◌∷◌, refl, sym, subst, arith}
+use Rattle.std.proofs.Common.{◌≡◌, ◌+◌, ◌⊎◌, ℕ, suc, List, [], ◌∷◌, subst, arith}
 use Rattle.std.specs.Prelude.{Option, Some, None}
 use Rattle.sched_base.specs.Numbers.{domain}
 use Rattle.sched_base.specs.declared.Moment.{Moment}
-use Rattle.sched_base.specs.declared.UnitId.{UnitId}
 use Rattle.sched_model.specs.declared.state.Credit2Domain.{Credit2Domain}
 use Rattle.sched_model.specs.declared.state.Domain.{Domain}
 use Rattle.sched_model.specs.declared.state.Pool.{Pool}
@@ -15,7 +14,7 @@ use Rattle.sched_model.specs.declared.state.RtdsUnit.{RtdsUnit}
 use Rattle.sched_model.specs.declared.state.Vcpu.{Vcpu}
 use Rattle.sched_model.specs.Places.{numbered_items}
 use Rattle.pool_laws.specs.ReadyMoments.{lowest_end}
-use Rattle.plain_scans.specs.Ready.{IsLeastWith, block_end, decide_end, dom_moved_end, due_end, least_each, least_of_all_units, least_of_core, least_of_cores, least_of_domain, least_of_domains, least_of_processor, least_of_refills, least_of_scheduler, least_of_timers, least_of_units, lesser, move_end, moved_end, refill_end, repl_end, save_end}
+use Rattle.plain_scans.specs.Ready.{IsLeastWith, block_end, decide_end, dom_moved_end, due_end, least_of_core, least_of_cores, least_of_domain, least_of_domains, least_of_processor, least_of_scheduler, least_of_timers, least_of_units, lesser, move_end, moved_end, refill_end, repl_end, save_end}
 use Rattle.plain_scans.proofs.Leasts.{AtItem, AtPlace, IsAt, least_both, least_items, least_none, least_one, least_places, least_same, more_items, no_item, which_item}
 
 -- from when on something of a processor may come
