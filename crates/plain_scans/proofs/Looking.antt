@@ -20,7 +20,7 @@ use Rattle.sched_model.specs.EligibleUnits.{is_allowed, is_eligible, passes, rtd
 use Rattle.sched_model.specs.Places.{has_unit, is_unit, same_unit}
 use Rattle.sched_model.specs.Policy.{is_better, better_waits}
 use Rattle.sched_model.specs.Rtds.{is_before, unit_before}
-use Rattle.plain_scans.specs.Looks.{best_from, best_waiting, has_left, is_richer, is_null, is_better_than, IsOwnAllowed}
+use Rattle.plain_scans.specs.Looks.{best_waiting, has_left, is_richer, is_null, is_better_than, IsOwnAllowed}
 use Rattle.plain_scans.proofs.Lists.{all_more, more_right, none_found, none_passes, that_found}
 use Rattle.plain_scans.proofs.Best.{IsBehind, Passes, best_is, all_behind, best_found, best_passes}
 
