@@ -8,7 +8,7 @@ ghost use Rattle.sched_model.specs.Credit2.{domain_has_budget as domain_has_budg
 ghost use Rattle.sched_model.specs.Rtds.{unit_before as unit_before_spec};
 ghost use Rattle.sched_model.specs.Policy.{is_better as is_better_spec, better_waits as better_waits_spec};
 ghost use Rattle.plain_units.specs.Fits.{IsFrame, RecordsFit};
-ghost use Rattle.plain_scans.specs.Looks.{Finds, IsOwnAllowed, best_from, best_waiting, better, has_left, is_better_than, is_null, is_richer, most_of};
+ghost use Rattle.plain_scans.specs.Looks.{Finds, HasCredit, IsOwnAllowed, best_from, best_waiting, better, credit_where, has_left, is_better_than, is_more_than, is_null, is_richer, most_of};
 
 use plain_credit2::choice::{domain_has_budget, is_within_limit};
 use plain_credit2::running::{burned_credit_by, credit_of, max_weight};
@@ -28,26 +28,46 @@ pub struct Look {
     pub most: u32,
 }
 
-/// The one of greater credit, of the best so far and a unit whose domain may run; the first where they have as much.
-fn richer(records: &Credit2Records, best: Option<UnitId>, u: UnitId) -> Option<UnitId>
-    ensures { result ≡ better (domain_has_budget_spec records.now) (is_richer records.now) best u }
+/// The unit's credit, where its domain may run.
+fn credit_if(records: &Credit2Records, u: UnitId) -> Option<i64>
+    ensures { result ≡ credit_where records.now (domain_has_budget_spec records.now u) u }
 {
-    let is_better = domain_has_budget(records, u)
-        && match best {
-            None => true,
-            Some(b) => credit_of(records, b) < credit_of(records, u),
-        };
-    if is_better { Some(u) } else { best }
+    if domain_has_budget(records, u) {
+        Some(credit_of(records, u))
+    } else {
+        None
+    }
 }
 
-/// The one of greatest credit, of the best so far and the units whose domains may run.
-fn richest(records: &Credit2Records, best: Option<UnitId>, units: &[UnitId]) -> Option<UnitId>
+/// Whether the credit is more than that of the best so far, which is any where there is none.
+fn is_more(best: Option<UnitId>, most: i64, credit: i64) -> bool
+    ensures { result ≡ is_more_than best most credit }
+{
+    match best {
+        None => true,
+        Some(_) => most < credit,
+    }
+}
+
+/// The one of greatest credit, of the best so far, which has this credit, and the units whose domains may run; the first where they have as much.
+fn richest(
+    records: &Credit2Records,
+    best: Option<UnitId>,
+    most: i64,
+    units: &[UnitId],
+) -> Option<UnitId>
+    requires { HasCredit records.now best most }
     ensures { result ≡ best_from (domain_has_budget_spec records.now) (is_richer records.now) best
         units.now }
 {
     match units {
         [] => best,
-        [u, rest @ ..] => richest(records, richer(records, best, *u), rest),
+        [u, rest @ ..] => match credit_if(records, *u) {
+            Some(credit) if is_more(best, most, credit) => {
+                richest(records, Some(*u), credit, rest)
+            }
+            _ => richest(records, best, most, rest),
+        },
     }
 }
 
@@ -98,7 +118,7 @@ pub fn look_of(scheduler: &Scheduler, t: Moment) -> Look
     let queue = scheduler.queue.as_slice();
     match &scheduler.records {
         Records::Credit2Pool(records) => Look {
-            best: richest(records, None, queue),
+            best: richest(records, None, 0, queue),
             most: max_weight(records),
         },
         Records::RtdsPool(domains) => Look {
