@@ -1,6 +1,7 @@
 -- From when on an action may come in the whole machine, and what follows for the next moment.
-use Rattle.std.proofs.Common.{◌≡◌, ◌≢◌, ◌≤◌, ◌<◌, ◌∙◌, ◌⊎◌, ℕ, zero, suc, Bool, true, false, List, [], ◌∷◌, refl, sym, ap, subst, inl, inr, arith}
+use Rattle.std.proofs.Common.{◌≡◌, ◌≢◌, ◌≤◌, ◌<◌, ◌-◌, ◌∙◌, ◌⊎◌, ℕ, zero, suc, Bool, true, false, List, [], ◌∷◌, length, get_or, take, drop, refl, sym, ap, subst, inl, inr, arith}
 use Rattle.std.specs.Prelude.{◌&&◌, ◌||◌, not, nat_le, Option, Some, None, is_some, slice_get, if◌then◌else◌, Contains}
+use Rattle.std.specs.Option.{ForSome}
 use Rattle.std.proofs.lemmas.Bool.{or_cases}
 use Rattle.std.proofs.lemmas.Bool.Decides.{nat_tests}
 use Rattle.std.proofs.Math.Decide.{dec_le}
@@ -19,10 +20,11 @@ use Rattle.sched_model.specs.declared.work.CommandLine.{CommandLine}
 use Rattle.sched_model.specs.declared.work.StallLine.{StallLine}
 use Rattle.sched_model.specs.Actions.{candidates, home_of}
 use Rattle.sched_model.specs.Machine.{enabled_at_home, first_enabled, free_ready, is_enabled, is_move_under_way, next_in_horizon, next_moment}
-use Rattle.sched_model.specs.Places.{AllPlaces, at_place, numbered_items, test_at}
+use Rattle.sched_model.specs.Places.{at_place, numbered_items, test_at}
 use Rattle.sched_model.specs.Pool.{enabled_in}
 use Rattle.sched_model.specs.Runs.{Reached}
 use Rattle.sched_model.proofs.RunLemmas.{find_passes}
+use Rattle.sched_laws.specs.EachPlace.{EachPlace}
 use Rattle.sched_laws.proofs.Lists.{has_come-le, some-test_at, test_at-some}
 use Rattle.order_laws.specs.OrderLaws.{ComesInPool}
 use Rattle.order_laws.proofs.Candidates.{is_candidate}
@@ -35,34 +37,41 @@ use Rattle.plain_units.specs.Fits.{RecordsFit}
 use Rattle.plain_scans.specs.Ready.{AreFewRecords, AreWhole, IsLeastWith, IsReadyIn, ScanFits, lesser}
 use Rattle.plain_scans.proofs.Leasts.{AtPlace, IsAt, least_both, least_none, least_one, least_places, least_same}
 use Rattle.sched_plain.specs.ReachedStates.{Stands}
-use Rattle.sched_plain.specs.Soonest.{AreAllWhole, IsNextTurn, IsQuiet, IsReadyAmong, IsSoonest, command_ready, first_of, free_end, last_moment, least_of_free, stall_ready}
-use Rattle.sched_plain.proofs.Bridges.{all-places, stands-pool}
+use Rattle.sched_plain.specs.Soonest.{IsNextTurn, IsQuiet, IsReadyAmong, IsReadyAt, IsSoonest, command_ready, first_of, free_end, last_moment, least_of_free, stall_ready}
+use Rattle.sched_plain.proofs.Bridges.{stands-pool}
+use Rattle.sched_plain.proofs.Domains.{behind}
 use Rattle.sched_plain.proofs.Reaching.{reached-in_range}
 
--- the least so far and of pools
-pub pools_none : (g best : ℕ) → IsLeastWith best (IsReadyAmong g []) best
-pools_none g best = least_same (IsReadyAmong g []) (λ at none. absurd none) (λ at h. (let there = h.there in absurd (cc))) (least_none best)
+-- the least so far and of the pools at places, of which there are none
+pub pools_none : (g best : ℕ) (pools : List (Option Pool)) → length pools < 1 → IsLeastWith best (IsReadyAmong g pools) best
+pools_none g best [] none = least_same (IsReadyAmong g []) (λ at none. absurd none) (λ at h. (let there = h.there in absurd (cc))) (least_none best)
+pools_none g best (place ∷ pools) none = absurd (omega (arith, none))
 
-pub pools_past : (g best least : ℕ) (pools : List (Option Pool)) → IsLeastWith best (IsReadyAmong g pools) least → IsLeastWith best (IsReadyAmong g (None ∷ pools)) least
-pools_past g best least pools is = least_same (IsReadyAmong g (None ∷ pools)) to (λ at h. from at h.place h.pool h.there h.ready) is
-  where
-    to : (at : ℕ) → IsReadyAmong g pools at → IsReadyAmong g (None ∷ pools) at
-    to at h = record { place = suc h.place; pool = h.pool; there = h.there; ready = h.ready }
+-- of the first and then of the others
+more_ready : (g at : ℕ) (first : Option Pool) (pools : List (Option Pool)) → IsReadyAt g first at ⊎ IsReadyAmong g pools at → IsReadyAmong g (first ∷ pools) at
+more_ready g at None pools (inl has) = absurd has
+more_ready g at (Some pool) pools (inl has) = record { place = 0; pool = pool; there = refl; ready = has }
+more_ready g at first pools (inr h) = record { place = suc h.place; pool = h.pool; there = h.there; ready = h.ready }
 
-    from : (at i : ℕ) (pool : Pool) → at_place (None ∷ pools) i ≡ Some pool → IsReadyIn g pool at → IsReadyAmong g pools at
-    from at zero pool there has = absurd (cc)
-    from at (suc i) pool there has = record { place = i; pool = pool; there = there; ready = has }
+which_ready : (g at : ℕ) (first : Option Pool) (pools : List (Option Pool)) (i : ℕ) (pool : Pool) → at_place (first ∷ pools) i ≡ Some pool → IsReadyIn g pool at → IsReadyAt g first at ⊎ IsReadyAmong g pools at
+which_ready g at first pools zero pool there has = inl (subst (λ (o : Option Pool). IsReadyAt g o at) (sym there) has)
+which_ready g at first pools (suc i) pool there has = inr (record { place = i; pool = pool; there = there; ready = has })
 
-pub pools_more : (g best middle least : ℕ) (first : Pool) (pools : List (Option Pool)) → IsLeastWith best (IsReadyIn g first) middle → IsLeastWith middle (IsReadyAmong g pools) least → IsLeastWith best (IsReadyAmong g (Some first ∷ pools)) least
-pools_more g best middle least first pools here rest = least_same (IsReadyAmong g (Some first ∷ pools)) to (λ at h. from at h.place h.pool h.there h.ready) (least_both here rest)
-  where
-    to : (at : ℕ) → IsReadyIn g first at ⊎ IsReadyAmong g pools at → IsReadyAmong g (Some first ∷ pools) at
-    to at (inl has) = record { place = 0; pool = first; there = refl; ready = has }
-    to at (inr h) = record { place = suc h.place; pool = h.pool; there = h.there; ready = h.ready }
+-- what each place has, the first has and the others have
+pub first_place-has : (P : Pool → Type 0) (pools : List (Option Pool)) (place : Option Pool) → 1 ≤ length pools → place ≡ get_or pools 0 place → EachPlace P pools → ForSome place P
+first_place-has P [] place some is each = absurd (omega (arith, some))
+first_place-has P (first ∷ pools) place some is each = λ pool there. each 0 pool (sym is ∙ there)
 
-    from : (at i : ℕ) (pool : Pool) → at_place (Some first ∷ pools) i ≡ Some pool → IsReadyIn g pool at → IsReadyIn g first at ⊎ IsReadyAmong g pools at
-    from at zero pool there has = (let e : pool ≡ first = cc in inl (subst (λ (x : Pool). IsReadyIn g x at) e has))
-    from at (suc i) pool there has = inr (record { place = i; pool = pool; there = there; ready = has })
+pub others-have : (P : Pool → Type 0) (pools : List (Option Pool)) → 1 ≤ length pools → EachPlace P pools → EachPlace P (take (length pools - 1) (drop 1 pools))
+others-have P [] some each = absurd (omega (arith, some))
+others-have P (first ∷ pools) some each = subst (λ (xs : List (Option Pool)). EachPlace P xs) (sym (behind first pools)) (λ i pool there. each (suc i) pool there)
+
+pub pools_more : (g best middle least : ℕ) (pools : List (Option Pool)) (place : Option Pool) → 1 ≤ length pools → place ≡ get_or pools 0 place
+    → IsLeastWith best (IsReadyAt g place) middle → IsLeastWith middle (IsReadyAmong g (take (length pools - 1) (drop 1 pools))) least → IsLeastWith best (IsReadyAmong g pools) least
+pools_more g best middle least [] place some is here rest = absurd (omega (arith, some))
+pools_more g best middle least (first ∷ pools) place some is here rest =
+    least_same (IsReadyAmong g (first ∷ pools)) (λ at h. more_ready g at first pools h) (λ at h. which_ready g at first pools h.place h.pool h.there h.ready)
+    (least_both (subst (λ (o : Option Pool). IsLeastWith best (IsReadyAt g o) middle) is here) (subst (λ (xs : List (Option Pool)). IsLeastWith middle (IsReadyAmong g xs) least) (behind first pools) rest))
 
 -- a command that comes no sooner than the least so far
 pub late_command : (best : ℕ) (at : Moment) (b : Bool) → best ≤ at.0 → best ≡ lesser best (moment_if b (Some at))
@@ -125,10 +134,10 @@ module _ (m : Machine) (s : State) (stands : Stands m s) where
   few t (ArincPool records) fits = tt
   few t (NullPool kept) fits = tt
 
-  pub scans_fit : AllPlaces ScanFits s.pools
-  scans_fit = all-places ScanFits s.pools (λ i pool at. (let fits = stands-pool m s stands i pool at in record { fits = fits.fits; few_records = few s.now pool.scheduler.records fits.records }))
+  pub scans_fit : EachPlace ScanFits s.pools
+  scans_fit = λ i pool at. (let fits = stands-pool m s stands i pool at in record { fits = fits.fits; few_records = few s.now pool.scheduler.records fits.records })
 
-  pub are_whole : AreAllWhole g s.pools
+  pub are_whole : EachPlace (AreWhole g) s.pools
   are_whole = λ i pool at r c there. (((reached-in_range m s stands).pools i pool at).cores r c there).count
 
   -- what may come is a candidate, and what a pool lets come may come

@@ -8,9 +8,8 @@ use Rattle.sched_model.specs.declared.state.Pool.{Pool}
 use Rattle.sched_model.specs.declared.state.State.{State}
 use Rattle.sched_model.specs.Machine.{first_enabled, is_enabled, is_move_under_way, next_in_horizon}
 use Rattle.sched_model.specs.Places.{at_place}
-use Rattle.sched_laws.specs.EachPlace.{EachPlace}
 use Rattle.pool_laws.specs.ReadyMoments.{moment_if}
-use Rattle.plain_scans.specs.Ready.{AreWhole, IsReadyIn, least_each, lesser}
+use Rattle.plain_scans.specs.Ready.{IsReadyIn, least_each, lesser}
 
 -- from when on the next stall may come
 abbrev pub stall_ready : Machine → State → Option Moment
@@ -33,16 +32,17 @@ free_end c = moment_if (is_some c.target) (first_of c.stall_ends)
 abbrev pub least_of_free : ℕ → List (ℕ × FreeCore) → ℕ
 least_of_free best cores = least_each (λ so_far (e : ℕ × FreeCore). lesser so_far (free_end e.1)) best cores
 
--- it is the moment from which on some action may come in one of the pools
+-- it is the moment from which on some action may come in the pool that stands there
+abbrev pub IsReadyAt : ℕ → Option Pool → ℕ → Type 0
+IsReadyAt g None at = ⊥
+IsReadyAt g (Some pool) at = IsReadyIn g pool at
+
+-- the same of one of the pools
 pub record IsReadyAmong (g : ℕ) (pools : List (Option Pool)) (at : ℕ) : Type 0 where
   pub place : ℕ
   pub pool : Pool
   pub there : at_place pools place ≡ Some pool
   pub ready : IsReadyIn g pool at
-
--- each core of each pool has g processors
-abbrev pub AreAllWhole : ℕ → List (Option Pool) → Type 0
-AreAllWhole g pools = EachPlace (AreWhole g) pools
 
 -- the greatest number that a moment may have
 abbrev pub last_moment : ℕ

@@ -1,11 +1,13 @@
 //! The least moment from which on an action may come, by one scan of the state.
 
 ghost use Rattle.std.specs.Prelude.{◌≡◌, ℕ, ◌+◌, ◌<◌, ◌≤◌, ◌^◌, length};
-ghost use Rattle.sched_model.specs.Places.{numbered_items, AllPlaces};
-ghost use Rattle.plain_scans.specs.Ready.{IsLeastWith, ScanFits, lesser as lesser_spec};
+ghost use Rattle.std.specs.Option.{ForSome};
+ghost use Rattle.sched_model.specs.Places.{numbered_items};
+ghost use Rattle.sched_laws.specs.EachPlace.{EachPlace};
+ghost use Rattle.plain_scans.specs.Ready.{AreWhole, IsLeastWith, ScanFits, lesser as lesser_spec};
 ghost use Rattle.sched_plain.specs.Fits.{StateFits};
 ghost use Rattle.sched_plain.specs.ReachedStates.{Stands};
-ghost use Rattle.sched_plain.specs.Soonest.{AreAllWhole, IsReadyAmong, IsSoonest, IsTurn, command_ready, first_of, free_end as free_end_spec, least_of_free, stall_ready as stall_ready_spec};
+ghost use Rattle.sched_plain.specs.Soonest.{IsReadyAmong, IsReadyAt, IsSoonest, IsTurn, command_ready, first_of, free_end as free_end_spec, least_of_free, stall_ready as stall_ready_spec};
 
 use crate::homes::is_move_under_way;
 use plain_scans::ready::{end_if, least_ready, lesser};
@@ -71,16 +73,27 @@ fn of_free(r: usize, best: u64, cores: &[Option<FreeCore>]) -> u64
     }
 }
 
-/// The least so far, or from when on something of one of these pools may come.
+/// The least so far, or from when on something of the pool that stands there may come, where one does.
+fn of_pool(best: u64, place: &Option<Pool>) -> u64
+    requires { ForSome place.now ScanFits }
+    ensures { (g : ℕ) → ForSome place.now (AreWhole g) →
+        IsLeastWith best (IsReadyAt g place.now) result }
+{
+    match place {
+        None => best,
+        Some(pool) => least_ready(best, pool),
+    }
+}
+
+/// The same of each of these places.
 fn of_pools(best: u64, pools: &[Option<Pool>]) -> u64
-    requires { AllPlaces ScanFits pools.now }
-    ensures { (g : ℕ) → AreAllWhole g pools.now →
+    requires { EachPlace ScanFits pools.now }
+    ensures { (g : ℕ) → EachPlace (AreWhole g) pools.now →
         IsLeastWith best (IsReadyAmong g pools.now) result }
 {
     match pools {
         [] => best,
-        [None, rest @ ..] => of_pools(best, rest),
-        [Some(pool), rest @ ..] => of_pools(least_ready(best, pool), rest),
+        [place, rest @ ..] => of_pools(of_pool(best, place), rest),
     }
 }
 
