@@ -1,6 +1,6 @@
 -- From when on an action may come in the whole machine, and what follows for the next moment.
 use Rattle.std.proofs.Common.{◌≡◌, ◌≢◌, ◌≤◌, ◌<◌, ◌-◌, ◌∙◌, ◌⊎◌, ℕ, zero, suc, Bool, true, false, List, [], ◌∷◌, length, get_or, take, drop, refl, sym, ap, subst, inl, inr, arith}
-use Rattle.std.specs.Prelude.{◌&&◌, ◌||◌, not, nat_le, Option, Some, None, is_some, slice_get, if◌then◌else◌, Contains}
+use Rattle.std.specs.Prelude.{◌&&◌, not, nat_le, Option, Some, None, is_some, slice_get, if◌then◌else◌, Contains}
 use Rattle.std.specs.Option.{ForSome}
 use Rattle.std.proofs.lemmas.Bool.{or_cases}
 use Rattle.std.proofs.lemmas.Bool.Decides.{nat_tests}
@@ -19,7 +19,7 @@ use Rattle.sched_model.specs.declared.state.State.{State}
 use Rattle.sched_model.specs.declared.work.CommandLine.{CommandLine}
 use Rattle.sched_model.specs.declared.work.StallLine.{StallLine}
 use Rattle.sched_model.specs.Actions.{candidates, home_of}
-use Rattle.sched_model.specs.Machine.{enabled_at_home, first_enabled, free_ready, is_enabled, is_move_under_way, next_in_horizon, next_moment}
+use Rattle.sched_model.specs.Machine.{enabled_at_home, first_enabled, free_ready, is_enabled, is_move_under_way, next_moment}
 use Rattle.sched_model.specs.Places.{at_place, numbered_items, test_at}
 use Rattle.sched_model.specs.Pool.{enabled_in}
 use Rattle.sched_model.specs.Runs.{Reached}
@@ -170,9 +170,11 @@ module _ (m : Machine) (s : State) (stands : Stands m s) where
   comes : (at : ℕ) → OfMachine m s at → (action : Action) × (is_enabled m s at action ≡ true)
   comes at (inl (inl (inl is))) = (Stall, stall_is m s at ∙ come_then at (stall_ready m s) is)
   comes at (inl (inl (inr is))) = (Xl, command_is m s at ∙ come_then at (command_ready m s) is)
-  comes at (inl (inr h)) =
-      (Moved (core h.place), or_more (test_at s.free h.place (free_ready at)) (enabled_at_home m s at (Moved (core h.place)))
-      (test_at-some s.free h.place (free_ready at) h.item h.there (free_is at h.item ∙ come_then at (free_end h.item) h.has)))
+  comes at (inl (inr h)) = (
+    Moved (core h.place),
+    or_more (test_at s.free h.place (free_ready at)) (enabled_at_home m s at (Moved (core h.place)))
+        (test_at-some s.free h.place (free_ready at) h.item h.there (free_is at h.item ∙ come_then at (free_end h.item) h.has)),
+  )
   comes at (inr h) =
       (h.ready.action, from_pool at h.place h.ready.action (record { pool = h.pool; at = h.there; enabled = ready g at h.pool h.ready.action ∙ come_then at (ready_in g h.pool h.ready.action) h.ready.ready }))
 
