@@ -234,7 +234,7 @@ module _ (scheduler : Scheduler) (since t core home : ℕ) where
   for_best (Some cur) b best better allowed =
       more_right (not (is_allowed scheduler home core cur)) _
       (best_waits scheduler.records scheduler scheduler.queue t core home b (λ u. is_eligible scheduler home core t u && is_better scheduler.records cur since t u) best
-        (all_true _ _ _ allowed (best_may scheduler.records scheduler scheduler.queue t core home b best) better))
+      (all_true _ _ _ allowed (best_may scheduler.records scheduler scheduler.queue t core home b best) better))
 
   -- where its own unit may not be there, the core is to decide anew
   pub for_other : (own : UnitId) → is_allowed scheduler home core own ≡ false → better_waits (Some own) since t core home scheduler ≡ true

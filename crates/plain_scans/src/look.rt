@@ -84,11 +84,7 @@ fn earlier(domains: &[Option<RtdsUnits>], best: Option<UnitId>, u: UnitId) -> Op
 }
 
 /// The one that runs first, of the best so far and the units with budget left.
-fn earliest(
-    domains: &[Option<RtdsUnits>],
-    best: Option<UnitId>,
-    units: &[UnitId],
-) -> Option<UnitId>
+fn earliest(domains: &[Option<RtdsUnits>], best: Option<UnitId>, units: &[UnitId]) -> Option<UnitId>
     ensures { result ≡ best_from (has_left domains.now) (unit_before_spec domains.now) best
         units.now }
 {

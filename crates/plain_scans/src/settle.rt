@@ -64,11 +64,5 @@ pub fn settle(t: Moment, pool: &mut Pool)
 {
     let home = home_cores(pool.resources.as_slice());
     let look = look_of(&pool.scheduler, t);
-    reconsider_all(
-        &pool.scheduler,
-        &look,
-        Cores(home),
-        t,
-        &mut pool.resources,
-    );
+    reconsider_all(&pool.scheduler, &look, Cores(home), t, &mut pool.resources);
 }

@@ -1,7 +1,6 @@
 -- What the tool needs of a state that a run leads to: it is small, and the schedulers keep values of the domains' units.
 use Rattle.std.proofs.Common.{◌≤◌, List, [], ◌∷◌, subst, arith}
 use Rattle.std.specs.Prelude.{Option, Some, None}
-use Rattle.sched_base.specs.Numbers.{domain}
 use Rattle.sched_model.specs.declared.machine.Machine.{Machine}
 use Rattle.sched_model.specs.declared.state.Pool.{Pool}
 use Rattle.sched_model.specs.declared.state.State.{State}

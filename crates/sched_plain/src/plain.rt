@@ -142,7 +142,9 @@ impl Plain {
             (slice_get self.now.machine.work.stalls self.now.state.next_stall) }
     {
         let stalls = self.machine.work.stalls.as_slice();
-        stalls.get(self.state.next_stall as usize).map(|line| line.cpu)
+        stalls
+            .get(self.state.next_stall as usize)
+            .map(|line| line.cpu)
     }
 
     /// The number of the workload's next command.
