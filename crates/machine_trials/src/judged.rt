@@ -41,11 +41,16 @@ fn judge_entries(checker: &mut Checker, book: &Book) -> Judged {
     }
 }
 
-/// Judges the history of a book by the checker, which goes through the plain machine.
-pub fn judge(alloc: Global, machine: Machine, book: &Book) -> Result<Judged, NoMemory>
+/// Judges the history of a book by the checker, which goes through the plain machine. Where `ordered` says so, each event has to be the first that may come.
+pub fn judge(
+    alloc: Global,
+    machine: Machine,
+    ordered: bool,
+    book: &Book,
+) -> Result<Judged, NoMemory>
     requires { IsChecked machine }
 {
-    let mut checker = Checker::open(alloc, machine, false)?;
+    let mut checker = Checker::open(alloc, machine, ordered)?;
     let judged = judge_entries(&mut checker, book);
     checker.close();
     Ok(judged)

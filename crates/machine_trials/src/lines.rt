@@ -1,6 +1,6 @@
 //! The lines of the standard input.
 
-ghost use Rattle.std.specs.Prelude.{◌≡◌, ◌≤◌, IfOk};
+ghost use Rattle.std.specs.Prelude.{◌≡◌, ◌≤◌, [], IfOk};
 ghost use Rattle.sched_model.specs.CheckedMachine.{IsChecked};
 ghost use Rattle.hall.specs.Seats.{IsOf};
 ghost use Rattle.machine_trials.specs.TrialSeats.{AreActors};
@@ -17,6 +17,7 @@ use crate::stop::{Stop, printed};
 use crate::workers::{passes_of_one_round, run_by_workers, run_crossing};
 use hall::{Hall, HallSeat};
 use journal_core::Book;
+use pcpu_threads::run_ordered;
 use sched_base::NoMemory;
 use sched_io::{OpenGate, Store};
 use sched_model::machine::Machine;
@@ -58,6 +59,7 @@ fn open_hall(
     requires few { (1 ≤ events) × (events ≤ 4000000) }
     ensures of { IfOk result (λ r. IsOf r.0 r.1) }
     ensures all { IfOk result (λ r. r.1.sitting.view.shares ≡ 1024) }
+    ensures new { IfOk result (λ r. r.1.sitting.view.front ≡ []) }
     ensures actors { IfOk result (λ r. AreActors r.0.opened.input.config r.2) }
     ensures processors { IfOk result (λ r. (1 ≤ r.2.processors) × (r.2.processors ≤ 64)) }
     ensures limit { IfOk result (λ r. r.0.opened.limit ≡ events) }
@@ -86,10 +88,16 @@ fn book_of_calls<R: Wait + Print>(
 }
 
 /// Prints how many entries a book has, and what the checker says of them.
-fn tell_book<R: Print>(rt: &R, alloc: Global, machine: Machine, book: &Book) -> Result<(), Stop>
+fn tell_book<R: Print>(
+    rt: &R,
+    alloc: Global,
+    machine: Machine,
+    ordered: bool,
+    book: &Book,
+) -> Result<(), Stop>
     requires { IsChecked machine }
 {
-    match judge(alloc, machine, book) {
+    match judge(alloc, machine, ordered, book) {
         Ok(judged) => printed(println!(rt; "{} entries: {judged}", book.len())),
         Err(NoMemory) => Err(Stop::NoMemory),
     }
@@ -107,7 +115,42 @@ fn try_calls<R: Wait + Print>(
     requires few { (1 ≤ events) × (events ≤ 4000000) }
 {
     match book_of_calls(rt, alloc, &machine, events, texts) {
-        Ok(book) => tell_book(rt, alloc, machine, &book),
+        Ok(book) => tell_book(rt, alloc, machine, false, &book),
+        Err(stop) => {
+            drop(machine);
+            Err(stop)
+        }
+    }
+}
+
+/// The book of the ordered run of a machine, by one caller.
+fn book_in_order<R: Wait>(
+    rt: &R,
+    alloc: Global,
+    machine: &Machine,
+    events: u32,
+) -> Result<Book, Stop>
+    requires checked { IsChecked machine.now }
+    requires few { (1 ≤ events) × (events ≤ 4000000) }
+{
+    match open_hall(alloc, machine, events) {
+        Ok((hall, seat, _)) => Ok(run_ordered(rt, hall, seat).0),
+        Err(stop) => Err(stop),
+    }
+}
+
+/// Goes through the ordered run of the machine by one caller, and tells what came of it.
+fn try_ordered<R: Wait + Print>(
+    rt: &R,
+    alloc: Global,
+    machine: Machine,
+    events: u32,
+) -> Result<(), Stop>
+    requires checked { IsChecked machine }
+    requires few { (1 ≤ events) × (events ≤ 4000000) }
+{
+    match book_in_order(rt, alloc, &machine, events) {
+        Ok(book) => tell_book(rt, alloc, machine, true, &book),
         Err(stop) => {
             drop(machine);
             Err(stop)
@@ -221,7 +264,7 @@ fn goes_well<R: Threads + Wait + Sync>(
     requires few { (1 ≤ events) × (events ≤ 4000000) }
 {
     match run_once(rt, alloc, &machine, events, runner) {
-        Ok((book, has_more)) => match judge(alloc, machine, &book) {
+        Ok((book, has_more)) => match judge(alloc, machine, false, &book) {
             Ok(judged) => Ok(has_more && matches!(judged, Judged::Whole)),
             Err(NoMemory) => Err(Stop::NoMemory),
         },
@@ -313,6 +356,11 @@ fn do_words<R: Threads + Wait + Sync + Print, S: Store>(
             let events = limit_of(events.as_str())?;
             let machine = machine_of(alloc, domains.as_str(), work.as_str(), store)?;
             try_calls(rt, alloc, machine, events, texts)
+        }
+        [word, domains, work, events] if word.as_str() == "ordered" => {
+            let events = limit_of(events.as_str())?;
+            let machine = machine_of(alloc, domains.as_str(), work.as_str(), store)?;
+            try_ordered(rt, alloc, machine, events)
         }
         [word, way, domains, work, events] if word.as_str() == "alone" => {
             let way = way_of(way.as_str())?;

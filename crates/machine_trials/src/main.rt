@@ -10,6 +10,8 @@
 //! asks whether the processor still waits, and `entry N` looks at that place. Behind each answer stands how often the gate was passed so far, and
 //! by which number last; at the end, what the checker says of the history.
 //!
+//! `ordered DOMAINS WORK EVENTS` goes through the ordered run by one caller of a hall, and prints what the checker says of its history, asked for that order.
+//!
 //! `alone WAY DOMAINS WORK EVENTS` goes to the end of the run with one seat, and prints how many calls that took. A WAY is `each`, where the seat
 //! acts for all actors until none has an event, and then takes a turn of the whole machine; `parted`, where it acts for every fourth actor; or
 //! `turns`, where it takes turns alone.
