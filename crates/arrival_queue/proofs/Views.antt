@@ -4,7 +4,7 @@ use Rattle.std.specs.Prelude.{◌==◌, ◌&&◌, ◌||◌, not, if◌then◌els
 use Rattle.std.proofs.lemmas.Bool.{cases_eq, cases_lt, cases_Bool, eq-eqb, ne_eqb, lt-ltb, le-ltb}
 use Rattle.std.proofs.lemmas.List.{get_or-set_same, get_or-set_other}
 use Rattle.sched_base.specs.declared.UnitId.{UnitId}
-use Rattle.sched_base.specs.Units.{number_of}
+use Rattle.unit_places.specs.Places.{number_of}
 use Rattle.sched_base.proofs.Bools.{or_left, or_right}
 use Rattle.unit_ring.specs.declared.Node.{Node}
 use Rattle.unit_ring.specs.Lists as l

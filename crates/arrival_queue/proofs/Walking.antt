@@ -6,7 +6,7 @@ use Rattle.unit_ring.specs.declared.Node.{Node}
 use Rattle.unit_ring.specs.Lists.{Item, Lists, has_node, is_live, first_in, next_in, next_of, node, unit_in, unit_of}
 use Rattle.arrival_queue.specs.Tables.{Apart, Tabled, all_items, has_number, first_unit}
 use Rattle.sched_base.specs.declared.UnitId.{UnitId}
-use Rattle.sched_base.specs.Units.{number_of}
+use Rattle.unit_places.specs.Places.{number_of}
 use Rattle.sched_base.proofs.Bools.{or_left, or_right}
 
 pub has_left : (m : ℕ) (xs ys : List Item) → has_node m (xs ++ ys) ≡ false → has_node m xs ≡ false

@@ -1,7 +1,7 @@
 -- Units in order of a key, then of arrival; and others, in order of arrival alone.
 use Rattle.std.specs.Prelude.{ℕ, ◌+◌, ◌-◌, ◌==◌, ◌&&◌, ◌||◌, Bool, false, not, if◌then◌else◌, List, [], ◌∷◌, ◌++◌, length, map, nat_lt, int_lt}
 use Rattle.sched_base.specs.declared.UnitId.{UnitId}
-use Rattle.sched_base.specs.Units.{number_of}
+use Rattle.unit_places.specs.Places.{number_of}
 use Rattle.arrival_queue.specs.declared.key.Key.{Key}
 
 -- a unit with its key, and how many of the units that are here arrived earlier

@@ -2,7 +2,7 @@
 use Rattle.std.proofs.Common.{◌≡◌, ◌<◌, ℕ, zero, suc, List, [], ◌∷◌, length, get_or, subst, arith}
 use Rattle.std.specs.Prelude.{Option, Some, None}
 use Rattle.std.specs.Option.{ForSome}
-use Rattle.sched_model.specs.Places.{AllPlaces}
+use Rattle.sched_laws.specs.EachPlace.{AllPlaces}
 
 -- what stands at the place i has the property
 pub place_fits : {X : Type 0} (P : X → Type 0) (places : List (Option X)) (i : ℕ) (d : Option X) → i < length places → AllPlaces P places → ForSome (get_or places i d) P

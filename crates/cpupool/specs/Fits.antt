@@ -1,6 +1,6 @@
 -- The states whose numbers are in range.
 use Rattle.std.specs.Prelude.{◌≤◌, length}
-use Rattle.sched_model.specs.Places.{AllPlaces}
+use Rattle.sched_laws.specs.EachPlace.{AllPlaces}
 use Rattle.sched_model.specs.declared.state.Domain.{Domain}
 use Rattle.sched_model.specs.declared.state.Pool.{Pool}
 use Rattle.sched_model.specs.declared.state.State.{State}

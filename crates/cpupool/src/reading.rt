@@ -5,7 +5,7 @@ ghost use Rattle.std.specs.Option.{ForSome};
 ghost use Rattle.journal_core.specs.Parts.{outline_of as outline_of_spec, first_answer, core_leaving as core_leaving_spec, domain_moving as domain_moving_spec, core_joining as core_joining_spec, leaving_pool as leaving_pool_spec, under_way_of as under_way_of_spec};
 ghost use Rattle.cpupool.specs.Tool.{way_of, size_of as size_of_spec, ends_of as ends_of_spec};
 ghost use Rattle.cpupool.specs.Fits.{DomainFits, PoolFits, StateFits};
-ghost use Rattle.sched_model.specs.Places.{AllPlaces};
+ghost use Rattle.sched_laws.specs.EachPlace.{AllPlaces};
 
 use crate::outline::{CoreFlags, DomainSizes, FreeCores, Outline, Outlines, PoolNames, Way};
 use sched_base::{DomId, Name, PoolId, ResId};

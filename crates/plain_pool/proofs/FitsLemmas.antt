@@ -10,7 +10,8 @@ use Rattle.sched_model.specs.declared.state.Pool.{Pool}
 use Rattle.sched_model.specs.declared.state.Resource.{Resource}
 use Rattle.sched_model.specs.Pool.{vcpu_for, vcpu_among}
 use Rattle.sched_model.specs.declared.state.Domain.{Domain}
-use Rattle.sched_model.specs.Places.{at_place, first_place, is_unit, AllPlaces}
+use Rattle.sched_model.specs.Places.{at_place, first_place, is_unit}
+use Rattle.sched_laws.specs.EachPlace.{AllPlaces}
 use Rattle.sched_laws.proofs.EachPlace.{found_at, place_below}
 use Rattle.plain_pool.specs.Fits.{DomainFits, VcpuFits}
 

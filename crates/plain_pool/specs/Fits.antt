@@ -8,7 +8,7 @@ use Rattle.sched_base.specs.declared.Span.{Span}
 use Rattle.sched_model.specs.declared.state.Vcpu.{Vcpu}
 use Rattle.sched_model.specs.declared.state.Domain.{Domain}
 use Rattle.sched_model.specs.declared.state.Pool.{Pool}
-use Rattle.sched_model.specs.Places.{AllPlaces}
+use Rattle.sched_laws.specs.EachPlace.{AllPlaces}
 
 -- the spans of its script, the moment from which its work is counted and the work left are at most 10^13 nanoseconds, and its place is
 -- one of at most 64

@@ -2,7 +2,8 @@
 
 ghost use Rattle.std.specs.Prelude.{◌≡◌, ◌<◌, ◌≤◌, Some, length};
 ghost use Rattle.sched_model.specs.declared.state.Domain.{Domain as DomainRecord};
-ghost use Rattle.sched_model.specs.Places.{change_at, change_each, AllPlaces};
+ghost use Rattle.sched_model.specs.Places.{change_at, change_each};
+ghost use Rattle.sched_laws.specs.EachPlace.{AllPlaces};
 ghost use Rattle.sched_model.specs.Pool.{withdrawn_pool, pause as pause_spec, unpause as unpause_spec, set_moving as set_moving_spec};
 ghost use Rattle.plain_pool.specs.Fits.{DomainFits, PoolFits};
 ghost use Rattle.plain_pool.specs.Marks.{pending_of, is_paused_at, paused_count};

@@ -6,7 +6,8 @@ ghost use Rattle.std.specs.Option.{option_copied};
 ghost use Rattle.sched_base.specs.Numbers.{span};
 ghost use Rattle.sched_model.specs.declared.state.Vcpu.{Vcpu as VcpuRecord};
 ghost use Rattle.sched_model.specs.declared.state.Domain.{Domain as DomainRecord};
-ghost use Rattle.sched_model.specs.Places.{change_at, change_item, AllPlaces};
+ghost use Rattle.sched_model.specs.Places.{change_at, change_item};
+ghost use Rattle.sched_laws.specs.EachPlace.{AllPlaces};
 ghost use Rattle.sched_model.specs.Pool.{done_at as done_at_spec, put_to_sleep, stopped_vcpu, woken_vcpu, vcpu_among};
 ghost use Rattle.plain_pool.specs.Fits.{DomainFits, VcpuFits};
 

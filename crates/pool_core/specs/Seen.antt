@@ -10,7 +10,7 @@ use Rattle.sched_model.specs.declared.state.Resource.{Resource}
 use Rattle.sched_model.specs.Opening.{fresh_core}
 use Rattle.sched_model.specs.Places.{at_place, clear_at, put_at}
 use Rattle.sched_model.specs.Pool.{after_in, change_processor, settled_pool}
-use Rattle.sched_model.specs.CheckedMachine.{IsFrom}
+use Rattle.sched_laws.specs.RecordRanges.{IsFrom}
 use Rattle.unit_state.specs.Seen as guests
 use Rattle.core_state.specs.Seen as cores
 use Rattle.core_state.specs.Seen.{processor_among, stalled_to}

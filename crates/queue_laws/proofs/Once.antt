@@ -4,7 +4,7 @@ use Rattle.std.specs.Prelude.{count_by, nat_lt}
 use Rattle.std.specs.List.{AllByRecursion}
 use Rattle.std.proofs.lemmas.Bool.{cases_Bool, eq-eqb, le-ltb}
 use Rattle.sched_base.specs.declared.UnitId.{UnitId}
-use Rattle.sched_base.specs.Units.{number_of}
+use Rattle.unit_places.specs.Places.{number_of}
 use Rattle.arrival_queue.specs.declared.key.Key.{Key}
 use Rattle.arrival_queue.specs.Queues.{Queued, queued_unit, goes_before, is_of, list_with, list_without, closed_up}
 use Rattle.arrival_queue.specs.Order.{has_rank, EachRankOnce, EachUnitOnce}

@@ -7,10 +7,6 @@ use Rattle.sched_base.specs.Numbers.{domain}
 abbrev pub unit_id : ℕ → ℕ → UnitId
 unit_id d n = record { dom = domain d; n = n }
 
--- the number of a unit; two units of one number are the same
-abbrev pub number_of : UnitId → ℕ
-number_of u = u.dom.0 * 256 + u.n
-
 -- whether two units are the same
 abbrev pub same_unit : UnitId → UnitId → Bool
 same_unit u w = u.dom.0 == w.dom.0 && u.n == w.n

@@ -11,3 +11,4 @@ pub mod Scripts
 pub mod Realistic
 pub mod FreeOrders
 pub mod Reports
+pub mod Timers

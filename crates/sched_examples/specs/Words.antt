@@ -24,7 +24,7 @@ use Rattle.sched_model.specs.declared.event.Entry.{Entry}
 use Rattle.sched_model.specs.declared.machine.Machine.{Machine}
 use Rattle.sched_model.specs.Opening.{opening}
 use Rattle.sched_model.specs.Machine.{ordered_run}
-use Rattle.sched_model.specs.Laws.{ordered_run_is_sound}
+use Rattle.sched_laws.specs.Laws.{ordered_run_is_sound}
 
 -- the unit n of the domain d
 abbrev pub unit : ℕ → ℕ → UnitId

@@ -16,3 +16,4 @@ pub mod reports;
 pub mod rtds;
 pub mod scripts;
 pub mod siblings;
+pub mod timers;

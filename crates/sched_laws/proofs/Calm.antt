@@ -22,7 +22,7 @@ use Rattle.sched_model.specs.Rtds.{is_before}
 use Rattle.sched_model.specs.Pool.{enabled_in, settled_pool, home_cores, reconsidered_core, change_processor, without_domain, is_of_domain}
 use Rattle.sched_model.specs.declared.action.Action.TheVariants.{DomMoved}
 use Rattle.sched_model.specs.Machine.{is_null}
-use Rattle.sched_model.specs.Laws.{is_more_urgent}
+use Rattle.sched_laws.specs.Laws.{is_more_urgent}
 use Rattle.sched_model.proofs.PlaceLemmas.{cores_from-change_each, cores_from-change_at}
 use Rattle.sched_laws.specs.EachPlace.{EachAt, EachPlace}
 use Rattle.sched_laws.proofs.EachPlace.{EachAt-change_at, read_change_each, by_cond}

@@ -11,7 +11,7 @@ use Rattle.sched_model.specs.declared.state.State.{State}
 use Rattle.sched_model.specs.declared.state.Pool.{Pool}
 use Rattle.sched_model.specs.State.{is_runnable}
 use Rattle.sched_model.specs.Runs.{IsRun}
-use Rattle.sched_model.specs.Laws.{count, count_in}
+use Rattle.sched_laws.specs.Laws.{count, count_in}
 use Rattle.sched_model.specs.CheckedMachine.{IsChecked}
 use Rattle.sched_laws.specs.StateLaws.{state_after, UnitsHaveOnePlace}
 use Rattle.sched_laws.proofs.Lists.{if_some, some-test_at, test_at-some, is_some_at}

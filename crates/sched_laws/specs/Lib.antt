@@ -6,3 +6,4 @@ pub mod Counts
 pub mod PoolFacts
 pub mod Finds
 pub mod RecordRanges
+pub mod Laws

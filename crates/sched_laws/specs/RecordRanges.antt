@@ -45,3 +45,8 @@ pub record IsFrame (frame : Frame) : Type 0 where
   pub some_span : 0 < frame.major.0
   pub fits : sum_by (λ (e : FrameEntry). e.run.0) frame.entries ≤ frame.major.0
   pub bounded : frame.major.0 ≤ most_span
+
+-- a moment that is not before the latest one given, nor past a longest span
+pub record IsFrom (latest t : ℕ) : Type 0 where
+  pub after : latest ≤ t
+  pub early : t ≤ most_span

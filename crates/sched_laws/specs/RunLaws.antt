@@ -12,7 +12,7 @@ use Rattle.sched_model.specs.declared.action.Action.TheVariants.{Block, Arrive, 
 use Rattle.sched_model.specs.Actions.{home_of_core}
 use Rattle.sched_model.specs.Machine.{is_enabled}
 use Rattle.sched_model.specs.Runs.{action_of}
-use Rattle.sched_model.specs.Laws.{keeps_none_waiting}
+use Rattle.sched_laws.specs.Laws.{keeps_none_waiting}
 use Rattle.sched_laws.specs.EachPlace.{EachAt, EachPlace}
 
 -- whether the core's siblings still gather, and its i-th processor is held

@@ -13,7 +13,7 @@ use Rattle.sched_model.specs.declared.machine.Machine.{Machine}
 use Rattle.sched_model.specs.declared.state.State.{State}
 use Rattle.sched_model.specs.declared.state.Pool.{Pool}
 use Rattle.sched_model.specs.State.{is_runnable}
-use Rattle.sched_model.specs.Laws.{count, runs_somewhere}
+use Rattle.sched_laws.specs.Laws.{count, runs_somewhere}
 use Rattle.sched_model.specs.Pool.{unit_of}
 use Rattle.sched_model.specs.Actions.{home_of_core, home_of_domain}
 use Rattle.sched_model.specs.Runs.{run_start, after_entries}

@@ -31,11 +31,6 @@ use Rattle.sched_model.specs.State.{Machine, has_core}
 use Rattle.sched_model.specs.Opening.{core_count}
 use Rattle.sched_model.specs.Actions.{units_from}
 
--- a moment that is not before the latest one given, nor past a longest span
-pub record IsFrom (latest t : ℕ) : Type 0 where
-  pub after : latest ≤ t
-  pub early : t ≤ most_span
-
 -- the number is in the range
 pub record IsWithin (low high n : ℕ) : Type 0 where
   pub least : low ≤ n

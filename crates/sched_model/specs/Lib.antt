@@ -14,6 +14,5 @@ pub mod Actions
 pub mod Commands
 pub mod Machine
 pub mod Runs
-pub mod Laws
 pub mod CheckedMachine
 pub mod Standing

@@ -4,4 +4,3 @@ pub mod Conditions
 pub mod Timers
 pub mod WantedCores
 pub mod Told
-pub mod Examples

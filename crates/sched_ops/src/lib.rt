@@ -4,7 +4,6 @@
 #![tactic(auto)]
 
 pub mod choice;
-pub mod examples;
 pub mod policy;
 pub mod timer;
 pub mod walk;

@@ -15,7 +15,8 @@ use Rattle.sched_model.specs.declared.state.Pool.{Pool}
 use Rattle.sched_model.specs.declared.state.State.{State}
 use Rattle.sched_model.specs.declared.state.Records.{Records}
 use Rattle.sched_model.specs.declared.state.Records.TheVariants.{Credit2Pool, RtdsPool, ArincPool, NullPool}
-use Rattle.sched_model.specs.Places.{at_place, AllPlaces}
+use Rattle.sched_model.specs.Places.{at_place}
+use Rattle.sched_laws.specs.EachPlace.{AllPlaces}
 use Rattle.sched_model.specs.Opening.{core_count}
 use Rattle.sched_model.specs.CheckedMachine.{IsChecked, IsCheckedDomain, IsCheckedScript, IsWithin, IsGranularity, most_span}
 use Rattle.sched_laws.specs.EachPlace.{EachPlace}

@@ -15,7 +15,8 @@ use Rattle.sched_model.specs.declared.state.State.{State}
 use Rattle.std.specs.List.{All}
 use Rattle.sched_model.specs.Actions.{change_pool, home_of_domain}
 use Rattle.sched_model.specs.Machine.{after, is_enabled, is_null, joined_by, left_by}
-use Rattle.sched_model.specs.Places.{at_place, change_at, clear_at, AllPlaces}
+use Rattle.sched_model.specs.Places.{at_place, change_at, clear_at}
+use Rattle.sched_laws.specs.EachPlace.{AllPlaces}
 use Rattle.sched_model.specs.Policy.{default_dom_params, parted_records}
 use Rattle.sched_model.specs.Pool.{settled_pool, reconsidered_core, home_cores, with_domain, without_domain}
 use Rattle.sched_laws.specs.EachPlace.{EachPlace}

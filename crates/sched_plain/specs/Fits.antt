@@ -6,7 +6,7 @@ use Rattle.sched_model.specs.declared.state.State.{State}
 use Rattle.sched_model.specs.declared.state.Pool.{Pool}
 use Rattle.plain_units.specs.Fits.{RecordsFit}
 use Rattle.plain_pool.specs.Fits.{PoolFits}
-use Rattle.sched_model.specs.Places.{AllPlaces}
+use Rattle.sched_laws.specs.EachPlace.{AllPlaces}
 
 -- each domain has at most 32 vCPUs
 abbrev pub FewGuests : List DomConfig → Type 0

@@ -7,7 +7,8 @@ ghost use Rattle.sched_model.specs.declared.state.Resource.{Resource as Resource
 ghost use Rattle.sched_model.specs.declared.state.Domain.{Domain as DomainRecord};
 ghost use Rattle.sched_model.specs.declared.state.Pool.{Pool as PoolRecord};
 ghost use Rattle.sched_model.specs.declared.state.FreeCore.{FreeCore as FreeCoreRecord};
-ghost use Rattle.sched_model.specs.Places.{at_place, first_place, numbered_items, AllPlaces};
+ghost use Rattle.sched_model.specs.Places.{at_place, first_place, numbered_items};
+ghost use Rattle.sched_laws.specs.EachPlace.{AllPlaces};
 ghost use Rattle.sched_model.specs.Actions.{home_of_core as home_of_core_spec, home_of_domain as home_of_domain_spec, home_of as home_of_spec};
 ghost use Rattle.sched_model.specs.Machine.{is_move_under_way as is_move_under_way_spec};
 ghost use Rattle.sched_plain.specs.Moves.{is_anything_moving};

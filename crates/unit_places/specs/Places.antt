@@ -13,3 +13,7 @@ index_of u = u.dom.0 * 32 + u.n
 -- the number of its place, where it has one
 abbrev pub place_of : UnitId → Option ℕ
 place_of u = (if has_place u then Some (index_of u) else None)
+
+-- the number of a unit; two units of one number are the same
+abbrev pub number_of : UnitId → ℕ
+number_of u = u.dom.0 * 256 + u.n

@@ -11,7 +11,8 @@ use Rattle.sched_base.specs.declared.VcpuId.{VcpuId}
 use Rattle.sched_model.specs.declared.state.Vcpu.{Vcpu}
 use Rattle.sched_model.specs.declared.state.Domain.{Domain}
 use Rattle.sched_model.specs.CheckedMachine.{IsCheckedScript, IsGranularity, most_span}
-use Rattle.sched_model.specs.Places.{at_place, put_at, clear_at, change_at, change_item, AllPlaces}
+use Rattle.sched_model.specs.Places.{at_place, put_at, clear_at, change_at, change_item}
+use Rattle.sched_laws.specs.EachPlace.{AllPlaces}
 use Rattle.sched_model.specs.Opening.{fresh_vcpu}
 use Rattle.sched_model.specs.Pool.{woken_vcpu, put_to_sleep, stopped_vcpu, done_at, unit_count, vcpu_among, change_among}
 use Rattle.sched_laws.specs.EachPlace.{EachPlace}

@@ -4,7 +4,7 @@ use Rattle.sched_base.specs.declared.Moment.{Moment}
 use Rattle.sched_base.specs.declared.PoolId.{PoolId}
 use Rattle.sched_base.specs.declared.VcpuId.{VcpuId}
 use Rattle.sched_model.specs.declared.state.Domain.{Domain}
-use Rattle.sched_model.specs.CheckedMachine.{IsFrom}
+use Rattle.sched_laws.specs.RecordRanges.{IsFrom}
 use Rattle.sched_model.specs.Places.{at_place, test_at}
 use Rattle.sched_model.specs.State.{is_awake}
 use Rattle.sched_base.specs.Numbers.{has_come}

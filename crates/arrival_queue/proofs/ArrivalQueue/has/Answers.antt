@@ -1,6 +1,6 @@
 use Rattle.std.proofs.Common.{◌≡◌, sym, ◌∙◌, ap}
 use Rattle.std.specs.Prelude.{Option, Some, None, is_some}
-use Rattle.sched_base.specs.Units.{number_of}
+use Rattle.unit_places.specs.Places.{number_of}
 use Rattle.unit_ring.specs.declared.Node.{Node}
 use Rattle.arrival_queue.specs.Queues.{Queues, holds}
 use Rattle.arrival_queue.specs.Tables.{all_items, node_of, has_number}

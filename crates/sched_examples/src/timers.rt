@@ -6,7 +6,7 @@ ghost use Rattle.sched_model.specs.declared.event.Event.TheVariants as event;
 ghost use Rattle.sched_ops.specs.declared.timer.Timer.TheVariants.{Repl};
 ghost use Rattle.sched_ops.specs.Timers.{timers, first_due, soonest_timer, timer_at, is_due, timer_event, after_timer};
 ghost use Rattle.sched_base.specs.Units.{unit_id};
-ghost use Rattle.sched_ops.specs.Examples.{replenishment, rtds_unit, fresh_unit, away, running_unit, spent_unit, scheduler_of, four_units};
+ghost use Rattle.sched_examples.specs.Timers.{replenishment, rtds_unit, fresh_unit, away, running_unit, spent_unit, scheduler_of, four_units};
 
 /// Each unit that waits or is on has a timer at its deadline, in order of domain and unit. One that is away has none, although its deadline has passed.
 pub fn units_that_wait_or_are_on()
