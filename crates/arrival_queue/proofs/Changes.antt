@@ -3,9 +3,8 @@ use Rattle.std.proofs.Common.{◌≡◌, ℕ, ◌+◌, ◌-◌, ◌<◌, List, [
 use Rattle.std.specs.Prelude.{◌==◌, ◌||◌, if◌then◌else◌, Option, Some, None, nat_lt}
 use Rattle.std.proofs.lemmas.List.{append-nil, length-map, map-append}
 use Rattle.sched_base.specs.declared.UnitId.{UnitId}
-use Rattle.unit_places.specs.Places.{number_of}
+use Rattle.unit_places.specs.Places.{number_of, has_place}
 use Rattle.sched_base.proofs.Bools.{clash, or_left, or_right}
-use Rattle.unit_places.specs.Places.{has_place}
 use Rattle.unit_places.proofs.Placed.{same_number}
 use Rattle.unit_ring.specs.declared.Node.{Node}
 use Rattle.unit_ring.specs.Lists as l

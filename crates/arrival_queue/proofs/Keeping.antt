@@ -3,8 +3,7 @@ use Rattle.std.proofs.Common.{◌≡◌, ℕ, ◌+◌, ◌<◌, ◌≤◌, List,
 use Rattle.std.specs.Prelude.{Option, Some, None, slice_index_or}
 use Rattle.std.proofs.lemmas.Bool.{cases_eq}
 use Rattle.std.proofs.lemmas.List.{get_or-set_same, get_or-set_other}
-use Rattle.unit_places.specs.Places.{number_of}
-use Rattle.unit_places.specs.Places.{has_place, index_of}
+use Rattle.unit_places.specs.Places.{number_of, has_place, index_of}
 use Rattle.unit_places.proofs.Placed.{low_index, same_index, same_place}
 use Rattle.unit_ring.specs.declared.Node.{Node}
 use Rattle.unit_ring.specs.Lists.{Item, Lists, has_node, room_of}

@@ -4,9 +4,8 @@ use Rattle.std.specs.Prelude.{◌==◌, ◌||◌, if◌then◌else◌, Option, S
 use Rattle.std.proofs.lemmas.Bool.{cases_eq, eq-eqb, ne_eqb}
 use Rattle.std.proofs.lemmas.List.{get_or-set_other}
 use Rattle.std.proofs.lemmas.List.Sums.{sum_by-append}
-use Rattle.unit_places.specs.Places.{number_of}
+use Rattle.unit_places.specs.Places.{number_of, has_place}
 use Rattle.sched_base.proofs.Bools.{or_left, or_right}
-use Rattle.unit_places.specs.Places.{has_place}
 use Rattle.unit_ring.specs.declared.Node.{Node}
 use Rattle.unit_ring.specs.Lists.{Item, has_node}
 use Rattle.arrival_queue.specs.Tables.{Apart, Tabled, has_number, node_of, arrival_at}

@@ -4,9 +4,8 @@ use Rattle.std.specs.Prelude.{◌==◌, ◌||◌, if◌then◌else◌, Option, S
 use Rattle.std.proofs.lemmas.Bool.{cases_eq, eq-eqb, ne_eqb}
 use Rattle.std.proofs.lemmas.List.{append-nil}
 use Rattle.sched_base.specs.declared.UnitId.{UnitId}
-use Rattle.unit_places.specs.Places.{number_of}
+use Rattle.unit_places.specs.Places.{number_of, has_place, index_of}
 use Rattle.sched_base.proofs.Bools.{or_right}
-use Rattle.unit_places.specs.Places.{has_place, index_of}
 use Rattle.unit_places.proofs.Placed.{same_place}
 use Rattle.unit_ring.specs.declared.Node.{Node}
 use Rattle.unit_ring.specs.Lists as l

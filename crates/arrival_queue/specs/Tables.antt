@@ -1,8 +1,7 @@
 -- How a queue keeps its units: a ring, and tables by place of unit and by number of node.
 use Rattle.std.specs.Prelude.{ℕ, ◌+◌, ◌-◌, ◌<◌, ◌≡◌, ◌==◌, ◌&&◌, ◌||◌, Bool, true, false, not, if◌then◌else◌, List, [], ◌∷◌, ◌++◌, Option, Some, None, length, map, count_by, nat_lt, slice_index, slice_index_or, pos}
 use Rattle.sched_base.specs.declared.UnitId.{UnitId}
-use Rattle.unit_places.specs.Places.{number_of}
-use Rattle.unit_places.specs.Places.{has_place, index_of}
+use Rattle.unit_places.specs.Places.{number_of, has_place, index_of}
 use Rattle.unit_ring.specs.declared.Node.{Node}
 use Rattle.unit_ring.specs.Lists.{Item, Lists, has_node, room_of, after_take, after_append, put_before}
 use Rattle.arrival_queue.specs.declared.key.Key.{Key}

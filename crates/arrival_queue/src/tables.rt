@@ -2,8 +2,7 @@
 
 ghost use Rattle.std.specs.Prelude.{◌≡◌, ℕ, ◌+◌, ◌<◌, ◌≤◌, false, true, length, map, slice_set, slice_index_or, Some, None, IfOk};
 ghost use Rattle.std.specs.Option.{ForSome};
-ghost use Rattle.unit_places.specs.Places.{number_of};
-ghost use Rattle.unit_places.specs.Places.{has_place as placed, index_of as place_index};
+ghost use Rattle.unit_places.specs.Places.{number_of, has_place as placed, index_of as place_index};
 ghost use Rattle.unit_ring.specs.Lists.{item, no_unit, has_node, is_live, lists_without as ring_without, after_give, after_take, after_append, empty_lists, room_of};
 ghost use Rattle.arrival_queue.specs.Tables.{all_items, arrival_at, count_below, comes_before, first_node, has_number, node_of, PassesOn, put_ring, ring_with, Tabled};
 ghost use Rattle.arrival_queue.specs.WholeTables.{IsTables, seen_queues};

@@ -4,7 +4,7 @@ use Rattle.std.specs.Prelude.{Option, Some, None, slice_get, slice_set, is_some,
 use Rattle.std.specs.List.{AllByRecursion}
 use Rattle.std.proofs.lemmas.Bool.Decides.{nat_tests}
 use Rattle.sched_base.specs.Numbers.{moment}
-use Rattle.unit_places.specs.Places.{number_of}
+use Rattle.unit_places.specs.Places.{number_of, index_of}
 use Rattle.unit_places.specs.Masks.{mask_of}
 use Rattle.sched_base.specs.declared.Cores.{Cores}
 use Rattle.sched_base.specs.declared.Moment.{Moment}
@@ -22,7 +22,6 @@ use Rattle.due_heap.specs.Dues.{due_of}
 use Rattle.arrival_queue.specs.Queues.{Queued, queued_unit as queued, is_of}
 use Rattle.arrival_queue.specs.Queues.{has_unit as has_queued}
 use Rattle.rtds_queue.specs.Lists.{Lists, count}
-use Rattle.unit_places.specs.Places.{index_of}
 use Rattle.rtds_core.specs.Best.{queue_of, IsEligible, IsSpent, AreQueued, AreMasks}
 use Rattle.rtds_core.specs.RtdsParts.{IsShaped, IsKept, due_for, total}
 use Rattle.rtds_core.proofs.Queues.{IsOrdered, waits}

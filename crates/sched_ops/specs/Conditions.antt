@@ -18,8 +18,7 @@ use Rattle.sched_model.specs.declared.state.Scheduler.{Scheduler}
 use Rattle.sched_model.specs.Places.{at_place, has_unit}
 use Rattle.sched_model.specs.EligibleUnits.{rtds_unit}
 use Rattle.sched_model.specs.CheckedMachine.{IsWithin}
-use Rattle.sched_laws.specs.RecordRanges.{IsFrom}
-use Rattle.sched_laws.specs.RecordRanges.{IsFrame}
+use Rattle.sched_laws.specs.RecordRanges.{IsFrom, IsFrame}
 use Rattle.sched_ops.specs.Affinity.{is_member_among}
 use Rattle.sched_ops.specs.Seen.{Seen, units_of}
 

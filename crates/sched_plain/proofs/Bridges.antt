@@ -16,10 +16,9 @@ use Rattle.sched_model.specs.declared.state.State.{State}
 use Rattle.sched_model.specs.declared.state.Records.{Records}
 use Rattle.sched_model.specs.declared.state.Records.TheVariants.{Credit2Pool, RtdsPool, ArincPool, NullPool}
 use Rattle.sched_model.specs.Places.{at_place}
-use Rattle.sched_laws.specs.EachPlace.{AllPlaces}
+use Rattle.sched_laws.specs.EachPlace.{AllPlaces, EachPlace}
 use Rattle.sched_model.specs.Opening.{core_count}
 use Rattle.sched_model.specs.CheckedMachine.{IsChecked, IsCheckedDomain, IsCheckedScript, IsWithin, IsGranularity, most_span}
-use Rattle.sched_laws.specs.EachPlace.{EachPlace}
 use Rattle.sched_laws.proofs.SiblingsLaw.{some_processor}
 use Rattle.sched_laws.proofs.Lists.{item_below}
 use Rattle.sched_ranges.specs.Ranges.{VcpuInRange, DomainInRange, RecordsInRange, PoolInRange, StateInRange}

@@ -16,10 +16,9 @@ use Rattle.std.specs.List.{All}
 use Rattle.sched_model.specs.Actions.{change_pool, home_of_domain}
 use Rattle.sched_model.specs.Machine.{after, is_enabled, is_null, joined_by, left_by}
 use Rattle.sched_model.specs.Places.{at_place, change_at, clear_at}
-use Rattle.sched_laws.specs.EachPlace.{AllPlaces}
+use Rattle.sched_laws.specs.EachPlace.{AllPlaces, EachPlace}
 use Rattle.sched_model.specs.Policy.{default_dom_params, parted_records}
 use Rattle.sched_model.specs.Pool.{settled_pool, reconsidered_core, home_cores, with_domain, without_domain}
-use Rattle.sched_laws.specs.EachPlace.{EachPlace}
 use Rattle.sched_laws.proofs.EachPlace.{EachPlace-change_at, EachPlace-clear_at, by_cond, length_change_each, length_set}
 use Rattle.sched_laws.proofs.NullKept.{length_released}
 use Rattle.sched_ranges.specs.Ranges.{Credit2InRange, RtdsInRange}

@@ -4,9 +4,8 @@ use Rattle.std.specs.Prelude.{nat_lt}
 use Rattle.std.proofs.lemmas.Bool.Decides.{nat_tests}
 use Rattle.std.proofs.lemmas.Bool.{and_from}
 use Rattle.sched_base.specs.declared.UnitId.{UnitId}
-use Rattle.unit_places.specs.Places.{number_of}
+use Rattle.unit_places.specs.Places.{number_of, has_place, index_of}
 use Rattle.sched_base.proofs.Bools.{and_left, and_right}
-use Rattle.unit_places.specs.Places.{has_place, index_of}
 
 -- a unit of the first 64 domains and one of the first 32 of its domain has a place
 pub placed : (u : UnitId) → u.dom.0 < 64 → u.n < 32 → has_place u ≡ true

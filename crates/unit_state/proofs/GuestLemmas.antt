@@ -12,10 +12,9 @@ use Rattle.sched_model.specs.declared.state.Vcpu.{Vcpu}
 use Rattle.sched_model.specs.declared.state.Domain.{Domain}
 use Rattle.sched_model.specs.CheckedMachine.{IsCheckedScript, IsGranularity, most_span}
 use Rattle.sched_model.specs.Places.{at_place, put_at, clear_at, change_at, change_item}
-use Rattle.sched_laws.specs.EachPlace.{AllPlaces}
+use Rattle.sched_laws.specs.EachPlace.{AllPlaces, EachPlace}
 use Rattle.sched_model.specs.Opening.{fresh_vcpu}
 use Rattle.sched_model.specs.Pool.{woken_vcpu, put_to_sleep, stopped_vcpu, done_at, unit_count, vcpu_among, change_among}
-use Rattle.sched_laws.specs.EachPlace.{EachPlace}
 use Rattle.sched_laws.proofs.EachPlace.{EachAt-change_to, EachPlace-change_at, EachPlace-put_at, EachPlace-clear_at, EachPlace-empty, place_below, length_set, vcpu_is}
 use Rattle.sched_laws.proofs.Lists.{length_change_item, has_come-le}
 use Rattle.sched_ranges.proofs.Vcpus.{VcpuFits as VcpuStands, vcpu_fresh, vcpu_woken, vcpu_slept, vcpu_stopped, vcpu_started}

@@ -1,6 +1,5 @@
 use Rattle.std.proofs.Common.{◌≡◌, ◌<◌, false, length, sym, ◌∙◌, rules}
-use Rattle.unit_places.specs.Places.{number_of}
-use Rattle.unit_places.specs.Places.{has_place}
+use Rattle.unit_places.specs.Places.{number_of, has_place}
 use Rattle.arrival_queue.specs.Tables.{all_items}
 use Rattle.arrival_queue.proofs.Changes.{no_place}
 use Rattle.arrival_queue.proofs.Splits.{node_of-none}

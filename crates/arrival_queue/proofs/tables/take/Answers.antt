@@ -1,7 +1,6 @@
 use Rattle.std.proofs.Common.{ℕ, ◌<◌, length, set, refl, ◌∙◌, ap, rules}
 use Rattle.std.specs.Prelude.{None}
-use Rattle.unit_places.specs.Places.{number_of}
-use Rattle.unit_places.specs.Places.{index_of as place_index}
+use Rattle.unit_places.specs.Places.{number_of, index_of as place_index}
 use Rattle.unit_ring.specs.Lists as l
 use Rattle.unit_ring.specs.Lists.{Item, Lists, item, has_node, is_live, room_of, after_take, after_give, after_append}
 use Rattle.arrival_queue.specs.Tables.{all_items, has_number}
