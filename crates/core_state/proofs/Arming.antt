@@ -6,14 +6,14 @@ use Rattle.std.proofs.Math.Decide.{ℕ_discrete}
 use Rattle.std.proofs.lemmas.Bool.{cases_lt}
 use Rattle.std.proofs.lemmas.List.{get_or-set_same, get_or-set_other, get_or_past, length-set}
 use Rattle.sched_base.specs.declared.Moment.{Moment}
-use Rattle.sched_model.specs.declared.action.Action.TheVariants.{Moved, Block, Slice, Arrive, Decide, Leave, Save}
+use Rattle.sched_model.specs.declared.action.Action.TheVariants.{Block, Slice, Arrive, Decide, Leave, Save}
 use Rattle.sched_model.specs.declared.state.Resource.{Resource}
 use Rattle.sched_model.specs.declared.state.Processor.{Processor}
 use Rattle.sched_model.specs.CheckedMachine.{IsGranularity}
 use Rattle.sched_model.specs.Places.{at_place}
 use Rattle.sched_model.specs.Pool.{is_held}
 use Rattle.due_heap.specs.Dues.{due_of}
-use Rattle.pool_laws.specs.ReadyMoments.{moment_if, later_moment, end_of, end_where, slice_end, may_move, gathers}
+use Rattle.pool_laws.specs.ReadyMoments.{moment_if, later_moment, end_of, end_where, slice_end, gathers}
 use Rattle.core_state.specs.declared.dues.Dues.{Dues}
 use Rattle.core_state.specs.Seen.{Seen, processor_among}
 use Rattle.core_state.specs.Ends.{may_decide, may_save, parts, ready_among, sibling_among}
@@ -117,7 +117,6 @@ pub core_armed : (r q q' : ℕ) (seen : Seen) (dues : Dues) → length seen.reso
 core_armed r q q' seen dues few are =
     let none : 64 ≤ r → at_place seen.resources r ≡ None = core_past seen.resources r few in
     record {
-      moves = next r (r + 1) dues.moves (λ i. ready_among seen (Moved (core_number i))) (λ past. ap (λ (o : Option Resource). end_where may_move o) (none past)) are.moves;
       slices = next r (r + 1) dues.slices (λ i. ready_among seen (Slice (core_number i))) (λ past. ap slice_end (none past)) are.slices;
       decides = next r (r + 1) dues.decides (λ i. ready_among seen (Decide (core_number i))) (λ past. ap (λ (o : Option Resource). end_where may_decide o) (none past)) are.decides;
       saves = next r (r + 1) dues.saves (λ i. ready_among seen (Save (core_number i))) (λ past. ap (λ (o : Option Resource). end_where may_save o) (none past)) are.saves;
@@ -132,7 +131,6 @@ processor_armed : (r r' p q : ℕ) (seen : Seen) (dues : Dues) → IsGranularity
 processor_armed r r' p q seen dues granularity few are =
     let none : 64 ≤ p → at_place seen.resources (p / seen.granularity) ≡ None = core_of_past seen.granularity seen.resources p granularity few in
     record {
-      moves = are.moves;
       slices = are.slices;
       decides = are.decides;
       saves = are.saves;
@@ -172,7 +170,6 @@ sibling_armed r r' i q seen dues core work granularity few lt core_is work_is ar
 -- where none is left, all are armed
 pub all_armed : (r p q : ℕ) (seen : Seen) (dues : Dues) → q ≤ p → AreArmedBut r r p q seen dues → AreArmed seen dues
 all_armed r p q seen dues few are = record {
-  moves = all r r dues.moves (λ i. ready_among seen (Moved (core_number i))) (omega arith) are.moves;
   slices = all r r dues.slices (λ i. ready_among seen (Slice (core_number i))) (omega arith) are.slices;
   decides = all r r dues.decides (λ i. ready_among seen (Decide (core_number i))) (omega arith) are.decides;
   saves = all r r dues.saves (λ i. ready_among seen (Save (core_number i))) (omega arith) are.saves;

@@ -8,7 +8,7 @@ use Rattle.std.proofs.lemmas.List.{get_or-set_same, get_or-set_other, get_or_pas
 use Rattle.sched_base.specs.Numbers.{moment, core as core_number, processor}
 use Rattle.sched_base.specs.declared.Moment.{Moment}
 use Rattle.sched_base.specs.declared.UnitId.{UnitId}
-use Rattle.sched_model.specs.declared.action.Action.TheVariants.{Moved, Block, Slice, Arrive, Decide, Leave, Save}
+use Rattle.sched_model.specs.declared.action.Action.TheVariants.{Block, Slice, Arrive, Decide, Leave, Save}
 use Rattle.sched_model.specs.declared.state.Processor.{Processor}
 use Rattle.sched_model.specs.declared.state.Resource.{Resource}
 use Rattle.sched_model.specs.declared.state.Stage.TheVariants.{Open, Decided}
@@ -18,7 +18,7 @@ use Rattle.sched_model.specs.Pool.{cores_from, is_held, open_if_left, same_choic
 use Rattle.sched_model.proofs.PlaceLemmas.{at_place-change_at_other, cores_from-change_at}
 use Rattle.sched_laws.specs.EachPlace.{EachPlace}
 use Rattle.due_heap.specs.Dues.{due_of}
-use Rattle.pool_laws.specs.ReadyMoments.{later_moment as later, end_of, end_where, slice_end, may_move, gathers}
+use Rattle.pool_laws.specs.ReadyMoments.{later_moment as later, end_of, end_where, slice_end, gathers}
 use Rattle.core_state.specs.declared.dues.Dues.{Dues}
 use Rattle.core_state.specs.Seen.{Seen, chosen_core, processor_among, with_sibling, without_works}
 use Rattle.core_state.specs.Ends.{may_decide, may_save, parts, ready_among}
@@ -49,7 +49,6 @@ armed_but g r cores next works after dues granularity change are =
     let before = seen_of g cores works in
     let now = seen_of g next after in
     record {
-      moves = but r (r + 1) dues.moves (λ i. ready_among before (Moved (core_number i))) (λ i. ready_among now (Moved (core_number i))) (λ i h. ap (λ (o : Option Resource). end_where may_move o) (core i h)) are.moves;
       slices = but r (r + 1) dues.slices (λ i. ready_among before (Slice (core_number i))) (λ i. ready_among now (Slice (core_number i))) (λ i h. ap slice_end (core i h)) are.slices;
       decides = but r (r + 1) dues.decides (λ i. ready_among before (Decide (core_number i))) (λ i. ready_among now (Decide (core_number i))) (λ i h. ap (λ (o : Option Resource). end_where may_decide o) (core i h)) are.decides;
       saves = but r (r + 1) dues.saves (λ i. ready_among before (Save (core_number i))) (λ i. ready_among now (Save (core_number i))) (λ i h. ap (λ (o : Option Resource). end_where may_save o) (core i h)) are.saves;
@@ -284,7 +283,6 @@ vacant_kept g n cores works dues granularity few is is_works empty =
       armed =
           let seen : Seen = seen_of g (replicate n None) (replicate 64 None) in
           record {
-            moves = agrees dues.moves (λ i. ready_among seen (Moved (core_number i))) empty.moves (λ i. ap (λ (o : Option Resource). end_where may_move o) (at_place-replicate n i));
             slices = agrees dues.slices (λ i. ready_among seen (Slice (core_number i))) empty.slices (λ i. ap slice_end (at_place-replicate n i));
             decides = agrees dues.decides (λ i. ready_among seen (Decide (core_number i))) empty.decides (λ i. ap (λ (o : Option Resource). end_where may_decide o) (at_place-replicate n i));
             saves = agrees dues.saves (λ i. ready_among seen (Save (core_number i))) empty.saves (λ i. ap (λ (o : Option Resource). end_where may_save o) (at_place-replicate n i));

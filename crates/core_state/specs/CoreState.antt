@@ -2,13 +2,13 @@
 use Rattle.sched_base.specs.Numbers.{core as core_number, processor as processor_number}
 use Rattle.std.specs.Prelude.{ℕ, ◌≡◌, ◌≤◌, ◌<◌, ◌*◌, true, List, Option, None, length, replicate, slice_set, not, ◌+◌}
 use Rattle.sched_base.specs.declared.Moment.{Moment}
-use Rattle.sched_model.specs.declared.action.Action.TheVariants.{Moved, Block, Slice, Arrive, Decide, Leave, Save}
+use Rattle.sched_model.specs.declared.action.Action.TheVariants.{Block, Slice, Arrive, Decide, Leave, Save}
 use Rattle.sched_model.specs.declared.state.Resource.{Resource}
 use Rattle.sched_model.specs.CheckedMachine.{IsGranularity}
 use Rattle.sched_model.specs.Places.{first_place}
 use Rattle.sched_model.specs.Pool.{cores_from, is_held}
 use Rattle.sched_laws.specs.EachPlace.{EachPlace}
-use Rattle.pool_laws.specs.ReadyMoments.{end_of, end_where, gathers, later_moment, slice_end, may_move}
+use Rattle.pool_laws.specs.ReadyMoments.{end_of, end_where, gathers, later_moment, slice_end}
 use Rattle.due_heap.specs.Dues.{due_of}
 use Rattle.core_state.specs.declared.dues.Dues.{Dues}
 use Rattle.core_state.specs.Seen.{Seen, sibling_of}
@@ -29,7 +29,6 @@ pub record AgreesBut (from to : ℕ) (dues : List (Option Moment)) (ends : ℕ �
 
 -- each set has its moments, but for those of such cores and of such processors
 pub record AreArmedBut (core core_end processor processor_end : ℕ) (seen : Seen) (dues : Dues) : Type 0 where
-  pub moves : AgreesBut core core_end dues.moves (λ r. ready_among seen (Moved (core_number r)))
   pub slices : AgreesBut core core_end dues.slices (λ r. ready_among seen (Slice (core_number r)))
   pub decides : AgreesBut core core_end dues.decides (λ r. ready_among seen (Decide (core_number r)))
   pub saves : AgreesBut core core_end dues.saves (λ r. ready_among seen (Save (core_number r)))
@@ -56,7 +55,6 @@ pub record IsKept (seen : Seen) (home : ℕ) (first : Option ℕ) (dues : Dues) 
 
 -- sets of 64 without a moment
 pub record AreEmpty (dues : Dues) : Type 0 where
-  pub moves : dues.moves ≡ replicate 64 None
   pub slices : dues.slices ≡ replicate 64 None
   pub decides : dues.decides ≡ replicate 64 None
   pub saves : dues.saves ≡ replicate 64 None
@@ -68,7 +66,6 @@ pub record AreEmpty (dues : Dues) : Type 0 where
 abbrev pub with_core_ends : ℕ → Option Resource → Dues → Dues
 with_core_ends r core dues =
     record dues {
-      moves = slice_set dues.moves r (end_where may_move core);
       slices = slice_set dues.slices r (slice_end core);
       decides = slice_set dues.decides r (end_where may_decide core);
       saves = slice_set dues.saves r (end_where may_save core);

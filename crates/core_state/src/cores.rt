@@ -376,13 +376,6 @@ impl CoreState {
         move_end(item_at(self.cores.as_slice(), r.0 as usize))
     }
 
-    /// The first core that may leave the pool at t.
-    pub fn first_move(&self, t: Moment) -> Option<ResId>
-        ensures { IsFirstCore (λ r. ready_among self.now (Moved r)) t.0 result }
-    {
-        first_due_core(&self.dues.moves, t)
-    }
-
     /// The first core whose due has come at t.
     pub fn first_slice(&self, t: Moment) -> Option<ResId>
         ensures { IsFirstCore (λ r. ready_among self.now (Slice r)) t.0 result }

@@ -7,8 +7,7 @@ ghost use Rattle.core_state.specs.Firsts.{IsFirstCore, IsFirstProcessor, IsLeast
 ghost use Rattle.core_state.specs.CoreState.{AreArmed, AreEmpty, MayRearm, with_core_ends, with_processor_ends};
 
 use crate::ends::{
-    arrive_end, block_end, decide_end, leave_end, move_end, save_end, sibling_of, slice_end,
-    work_at,
+    arrive_end, block_end, decide_end, leave_end, save_end, sibling_of, slice_end, work_at,
 };
 use due_heap::DueSet;
 use sched_base::{Moment, NoMemory, ProcId, ResId};
@@ -20,11 +19,11 @@ use std::alloc::Global;
 /// How many numbers a set has.
 pub const IDS: usize = 64;
 
-/// For each kind of event the moments from which on it may come: by core those of a core that leaves the pool, is to decide anew,
-/// decides and puts away what it saves, and by processor those of one whose vCPU blocks, that arrives and that leaves.
+/// For each kind of event the moments from which on it may come: by core those of a core that is to decide anew, decides and puts
+/// away what it saves, and by processor those of one whose vCPU blocks, that arrives and that leaves. That a core leaves the pool
+/// is asked of the one core that is on its way, so there is no set of such moments.
 #[derive(Drop)]
 pub struct Dues {
-    pub moves: DueSet,
     pub slices: DueSet,
     pub decides: DueSet,
     pub saves: DueSet,
@@ -43,26 +42,14 @@ fn two_sets(alloc: Global) -> Result<(DueSet, DueSet), NoMemory>
     Ok((first, second))
 }
 
-/// Three sets without a moment.
-fn three_sets(alloc: Global) -> Result<(DueSet, DueSet, DueSet), NoMemory>
-    ensures first { IfOk result (λ three. three.0 ≡ replicate 64 None) }
-    ensures second { IfOk result (λ three. three.1 ≡ replicate 64 None) }
-    ensures third { IfOk result (λ three. three.2 ≡ replicate 64 None) }
-{
-    let third = DueSet::room(alloc, IDS)?;
-    let (first, second) = two_sets(alloc)?;
-    Ok((first, second, third))
-}
-
 /// Dues without a moment.
 pub fn empty_dues(alloc: Global) -> Result<Dues, NoMemory>
     ensures { IfOk result (λ dues. AreEmpty dues) }
 {
-    let (moves, slices) = two_sets(alloc)?;
-    let (decides, saves) = two_sets(alloc)?;
-    let (blocks, arrives, leaves) = three_sets(alloc)?;
+    let (slices, decides) = two_sets(alloc)?;
+    let (saves, blocks) = two_sets(alloc)?;
+    let (arrives, leaves) = two_sets(alloc)?;
     Ok(Dues {
-        moves,
         slices,
         decides,
         saves,
@@ -88,13 +75,11 @@ fn set_due(dues: &mut DueSet, id: u16, at: Option<Moment>)
 #[inline]
 fn rearm_core(dues: &mut Dues, r: u16, core: Option<&Resource>)
     requires none { 64 ≤ r → option_copied core ≡ None }
-    requires moves { length dues.old.moves ≡ 64 }
     requires slices { length dues.old.slices ≡ 64 }
     requires decides { length dues.old.decides ≡ 64 }
     requires saves { length dues.old.saves ≡ 64 }
     ensures { dues.new ≡ with_core_ends r (option_copied core.entry) dues.old }
 {
-    set_due(&mut dues.moves, r, move_end(core));
     set_due(&mut dues.slices, r, slice_end(core));
     set_due(&mut dues.decides, r, decide_end(core));
     set_due(&mut dues.saves, r, save_end(core));
@@ -141,7 +126,6 @@ pub fn rearm(
 pub fn advance(dues: &mut Dues, t: Moment)
     ensures { dues.new ≡ dues.old }
 {
-    dues.moves.advance(t);
     dues.slices.advance(t);
     dues.decides.advance(t);
     dues.saves.advance(t);

@@ -19,7 +19,7 @@ fn rank(kind: u8, subject: u8, index: u8) -> u32
 
 /// The rank of an action: its kind, then the number of its subject, then the index of a vCPU or a unit in its domain. Of two actions the
 /// one of the lower rank comes first.
-pub fn rank_of_action(action: Action) -> u32
+fn rank_of_action(action: Action) -> u32
     ensures rank { result ≡ rank_of action }
     ensures small { IsSmall action }
 {

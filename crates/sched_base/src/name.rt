@@ -35,7 +35,7 @@ fn are_name_bytes(bytes: &[u8]) -> bool
 }
 
 /// Whether the bytes are a name as files and commands spell it: an ASCII letter, and up to 31 letters, digits, hyphens and underscores.
-pub fn is_name(bytes: &[u8]) -> bool
+fn is_name(bytes: &[u8]) -> bool
     ensures { result ≡ name bytes.now }
 {
     match bytes {

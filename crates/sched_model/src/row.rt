@@ -32,14 +32,6 @@ impl<T> Row<T> {
         Row { items }
     }
 
-    /// The vector of the list. It takes no memory.
-    pub fn into_vec(self) -> Vec<T>
-        ensures { result.items ≡ self }
-    {
-        let Row { items } = self;
-        items
-    }
-
     /// The items.
     pub fn as_slice(&self) -> &[T]
         ensures { result.now ≡ self.now }

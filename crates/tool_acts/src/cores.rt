@@ -16,7 +16,7 @@ use sched_base::{Moment, PoolId, ResId};
 use sched_model::event::Event;
 
 /// A core of no pool joins the pool to which it is on its way, whose place this is. Every other part but the tool's is as before.
-pub fn join_core(
+fn join_core(
     slot: &mut PoolSlot,
     tool: &mut ToolState,
     at: &Trail,
@@ -40,7 +40,7 @@ pub fn join_core(
 }
 
 /// A core leaves the pool i, whose place this is, and is one of no pool then. Every other part but the tool's is as before.
-pub fn leave_core(
+fn leave_core(
     slot: &mut PoolSlot,
     tool: &mut ToolState,
     at: &Trail,

@@ -77,7 +77,7 @@ fn look_where(looks: bool, slot: &mut PoolSlot, t: Moment)
 }
 
 /// The domain leaves its pool. A null pool's cores are looked at, since one of them may have become free for a waiting unit.
-pub fn leave_pool(slot: &mut PoolSlot, at: &Trail, route: DomainRoute, t: Moment) -> DomPart
+fn leave_pool(slot: &mut PoolSlot, at: &Trail, route: DomainRoute, t: Moment) -> DomPart
     requires moves { MovesDomain at.now t.0 route }
     requires stands { StandsAt at.now route.from.0 slot.old }
     ensures part { HasLeft at.now route result }
@@ -90,7 +90,7 @@ pub fn leave_pool(slot: &mut PoolSlot, at: &Trail, route: DomainRoute, t: Moment
 }
 
 /// The domain, which has left its pool, joins the other one with the default parameters of the scheduler there. It moves no more.
-pub fn join_pool(slot: &mut PoolSlot, at: &Trail, route: DomainRoute, part: DomPart, t: Moment)
+fn join_pool(slot: &mut PoolSlot, at: &Trail, route: DomainRoute, part: DomPart, t: Moment)
     requires moves { MovesDomain at.now t.0 route }
     requires stands { StandsAt at.now route.to.0 slot.old }
     requires part { HasLeft at.now route part }
@@ -102,7 +102,7 @@ pub fn join_pool(slot: &mut PoolSlot, at: &Trail, route: DomainRoute, part: DomP
 }
 
 /// The domain that is on its way, and where it comes from and goes to, where its move may come at t.
-pub fn route_of(tool: &ToolState, at: &Trail, d: DomId, t: Moment) -> DomainRoute
+fn route_of(tool: &ToolState, at: &Trail, d: DomId, t: Moment) -> DomainRoute
     requires { Begins at.now tool.now t.0 (DomMoved d) }
     ensures number { result.d ≡ d }
     ensures moves { MovesDomain at.now t.0 result }
@@ -117,7 +117,7 @@ pub fn route_of(tool: &ToolState, at: &Trail, d: DomId, t: Moment) -> DomainRout
 }
 
 /// The move is over, as the tool knows it: its event.
-pub fn end_move(tool: &mut ToolState, at: &Trail, route: DomainRoute, t: Moment) -> Event
+fn end_move(tool: &mut ToolState, at: &Trail, route: DomainRoute, t: Moment) -> Event
     requires moves { MovesDomain at.now t.0 route }
     requires known { tool_of at.now.input (state_of at.now) ≡ tool.old }
     ensures event { result ≡ event_of at.now.input (state_of at.now) (state_of at.now).now
@@ -130,32 +130,6 @@ pub fn end_move(tool: &mut ToolState, at: &Trail, route: DomainRoute, t: Moment)
         d: route.d,
         to: route.to,
     }
-}
-
-/// The domain goes from its pool to the other one, where these two places and the tool are all that is at hand.
-pub fn move_between(
-    from: &mut PoolSlot,
-    to: &mut PoolSlot,
-    tool: &mut ToolState,
-    at: &Trail,
-    route: DomainRoute,
-    t: Moment,
-) -> Event
-    requires moves { MovesDomain at.now t.0 route }
-    requires known { tool_of at.now.input (state_of at.now) ≡ tool.old }
-    requires leaves { StandsAt at.now route.from.0 from.old }
-    requires joins { StandsAt at.now route.to.0 to.old }
-    ensures event { result ≡ event_of at.now.input (state_of at.now) (state_of at.now).now
-        (DomMoved route.d) }
-    ensures left { StandsAt (told_event at.now t.0 result) route.from.0 from.new }
-    ensures joined { StandsAt (told_event at.now t.0 result) route.to.0 to.new }
-    ensures acted { HasActed at.now route.from.0 route.to.0 (told_event at.now t.0 result)
-        tool.new }
-    ensures counts { KeepsCounts tool.old.part tool.new.part }
-{
-    let part = leave_pool(from, at, route, t);
-    join_pool(to, at, route, part, t);
-    end_move(tool, at, route, t)
 }
 
 /// The domain goes from its pool to the one to which it is moving, where each of the 16 places is the part of its number in the machine,

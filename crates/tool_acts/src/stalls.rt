@@ -18,7 +18,7 @@ use sched_model::work::StallLine;
 
 /// The next stall of the workload, on a processor of the pool i, whose place this is. The tool has one stall more to its count, which is the
 /// caller's to take; every other part is as before.
-pub fn stall_in(slot: &mut PoolSlot, at: &Trail, i: u8, line: StallLine, t: Moment) -> Event
+fn stall_in(slot: &mut PoolSlot, at: &Trail, i: u8, line: StallLine, t: Moment) -> Event
     requires next { IsNextStall at.now t.0 line (Some i) }
     requires stands { StandsAt at.now i slot.old }
     ensures event { result ≡ event_of at.now.input (state_of at.now) (state_of at.now).now Stall }
@@ -31,7 +31,7 @@ pub fn stall_in(slot: &mut PoolSlot, at: &Trail, i: u8, line: StallLine, t: Mome
 }
 
 /// The same on a processor of a core that no pool has. The tool, which has counted the stall, keeps its end.
-pub fn stall_in_none(tool: &mut ToolState, at: &Trail, line: StallLine, t: Moment) -> Event
+fn stall_in_none(tool: &mut ToolState, at: &Trail, line: StallLine, t: Moment) -> Event
     requires next { IsNextStall at.now t.0 line None }
     requires counted { tool.old ≡ one_stall_more (tool_of at.now.input (state_of at.now)) }
     ensures event { result ≡ event_of at.now.input (state_of at.now) (state_of at.now).now Stall }

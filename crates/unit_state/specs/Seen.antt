@@ -29,10 +29,6 @@ IsNow seen t = IsFrom seen.latest t
 abbrev pub is_awake_among : List (Option Domain) → VcpuId → Bool
 is_awake_among domains v = elim (vcpu_among domains v) [ None ↦ false | Some x ↦ is_awake x ]
 
--- the moment from which the vCPU's work is counted, where it is there and started
-abbrev pub start_among : List (Option Domain) → VcpuId → Option Moment
-start_among domains v = elim (vcpu_among domains v) [ None ↦ None | Some x ↦ x.started ]
-
 -- the moment at which the vCPU's work is done, where it is there and started and its work has an end
 abbrev pub done_among : List (Option Domain) → VcpuId → Option Moment
 done_among domains v = elim (vcpu_among domains v) [ None ↦ None | Some x ↦ done_at x ]

@@ -94,7 +94,7 @@ impl Guests {
     ghost use Rattle.sched_base.specs.Numbers.{has_come};
     ghost use Rattle.sched_model.specs.State.{has_core as has_bit, runnable_among};
     ghost use Rattle.sched_model.specs.Pool.{put_to_sleep, stopped_vcpu, unit_count as unit_count_spec, woken_vcpu, change_among};
-    ghost use Rattle.unit_state.specs.Seen.{IsNow, IsNotAfter, done_among, is_awake_among, is_due_among, is_paused_among, start_among, target_among, units_at, vacant_guests, wake_among};
+    ghost use Rattle.unit_state.specs.Seen.{IsNow, IsNotAfter, done_among, is_awake_among, is_due_among, is_paused_among, target_among, units_at, vacant_guests, wake_among};
     ghost use Rattle.unit_state.specs.Parts.{IsPart, IsStill};
     ghost use Rattle.unit_state.specs.Guests.{KeepsGuests};
 
@@ -271,16 +271,6 @@ impl Guests {
         ensures { result ≡ wake_among self.now.domains v }
     {
         wake_moment(self.domains.as_slice(), v)
-    }
-
-    /// The moment from which the vCPU's work is counted. `None` where it is not started or not here.
-    pub fn started_at(&self, v: VcpuId) -> Option<Moment>
-        ensures { result ≡ start_among self.now.domains v }
-    {
-        match vcpu_of(self.domains.as_slice(), v) {
-            Some(x) => x.started,
-            None => None,
-        }
     }
 
     /// How many units the domain has, at most 32, and 0 where it is not here.

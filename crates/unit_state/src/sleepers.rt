@@ -14,7 +14,7 @@ use sched_model::state::Domain;
 pub const IDS: usize = 2048;
 
 /// The id of a vCPU, in order of domain, then of index.
-pub fn id_of(v: VcpuId) -> u16
+fn id_of(v: VcpuId) -> u16
     ensures { result ≡ v.dom.0 * 32 + v.n }
 {
     v.dom.0 as u16 * 32 + v.n as u16

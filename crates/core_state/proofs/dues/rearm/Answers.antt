@@ -14,7 +14,6 @@ rearm_core-requires c = record {
   none = λ past.
       c.item_at-core.ensures ∙ ap (λ (cores : List (Option Resource)). at_place cores c.args.r.0) c.as_slice.ensures
       ∙ core_past c.args.cores.now c.args.r.0 (few_places c.args.g (length c.args.cores.now) c.requires.granularity c.requires.places) past;
-  moves = c.requires.others.moves.ids;
   slices = c.requires.others.slices.ids;
   decides = c.requires.others.decides.ids;
   saves = c.requires.others.saves.ids;
