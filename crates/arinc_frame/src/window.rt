@@ -13,7 +13,7 @@ use sched_base::Moment;
 use sched_model::state::ArincRecords;
 
 /// A window, and the moment at which it was found, in nanoseconds.
-#[derive(Clone, Copy, PartialEq, Eq)]
+#[derive(Clone, Copy)]
 pub struct Present {
     pub from: u64,
     pub window: Window,

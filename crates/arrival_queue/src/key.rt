@@ -4,7 +4,7 @@ ghost use Rattle.std.specs.Prelude.{◌≡◌};
 ghost use Rattle.arrival_queue.specs.Queues.{is_less as less};
 
 /// What a queue is sorted by: the first part, then the second.
-#[derive(Clone, Copy, PartialEq, Eq)]
+#[derive(Clone, Copy)]
 pub struct Key {
     pub first: i128,
     pub second: u64,

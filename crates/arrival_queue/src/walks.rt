@@ -10,7 +10,7 @@ use unit_places::Masks;
 use unit_ring::Ring;
 
 /// A set of domains, with bit d for domain d.
-#[derive(Clone, Copy, PartialEq, Eq)]
+#[derive(Clone, Copy)]
 pub struct Allowed(pub u64);
 
 /// Whether a domain is in a set of domains, which has a bit for each as a set of cores has.

@@ -1,7 +1,7 @@
 //! The commands.
 
 /// What is written of a run.
-#[derive(Clone, Copy, PartialEq, Eq)]
+#[derive(Clone, Copy)]
 pub enum Form {
     /// Its entries, one a line.
     Schedule,
@@ -12,7 +12,7 @@ pub enum Form {
 }
 
 /// Which of the two texts that are made from a number.
-#[derive(Clone, Copy, PartialEq, Eq)]
+#[derive(Clone, Copy)]
 pub enum Made {
     /// The domain file.
     Domains,
@@ -21,7 +21,7 @@ pub enum Made {
 }
 
 /// A command.
-#[derive(Clone, Copy, PartialEq, Eq)]
+#[derive(Clone, Copy)]
 pub enum Command<'a> {
     /// A run on two files, the ordered one or any, with at most `limit` entries, 1 to 4,000,000. A watched run is never the ordered one.
     Run {

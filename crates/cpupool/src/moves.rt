@@ -14,7 +14,7 @@ use sched_model::places::item_at;
 use sched_model::short::same_items;
 
 /// What is on its way: a core to a pool, or to none; or a domain to a pool with this scheduler.
-#[derive(Clone, Copy, PartialEq, Eq)]
+#[derive(Clone, Copy)]
 pub enum Move {
     Res {
         r: ResId,

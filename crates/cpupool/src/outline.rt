@@ -45,7 +45,7 @@ pub(crate) type Outlines = Short<Option<Outline>, 16>;
 pub(crate) type FreeCores = Short<Option<StallEnds>, 64>;
 
 /// What is on its way: a core to a pool, or to none; or a domain to a pool.
-#[derive(Clone, Copy, PartialEq, Eq)]
+#[derive(Clone, Copy)]
 pub(crate) enum Way {
     Core { r: ResId, to: Option<PoolId> },
     Domain { d: DomId, to: PoolId },

@@ -5,7 +5,7 @@ use sched_base::Moment;
 use sched_model::work::{CommandLine, StallLine};
 
 /// What the tool may do besides moves: the stall or the command with this index.
-#[derive(Clone, Copy, PartialEq, Eq)]
+#[derive(Clone, Copy)]
 pub enum ToolEvent {
     Stall(u32),
     Command(u32),

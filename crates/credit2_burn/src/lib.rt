@@ -10,7 +10,7 @@ ghost use Rattle.sched_base.specs.Numbers.{most_span};
 use sched_base::Span;
 
 /// What a unit has to run on.
-#[derive(Clone, Copy, Debug, PartialEq, Eq)]
+#[derive(Clone, Copy)]
 pub struct Credit {
     /// The credit, in nanoseconds of a unit of the greatest weight. It may be negative.
     pub credit: i64,

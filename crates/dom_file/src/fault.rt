@@ -8,7 +8,7 @@ use std::marker::Model;
 use thiserror::Error;
 
 /// Which table of the file has the fault.
-#[derive(Clone, Copy, Debug, PartialEq, Eq, Error)]
+#[derive(Clone, Copy, Debug, Error)]
 pub enum TableName {
     #[error("top")]
     Top,
@@ -19,7 +19,7 @@ pub enum TableName {
 }
 
 /// Why a key is refused.
-#[derive(Clone, Copy, Debug, PartialEq, Eq, Error)]
+#[derive(Clone, Copy, Debug, Error)]
 pub enum DomCause {
     /// The key has to be there, and is not.
     #[error("Missing")]

@@ -10,7 +10,7 @@ use sched_model::event::Event;
 use std::marker::Model;
 
 /// An arrival of a processor, and how often its core had decided before it.
-#[derive(Clone, Copy, PartialEq, Eq)]
+#[derive(Clone, Copy)]
 pub struct Arrival {
     pub p: ProcId,
     pub decides: u32,

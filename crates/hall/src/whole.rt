@@ -30,7 +30,7 @@ use sched_model::event::{Entry, Event};
 use tool_acts::act_of_tool;
 
 /// A name that goes from one lock to another.
-#[derive(Clone, Copy, PartialEq, Eq)]
+#[derive(Clone, Copy)]
 pub(crate) struct NameMove {
     pub name: NameId,
     pub from: LockId,

@@ -23,11 +23,11 @@ pub(crate) const STAGES: usize = 147;
 pub(crate) const WORDS: usize = 211;
 
 /// The number of a lock: a pool's from 0 to 15, 16 for the tool's, 17 for the book's.
-#[derive(Clone, Copy, PartialEq, Eq)]
+#[derive(Clone, Copy)]
 pub struct LockId(pub u8);
 
 /// A name: a core or a domain. Its word says which lock guards what it names.
-#[derive(Clone, Copy, PartialEq, Eq)]
+#[derive(Clone, Copy)]
 pub enum NameId {
     Res(ResId),
     Dom(DomId),
@@ -35,7 +35,7 @@ pub enum NameId {
 
 /// A word that seats share: a lock's, which is 0 where the lock is free and 1 where it is taken; a name's, which is the number of its lock;
 /// the moment; and a core's stage, which counts its decisions.
-#[derive(Clone, Copy, PartialEq, Eq)]
+#[derive(Clone, Copy)]
 pub enum WordId {
     Lock(LockId),
     Name(NameId),

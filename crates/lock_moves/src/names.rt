@@ -4,7 +4,7 @@ ghost use Rattle.std.specs.Prelude.{◌≡◌, ◌<◌};
 ghost use Rattle.lock_moves.specs.NameSets.{in_names};
 
 /// A set of cores and a set of domains, with bit n for the number n.
-#[derive(Clone, Copy, Default, PartialEq, Eq)]
+#[derive(Clone, Copy, Default)]
 pub struct Names {
     pub res: u64,
     pub dom: u64,

@@ -6,7 +6,7 @@ ghost use Rattle.pcpu_threads.specs.Ends.{end_of as end_of_spec};
 use hall::{Full, Turn};
 
 /// How a run ends.
-#[derive(Clone, Copy, PartialEq, Eq)]
+#[derive(Clone, Copy)]
 pub enum RunEnd {
     /// The run is over.
     Finished,

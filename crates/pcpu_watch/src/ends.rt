@@ -6,7 +6,7 @@ ghost use Rattle.pcpu_watch.specs.WatchedRun.{end_of};
 use pcpu_threads::RunEnd;
 
 /// How a watched run ends.
-#[derive(Clone, Copy, PartialEq, Eq)]
+#[derive(Clone, Copy)]
 pub enum WatchEnd {
     /// The run is over.
     Finished,

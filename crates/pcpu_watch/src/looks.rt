@@ -8,7 +8,7 @@ use std::alloc::Global;
 use std::marker::Model;
 
 /// What a look at the board showed: the number of entries, and the moment of the last of them in nanoseconds; 0 where there is none.
-#[derive(Clone, Copy, Default, PartialEq, Eq)]
+#[derive(Clone, Copy, Default)]
 pub struct Look {
     pub entries: u64,
     pub moment: Moment,

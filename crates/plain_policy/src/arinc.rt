@@ -22,7 +22,7 @@ use sched_model::state::ArincRecords;
 use sched_model::units::is_there;
 
 /// A window: the unit that it is for, none in the rest of a frame, and the moment of its end.
-#[derive(Clone, Copy, PartialEq, Eq)]
+#[derive(Clone, Copy)]
 pub struct Window {
     pub unit: Option<UnitId>,
     pub until: u64,

@@ -6,7 +6,7 @@ ghost use Rattle.pool_slots.specs.Kinds.{count_of};
 use sched_model::config::SchedKind;
 
 /// How many pools of each scheduler.
-#[derive(Clone, Copy, PartialEq, Eq)]
+#[derive(Clone, Copy)]
 pub struct KindCounts {
     pub credit2: u8,
     pub rtds: u8,

@@ -19,7 +19,7 @@ use unit_places::Masks;
 use unit_ring::Ring;
 
 /// What the eligible units are sorted by: the level, then the deadline in nanoseconds.
-#[derive(Clone, Copy, PartialEq, Eq)]
+#[derive(Clone, Copy)]
 pub struct RtdsKey {
     pub level: u32,
     pub deadline: Moment,

@@ -6,7 +6,7 @@ use std::alloc::{AllocError, AllocFailed};
 use thiserror::Error;
 
 /// Memory was wanted and not found. Nothing else is said of when this comes.
-#[derive(Clone, Copy, Debug, PartialEq, Eq, Error)]
+#[derive(Clone, Copy, Debug, Error)]
 #[error("no memory")]
 pub struct NoMemory;
 
@@ -23,6 +23,6 @@ impl<T: Drop> From<AllocFailed<T>> for NoMemory {
 }
 
 /// A write outside the program failed, and the count of the object's faults rose.
-#[derive(Clone, Copy, Debug, PartialEq, Eq, Error)]
+#[derive(Clone, Copy, Debug, Error)]
 #[error("failed")]
 pub struct Failed;

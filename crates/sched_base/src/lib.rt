@@ -18,7 +18,7 @@ pub use name::Name;
 pub use steps::Steps;
 
 /// A moment, in nanoseconds from the start of a run.
-#[derive(Clone, Copy, Debug, Default, PartialEq, Eq)]
+#[derive(Clone, Copy, Default, PartialEq, Eq)]
 pub struct Moment(pub u64);
 
 impl Moment {
@@ -46,38 +46,38 @@ impl Moment {
 }
 
 /// A length of time, in nanoseconds.
-#[derive(Clone, Copy, Debug, Default, PartialEq, Eq)]
+#[derive(Clone, Copy, Default, PartialEq, Eq)]
 pub struct Span(pub u64);
 
 /// The number of a processor, 0 to 63.
-#[derive(Clone, Copy, Debug, Default, PartialEq, Eq)]
+#[derive(Clone, Copy, Default, PartialEq, Eq)]
 pub struct ProcId(pub u8);
 
 /// The number of a core, 0 to 63. A core is the resource that runs one schedule unit at a time.
-#[derive(Clone, Copy, Debug, Default, PartialEq, Eq)]
+#[derive(Clone, Copy, Default, PartialEq, Eq)]
 pub struct ResId(pub u8);
 
 /// The number of a domain, 0 to 63.
-#[derive(Clone, Copy, Debug, Default, PartialEq, Eq)]
+#[derive(Clone, Copy, Default, PartialEq, Eq)]
 pub struct DomId(pub u8);
 
 /// The number of a cpupool, 0 to 15.
-#[derive(Clone, Copy, Debug, Default, PartialEq, Eq)]
+#[derive(Clone, Copy, Default, PartialEq, Eq)]
 pub struct PoolId(pub u8);
 
 /// A set of cores, with bit r for core r.
-#[derive(Clone, Copy, Debug, Default, PartialEq, Eq)]
+#[derive(Clone, Copy, Default)]
 pub struct Cores(pub u64);
 
 /// The vCPU with this index in its domain, 0 to 31.
-#[derive(Clone, Copy, Debug, Default, PartialEq, Eq)]
+#[derive(Clone, Copy, Default, PartialEq, Eq)]
 pub struct VcpuId {
     pub dom: DomId,
     pub n: u8,
 }
 
 /// The schedule unit with this index in its domain, 0 to 31.
-#[derive(Clone, Copy, Debug, Default, PartialEq, Eq)]
+#[derive(Clone, Copy, Default, PartialEq, Eq)]
 pub struct UnitId {
     pub dom: DomId,
     pub n: u8,

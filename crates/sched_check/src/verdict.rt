@@ -6,7 +6,7 @@ use sched_model::event::Entry;
 /// Why an entry may not come next. Whether the run is over is looked at first, and then the moment; of an End or a Finish whether something
 /// is to come before it, and then which of the two is due; of the others whether they may come, whether it is their turn, and last the
 /// fields that they print.
-#[derive(Clone, Copy, PartialEq, Eq)]
+#[derive(Clone, Copy)]
 pub enum NotStep {
     /// The run is over.
     AfterFinish,

@@ -12,7 +12,7 @@ use thiserror::Error;
 pub const MOST_BYTES: usize = 536_870_912;
 
 /// Why a file was not read.
-#[derive(Clone, Copy, Debug, PartialEq, Eq, Error)]
+#[derive(Clone, Copy, Debug, Error)]
 pub enum ReadErr {
     /// It is not there, holds more than 536,870,912 bytes, or could not be read. The count of its faults rose.
     #[error("cannot read")]

@@ -23,7 +23,7 @@ pub enum Action {
 
 /// Who does an event: a processor those of itself, of its core and of its pool, a domain the waking of its vCPUs,
 /// the tool the stalls, the commands and the moves.
-#[derive(Clone, Copy, PartialEq, Eq)]
+#[derive(Clone, Copy)]
 pub enum Actor {
     Proc(ProcId),
     Dom(DomId),

@@ -4,7 +4,7 @@ use sched_base::{Cores, Moment, ResId, UnitId};
 
 /// A core's question: its unit, whether that is runnable, since when it runs, whether the core is leaving its pool,
 /// the moment, the core, and the set of the pool's cores. Moments are in nanoseconds.
-#[derive(Clone, Copy, PartialEq, Eq)]
+#[derive(Clone, Copy)]
 pub struct Ask {
     pub cur: Option<UnitId>,
     pub runnable: bool,

@@ -100,7 +100,7 @@ pub enum Command {
 }
 
 /// The words have no reading: no command goes on with the word at this place.
-#[derive(Clone, Copy, PartialEq, Eq)]
+#[derive(Clone, Copy)]
 pub struct Syntax {
     pub place: u32,
 }

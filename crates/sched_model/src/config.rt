@@ -16,7 +16,7 @@ pub enum SchedKind {
 }
 
 /// One entry of an ARINC 653 frame: this unit runs for this long, at least 1 nanosecond.
-#[derive(Clone, Copy, Default, PartialEq, Eq)]
+#[derive(Clone, Copy, Default)]
 pub struct FrameEntry {
     pub dom: DomId,
     pub unit: u8,
@@ -69,7 +69,7 @@ pub enum PoolParams {
 }
 
 /// The parameters of a domain.
-#[derive(Clone, Copy, PartialEq, Eq)]
+#[derive(Clone, Copy)]
 pub enum DomParams {
     /// The weight, 1 to 65535, and the cap in percent of one processor, 0 (none) to 6400.
     Credit2 {

@@ -164,7 +164,7 @@ pub enum Event {
 }
 
 /// One entry of a history: at this moment this happened.
-#[derive(Clone, Copy, PartialEq, Eq)]
+#[derive(Clone, Copy)]
 pub struct Entry {
     pub at: Moment,
     pub event: Event,

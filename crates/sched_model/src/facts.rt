@@ -21,7 +21,7 @@ pub fn kind_of(records: &Records) -> SchedKind
 }
 
 /// The RTDS parameters that a command gives, in nanoseconds; what it does not give stays as it was set.
-#[derive(Clone, Copy, PartialEq, Eq)]
+#[derive(Clone, Copy)]
 pub struct RtdsGiven {
     pub period: Option<Span>,
     pub budget: Option<Span>,
@@ -29,7 +29,7 @@ pub struct RtdsGiven {
 }
 
 /// The set values of a unit: for RTDS the newest set ones, which may wait for the next replenishment.
-#[derive(Clone, Copy, PartialEq, Eq)]
+#[derive(Clone, Copy)]
 pub enum Stored {
     Credit2 {
         weight: u32,
@@ -67,7 +67,7 @@ pub struct Facts {
 }
 
 /// The domain that a command names, if it names one that is there, and its home; without one, the pool that the command names.
-#[derive(Clone, Copy, PartialEq, Eq)]
+#[derive(Clone, Copy)]
 pub struct Subject {
     pub pool: Option<PoolId>,
     pub dom: Option<DomId>,

@@ -11,7 +11,7 @@ use crate::short::Short;
 use sched_base::{Moment, Name, PoolId, Span, UnitId, VcpuId};
 
 /// What a processor does: it runs a vCPU, idles, or waits for its siblings.
-#[derive(Clone, Copy, PartialEq, Eq)]
+#[derive(Clone, Copy)]
 pub enum Doing {
     Guest(VcpuId),
     Idle,
@@ -19,7 +19,7 @@ pub enum Doing {
 }
 
 /// A processor, and the moment up to which it is stalled.
-#[derive(Clone, Copy, PartialEq, Eq)]
+#[derive(Clone, Copy)]
 pub struct Processor {
     pub doing: Doing,
     pub stall_end: Moment,
@@ -41,7 +41,7 @@ impl Default for Processor {
 }
 
 /// Whether the siblings of a core still gather, or have their decision and part.
-#[derive(Clone, Copy, PartialEq, Eq)]
+#[derive(Clone, Copy)]
 pub enum Stage {
     Open,
     Decided,
@@ -88,7 +88,7 @@ pub struct Domain {
 
 /// What Credit2 keeps of a unit: its credit, the part of a charge that is not yet taken from it, the budget that it holds,
 /// and, where it runs, the moment of its last charge.
-#[derive(Clone, Copy, Default, PartialEq, Eq)]
+#[derive(Clone, Copy, Default)]
 pub struct Credit2Unit {
     pub credit: i64,
     pub residual: u32,
@@ -120,7 +120,7 @@ pub struct Credit2Records {
 
 /// What RTDS keeps of a unit: its parameters, those that wait for the next replenishment, its deadline, the budget left,
 /// its level, and, where it runs, the moment of its last charge.
-#[derive(Clone, Copy, Default, PartialEq, Eq)]
+#[derive(Clone, Copy, Default)]
 pub struct RtdsUnit {
     pub period: u64,
     pub budget: u64,

@@ -5,7 +5,7 @@ use crate::row::Row;
 use sched_base::{Moment, ProcId, Span};
 
 /// A processor that stalls for a span.
-#[derive(Clone, Copy, PartialEq, Eq)]
+#[derive(Clone, Copy)]
 pub struct StallLine {
     pub at: Moment,
     pub cpu: ProcId,

@@ -4,7 +4,7 @@ use sched_base::{Moment, UnitId};
 
 /// The answer to a core: its unit, none where it is to idle, the moment at which it is to ask again at the latest, and how many
 /// resets there were.
-#[derive(Clone, Copy, PartialEq, Eq)]
+#[derive(Clone, Copy)]
 pub struct Choice {
     pub unit: Option<UnitId>,
     pub due: Option<Moment>,

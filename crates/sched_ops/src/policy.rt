@@ -11,7 +11,7 @@ use sched_model::state::Resource;
 use std::alloc::Global;
 
 /// How many domains and cores a machine has: at most 64 of each.
-#[derive(Clone, Copy, PartialEq, Eq)]
+#[derive(Clone, Copy)]
 pub struct Places {
     pub domains: u8,
     pub cores: u8,

@@ -3,7 +3,7 @@
 use sched_base::{DomId, UnitId};
 
 /// A timer of a scheduler: the replenishment of an RTDS unit, or the refill of a Credit2 domain's budget.
-#[derive(Clone, Copy, PartialEq, Eq)]
+#[derive(Clone, Copy)]
 pub enum Timer {
     Repl(UnitId),
     Refill(DomId),

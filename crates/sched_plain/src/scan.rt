@@ -20,7 +20,7 @@ use sched_model::machine::Machine;
 use sched_model::state::State;
 
 /// The kinds of action whose subject is a plain number.
-#[derive(Clone, Copy, PartialEq, Eq)]
+#[derive(Clone, Copy)]
 pub enum Numbered {
     Moved,
     DomMoved,

@@ -9,7 +9,7 @@ use sched_model::event::Entry;
 use thiserror::Error;
 
 /// A line that is the text of no entry. The place is the length of its longest beginning with which the text of an entry begins.
-#[derive(Clone, Copy, Debug, PartialEq, Eq, Error)]
+#[derive(Clone, Copy, Debug, Error)]
 #[error("no entry from byte {place} on")]
 pub struct NotEntry {
     pub place: u32,

@@ -3,7 +3,7 @@
 use sched_base::{ResId, UnitId};
 
 /// What a unit did in a run. Times are in nanoseconds.
-#[derive(Clone, Copy, PartialEq, Eq)]
+#[derive(Clone, Copy)]
 pub struct UnitLine {
     pub unit: UnitId,
     /// The time of all its stays on cores.
@@ -17,7 +17,7 @@ pub struct UnitLine {
 }
 
 /// What a core did in a run. Times are in nanoseconds.
-#[derive(Clone, Copy, PartialEq, Eq)]
+#[derive(Clone, Copy)]
 pub struct CoreLine {
     pub core: ResId,
     /// The time of all stays on it.

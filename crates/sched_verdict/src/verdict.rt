@@ -3,7 +3,7 @@
 use sched_check::verdict::NotStep;
 
 /// Why the line that a verdict names is not the next line of a run.
-#[derive(Clone, Copy, PartialEq, Eq)]
+#[derive(Clone, Copy)]
 pub enum Cause {
     /// The schedule ends within the line: no newline ends it.
     Cut,
@@ -16,7 +16,7 @@ pub enum Cause {
 }
 
 /// What is said of a schedule.
-#[derive(Clone, Copy, PartialEq, Eq)]
+#[derive(Clone, Copy)]
 pub enum Verdict {
     /// It is the text of a whole run with this many entries.
     Yes { entries: u32 },

@@ -17,7 +17,7 @@ pub struct CoreTotals {
 }
 
 /// The totals of a list of entries. A sum stops at 2^64 - 1, which none of a run reaches.
-#[derive(PartialEq, Drop)]
+#[derive(Drop)]
 pub struct Totals {
     /// How many entries there are.
     pub entries: u64,

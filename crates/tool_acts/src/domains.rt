@@ -26,7 +26,7 @@ use sched_model::facts::Stored;
 use unit_state::DomPart;
 
 /// A domain that is on its way, its pool, the pool to which it goes, and the scheduler there.
-#[derive(Clone, Copy, PartialEq, Eq)]
+#[derive(Clone, Copy)]
 pub struct DomainRoute {
     pub d: DomId,
     pub from: PoolId,

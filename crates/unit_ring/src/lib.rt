@@ -29,7 +29,7 @@ const FREE: u32 = 2;
 const FREE_END: u32 = 3;
 
 /// A node of a ring, by its number.
-#[derive(Clone, Copy, Debug, PartialEq, Eq)]
+#[derive(Clone, Copy)]
 pub struct Node(pub u32);
 
 /// The ring. Contracts see its two lists, of nodes with their units, and the number of free nodes.

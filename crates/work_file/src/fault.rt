@@ -3,7 +3,7 @@
 use thiserror::Error;
 
 /// What is wrong with a line.
-#[derive(Clone, Copy, Debug, PartialEq, Eq, Error)]
+#[derive(Clone, Copy, Debug, Error)]
 pub enum WorkCause {
     /// A word is missing, is one too many, or is neither `stall` nor `xl`.
     #[error("Word")]
@@ -23,7 +23,7 @@ pub enum WorkCause {
 }
 
 /// Why a work file cannot be read.
-#[derive(Clone, Copy, Debug, PartialEq, Eq, Error)]
+#[derive(Clone, Copy, Debug, Error)]
 pub enum WorkFault {
     /// Memory was wanted and not found.
     #[error("no memory")]
