@@ -94,15 +94,20 @@ moments m s =
 abbrev pub next_moment : Machine → State → ℕ → Option ℕ
 next_moment m s t = least_number (filter (λ later. nat_lt t later && is_some (first_enabled m s later)) (moments m s))
 
+-- what f makes of the core r of the pool i, and the other value where there is none
+abbrev pub of_core : {A : Type 0} → State → ℕ → ℕ → A → (Resource → A) → A
+of_core s i r other f = elim (at_place s.pools i) [ None ↦ other | Some pool ↦ elim (at_place pool.resources r) [ None ↦ other | Some c ↦ f c ] ]
+
+-- what f makes of the domain d of the pool i, and the other value where there is none
+abbrev pub of_domain : {A : Type 0} → State → ℕ → ℕ → A → (Domain → A) → A
+of_domain s i d other f = elim (at_place s.pools i) [ None ↦ other | Some pool ↦ elim (at_place pool.domains d) [ None ↦ other | Some domain ↦ f domain ] ]
+
 -- the later of the two ends of a stall of the processor
 abbrev pub stall_end_of : ℕ → State → ℕ → ℕ → ℕ
 stall_end_of g s p end =
     elim (home_of_core s (p / g)) [
       | None ↦ elim (at_place s.free (p / g)) [ None ↦ end | Some c ↦ elim (slice_get c.stall_ends (p % g)) [ None ↦ end | Some old ↦ max old.0 end ] ]
-      | Some i ↦ elim (at_place s.pools i) [
-        | None ↦ end
-        | Some pool ↦ elim (at_place pool.resources (p / g)) [ None ↦ end | Some c ↦ elim (slice_get c.processors (p % g)) [ None ↦ end | Some q ↦ max q.stall_end.0 end ] ]
-      ]
+      | Some i ↦ of_core s i (p / g) end (λ c. elim (slice_get c.processors (p % g)) [ None ↦ end | Some q ↦ max q.stall_end.0 end ])
     ]
 
 -- the processor stalls up to a moment
@@ -159,10 +164,7 @@ abbrev pub after_moved : ℕ → ℕ → State → State
 after_moved t r s =
     elim (at_place s.free r) [
       | Some c ↦ elim c.target [ None ↦ s | Some i ↦ with_core_in t r i c s ]
-      | None ↦ elim (home_of_core s r) [
-        | None ↦ s
-        | Some i ↦ elim (at_place s.pools i) [ None ↦ s | Some pool ↦ elim (at_place pool.resources r) [ None ↦ s | Some c ↦ without_core_in t r i c s ] ]
-      ]
+      | None ↦ elim (home_of_core s r) [ None ↦ s | Some i ↦ of_core s i r s (λ c. without_core_in t r i c s) ]
     ]
 
 -- whether it is the null scheduler
@@ -185,13 +187,7 @@ abbrev pub after_dom_moved : ℕ → ℕ → ℕ → State → State
 after_dom_moved g t d s =
     elim (home_of_domain s d) [
       | None ↦ s
-      | Some i ↦ elim (at_place s.pools i) [
-        | None ↦ s
-        | Some pool ↦ elim (at_place pool.domains d) [
-          | None ↦ s
-          | Some domain ↦ elim domain.moving [ None ↦ s | Some j ↦ change_pool j.0 (joined_by g t d domain) (change_pool i (left_by t d) s) ]
-        ]
-      ]
+      | Some i ↦ of_domain s i d s (λ domain. elim domain.moving [ None ↦ s | Some j ↦ change_pool j.0 (joined_by g t d domain) (change_pool i (left_by t d) s) ])
     ]
 
 -- the pool of the action's subject
