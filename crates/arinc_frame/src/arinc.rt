@@ -1,4 +1,20 @@
 //! ARINC 653 as a scheduler of a pool.
+//!
+//! *Design.* A pool has a frame, or none: a list of windows, each with a unit and a span, which begins again once in each major span from
+//! the moment on at which it was installed. In a window a core runs the window's unit, where that is its own and may go on, or waits; else
+//! it idles, and so in what the windows leave of the major span. The core asks again at the end of the window. A new frame starts at once.
+//! A core that is leaving is given nothing.
+//!
+//! *Queue scheme.* No queue is searched: only the window's unit is ever chosen, and whether a unit waits is a mark in a table
+//! (`pool_units`, which keeps the order of arrival beside it, since that is part of what contracts see). The window that the last decision
+//! found is kept with its end (`Present`), so a question within it does not walk the frame. Settling a pool finds the window's unit, and
+//! whether it waits, once, and compares each core with that.
+//!
+//! *Locking.* There is none here: a scheduler is owned by its pool, and a pool is what a schedule lock guards (`hall`). Only `reserve`
+//! takes memory.
+//!
+//! *Ordering.* A window's unit is better than every other unit, so there are no equals. There are no timers: the ends of windows are the
+//! moments at which cores ask again.
 
 ghost use Rattle.sched_model.specs.CheckedMachine.{most_span};
 ghost use Rattle.std.specs.Prelude.{◌≡◌, ◌≤◌, ◌<◌, ℕ};

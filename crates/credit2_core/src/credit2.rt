@@ -1,4 +1,24 @@
 //! Credit2 as a scheduler of a pool.
+//!
+//! *Design.* Each unit has a credit. Running burns it, the faster the less the unit's domain weighs, and the unit of greatest credit runs.
+//! Where the credit of the chosen unit is used up, the pool is reset: the credit of every unit rises by 10 milliseconds, or more where the
+//! chosen one is far below 0, up to 10.5. A unit that runs is charged when its core decides, at a reset, at a refill of its domain, and
+//! where its domain's cap is set. The core asks again after a slice, which is the longer the further the chosen unit is ahead of the next
+//! one, within limits. A core keeps a unit that may go on and has run for less than the rate limit. A domain with a cap pays for its units
+//! from a budget that a timer fills every 10 milliseconds; the chosen unit takes a part of that with it, and its slice is no longer than
+//! this part lasts.
+//!
+//! *Queue scheme.* A pool has one run queue, sorted by falling credit (`runq`). A unit that waits burns nothing, so only a reset changes
+//! its credit; a reset puts all that wait at their places again. Beside the queue stand the set of the domains whose caps let them run, the
+//! first waiting unit of such a domain, and the greatest weight of the pool (`Ready`). They are followed from change to change: the first
+//! unit is looked for only where another one may have become it. A decision, and the question whether a better unit waits, look at this one
+//! unit, and search the queue only where it may not have the core. The refills stand in a heap of moments by domain.
+//!
+//! *Locking.* There is none here: a scheduler is owned by its pool, and a pool is what a schedule lock guards (`hall`). Only `reserve`
+//! takes memory.
+//!
+//! *Ordering.* Among equal credits the unit that came to wait earlier goes first, and the core's own unit before all others. Of the refills
+//! that have come the first is that of the least domain; where none has, it is the least by moment.
 
 ghost use Rattle.std.specs.Prelude.{◌≡◌, ◌≤◌};
 ghost use Rattle.credit2_core.specs.Whole.{seen_by};

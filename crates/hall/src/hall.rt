@@ -1,4 +1,26 @@
 //! The hall: a machine whose parts lie under locks, and the calls that open it, share it out and end it.
+//!
+//! *Design.* A hall is one machine for many threads. Each works through a seat, its handle, which knows the beginning of the history that
+//! it has seen. A call does one entry of the run or none: the first event of an actor, that is of a processor, of a domain or of the tool
+//! (`act`), all such events of a processor or domain under one hold of its pool (`act_all`), or the next entry of the whole machine
+//! (`close_or_step`), which alone ends moments and the run. What an entry says is judged in the state that the history before it leads to,
+//! so any order of the callers' steps makes the beginning of a run.
+//!
+//! *Locking.* There are 18 locks (`lock_moves`): one for each slot of a pool, one for what the tool keeps, and one for the book with the
+//! history. An event of a processor or a domain takes two: its pool's, where it looks for the event, and then the book's, under which it
+//! does the event and adds the entry. So threads in different pools meet at the book alone. Commands, stalls, moves and the ends of moments
+//! take all 18. Locks are taken in rising order of their numbers, the book's last; between two calls a seat holds none. Which lock has a
+//! core or a domain is read from its name's word, and read again under the lock, since a move may have come between. `still_waits` is one
+//! load of a word, without a lock. `entry`, which reads the history, takes the book.
+//!
+//! *Time.* The moment is a word that is set only under all locks. So it stands still while any lock is held, and all events of a moment are
+//! done before it ends.
+//!
+//! *Ordering.* The history's order is that in which entries were added to the book. Of the events of an actor that may come, a call does
+//! the first by kind, then by number and index. Between actors no order is promised, but that the end of a moment comes where nothing more
+//! may come in it.
+//!
+//! All memory of a run is taken in `open`.
 
 use crate::book::{put_book, take_book};
 use crate::parts::open_values;

@@ -1,4 +1,24 @@
 //! The calls on a set of locks.
+//!
+//! *Design.* A set has 18 locks, each with a value in a slot: 0 to 15 guard the slots of the pools, 16 what the tool keeps, 17 the book
+//! with the history. A lock is a word, 0 where it is free and 1 where it is taken. Who sets it from 0 to 1 takes the value out of its slot,
+//! owns it, and puts it back before the word is 0 again. Beside the locks stand three kinds of words: for each core and domain the number
+//! of the lock whose value lists it (its *name*), the moment, and for each core how often it has decided (its *stage*). A thread works
+//! through a seat. The rule that ties all words, free values and seats to one history is `Agrees` of `specs/`; the table (`atomic_table`)
+//! keeps it at each step, whatever the threads do.
+//!
+//! *Locking.* A seat takes locks in rising order of their numbers: each call that takes one asks that all locks which the seat holds are
+//! lower. So the book comes last, and waiting seats make no circle; no contract says that, nor that a call that waits returns. `lock` and
+//! `take_book` try, and let other threads go on, until the lock is free; `try_lock` tries once. `lock_of` reads a name's word, takes that
+//! lock, and reads the word again: where the name has moved meanwhile it gives the lock back and begins again.
+//!
+//! *What a lock allows.* Under the book: to add an entry (`commit`), to move a name between two locks that the seat holds (`move_name`,
+//! `rename`), and to raise the stage of a core whose name one of its locks has (`set_stage`). Under all 18: to set the moment (`set_now`).
+//! So under any lock the moment stands, and under the lock that has it a name does. Without a lock a word may be read, and tells only what
+//! was once so: a stage never falls.
+//!
+//! *Ordering.* Entries are ordered by the book, which one seat has at a time. Taking the book brings a seat's front up to the whole
+//! history. Nothing is said of which of two waiting threads gets a lock first.
 
 ghost use Rattle.std.specs.Prelude.{◌≡◌, ◌≢◌, true, ℕ, ◌+◌, ◌^◌, ◌<◌, ◌≤◌, List, [], Some, None, IfOk, MatchOption};
 ghost use mathlib.Core.List.{IsPrefix};

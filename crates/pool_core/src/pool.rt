@@ -1,4 +1,26 @@
 //! One pool.
+//!
+//! *Design.* A pool joins its vCPUs (`Guests`), its cores (`CoreState`) and a scheduler behind `Policy`. A core runs one unit at a time, a
+//! vCPU on each of its processors. To change its unit it becomes pending; its processors arrive, one by one, and wait; when all have, it
+//! decides, that is, it asks the scheduler; then its processors leave, one by one, and each runs the vCPU at its place in the chosen unit,
+//! if that is awake; when all have left, the core saves the unit that it had before, if it had another one, and that waits again if it is
+//! runnable. Each of these steps is an event of its own, and so are a vCPU that wakes or blocks, a core whose slice ends, and the timers of
+//! the scheduler. Each call answers the event with its printed fields, and leaves the pool that the definitions say.
+//!
+//! *Settling.* After each event the scheduler is asked once which of the cores that are not leaving have to decide again (`wanted`): those
+//! that idle while a unit waits for them, whose unit may not be there, or for which a better unit waits. These become pending. That is left
+//! out where it would change nothing: `settled` says that it was done at the greatest moment given, and that nothing changed since on which
+//! it depends.
+//!
+//! *Queue scheme.* The queue of waiting units is the scheduler's. Whether a unit waits is asked of no queue: a unit waits exactly where it
+//! is runnable and no core has it as its own or saves it. From when on each event may come is kept in sets and heaps of moments, by core,
+//! processor, vCPU and timer, so the first event and the next moment are read and not searched.
+//!
+//! *Locking.* There is none here: a pool is the part of the machine that one schedule lock guards. `engine` owns 16 of them, and `hall`
+//! puts each under its lock. Only `room` takes memory.
+//!
+//! *Ordering.* Of the events that may come at one moment the first is the least by kind, then by number of the core, processor or domain,
+//! then by index. Moments never fall from call to call.
 
 use crate::actors::enabled_for;
 use crate::deciding::{decide, replenish};

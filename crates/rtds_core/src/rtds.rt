@@ -1,4 +1,25 @@
 //! RTDS as a scheduler of a pool.
+//!
+//! *Design.* Each unit has a period, a budget and a deadline. It may run for its budget until a timer replenishes it at its deadline: its
+//! newest parameters take effect, the budget is full, and the deadline is the next one after now on the grid of its periods. The unit of
+//! the earliest deadline runs; a unit with extra time that has used up its budget has it again one level higher, and a higher level goes
+//! behind every lower one. A unit without extra time waits for its replenishment. The core asks again when the budget of the chosen unit is
+//! used up. A unit is charged when its core decides and when it is replenished.
+//!
+//! *Queue scheme.* The units that wait with some budget left stand in a queue sorted by level and deadline, those without in one by arrival
+//! (`rtds_queue`). A waiting unit is charged nothing, so only a replenishment moves it. A decision compares the core's own unit with the
+//! first that may have the core. Settling a pool finds the first unit once: a core that may have it is compared with it alone, and the
+//! queue is searched only for a core that may not, and whose own unit it would go before. The timers of the units that wait or run stand in
+//! a heap of moments by unit (`Alarms`).
+//!
+//! *Locking.* There is none here: a scheduler is owned by its pool, and a pool is what a schedule lock guards (`hall`). Only `reserve`
+//! takes memory.
+//!
+//! *Ordering.* Among equal levels and deadlines the unit that came to wait earlier goes first, and the core's own unit before all others. A
+//! replenishment keeps a waiting unit's arrival. Of the timers that have come the first is that of the least domain and unit; where none
+//! has, it is the least by moment.
+//!
+//! `Rtds` has an `RtdsState`, or none before the first `reserve`.
 
 ghost use Rattle.sched_model.specs.CheckedMachine.{most_span};
 ghost use Rattle.std.specs.Prelude.{◌≡◌, ◌≤◌};

@@ -1,4 +1,17 @@
 //! The null scheduler as a scheduler of a pool.
+//!
+//! *Design.* Each core is kept for one unit or for none (`Kept`). It is given to that unit as long as the unit is in the pool and may be on
+//! the core. Such a core runs its unit or none: it idles while its unit sleeps. A core that is given to no unit takes the earliest of those
+//! that wait, may have it, and are given no core, and is kept for it from then on. A core that decides while it leaves is kept for none.
+//! There is nothing to charge and no end of a slice: a core decides again where its unit stops, or may not be there any more.
+//!
+//! *Queue scheme.* Units wait in order of arrival, with a mark for each in a table (`pool_units`). A core that is given to a unit asks for
+//! that mark alone. The queue is walked only for a core that is given to none, and not at all while no unit waits.
+//!
+//! *Locking.* There is none here: a scheduler is owned by its pool, and a pool is what a schedule lock guards (`hall`). Only `reserve`
+//! takes memory.
+//!
+//! *Ordering.* The unit that came to wait earlier goes first. No unit is better than a core's own. There are no timers.
 
 ghost use Rattle.std.specs.Prelude.{◌≡◌, ◌≤◌, ◌<◌, ◌&&◌, ℕ, [], false, Some, None, if◌then◌else◌, length};
 ghost use Rattle.sched_model.specs.Places.{has_unit};
