@@ -94,7 +94,6 @@ fn is_other(unit: Option<UnitId>, own: UnitId) -> bool
     }
 }
 
-/// The unit, where it waits.
 fn if_waits(units: &PoolUnits, unit: Option<UnitId>) -> Option<UnitId>
     ensures { result ≡ if_waits_spec units.now unit }
 {
@@ -157,7 +156,6 @@ fn chosen(units: &PoolUnits, unit: Option<UnitId>, ask: &Ask) -> Option<UnitId>
     awaited(units, unit, ask.home, ask.core)
 }
 
-/// The frame of the parameters, where they have one.
 fn frame_of(params: &PoolParams) -> Option<Frame>
     requires { ArePoolParams Arinc653 params.now }
     ensures frame { ForSome result IsFrame }

@@ -128,7 +128,6 @@ pub fn processor_at(g: u8, cores: &[Option<Resource>], p: usize) -> Option<&Proc
     sibling_of(item_at(cores, p / g as usize), p % g as usize)
 }
 
-/// The end of the stall of a processor, if there is one.
 #[inline]
 fn stall_end(processor: Option<&Processor>) -> Option<Moment>
     ensures { result ≡ end_of (option_copied processor.entry) }

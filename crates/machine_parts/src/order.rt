@@ -10,7 +10,6 @@ use core_state::earlier;
 use sched_base::{Moment, UnitId, VcpuId};
 use sched_model::action::Action;
 
-/// The rank of a kind, a subject and an index.
 fn rank(kind: u8, subject: u8, index: u8) -> u32
     ensures { result ≡ kind * 65536 + subject * 256 + index }
 {

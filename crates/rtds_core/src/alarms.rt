@@ -31,21 +31,18 @@ impl Model for Alarms {
     ghost invariant = { λ a. (a.heap ≡ a.dues.items) × (length a.dues.items ≡ 2048) };
 }
 
-/// No moment, so many times.
 fn none_times(alloc: Global, times: usize) -> Result<Vec<Option<Moment>>, NoMemory>
     ensures { IfOk result (λ all. all.items ≡ replicate times None) }
 {
     Ok(vec![in alloc; None; times]?)
 }
 
-/// The id of a unit.
 fn id_of_unit(u: UnitId) -> u16
     ensures { result ≡ index_of u }
 {
     u.dom.0 as u16 * 32 + u.n as u16
 }
 
-/// The unit of an id.
 fn unit_of(id: u16) -> UnitId
     requires { id < 2048 }
     ensures { result ≡ unit_of_id id }
@@ -56,7 +53,6 @@ fn unit_of(id: u16) -> UnitId
     }
 }
 
-/// The timer of an id that has a moment.
 fn timer_at(dues: &[Option<Moment>], id: u16) -> Option<(Moment, Timer)>
     requires length { length dues.now ≡ 2048 }
     requires inside { id < 2048 }

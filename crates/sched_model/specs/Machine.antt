@@ -57,7 +57,6 @@ abbrev pub joined_lists : {X Y : Type 0} → (X → List Y) → List X → List 
 joined_lists f [] = []
 joined_lists f (x ∷ xs) = f x ++ joined_lists f xs
 
--- the moments that are there
 abbrev pub some_of : List (Option Moment) → List ℕ
 some_of moments = filter_map (option_map (λ (at : Moment). at.0)) moments
 

@@ -31,11 +31,10 @@ vcpus_of_unit g d n = take g (drop (n * g) d.vcpus)
 abbrev pub unit_runnable : ℕ → Domain → ℕ → Bool
 unit_runnable g d n = not d.paused && is_none d.moving && list_any is_awake (vcpus_of_unit g d n)
 
--- the same of a unit of one of these domains, and of a unit of the pool
+-- the same of a unit of one of these domains
 abbrev pub runnable_among : ℕ → List (Option Domain) → UnitId → Bool
 runnable_among g domains u = elim (at_place domains u.dom.0) [ None ↦ false | Some d ↦ unit_runnable g d u.n ]
 
--- the same of a unit of the pool
 abbrev pub is_runnable : ℕ → Pool → UnitId → Bool
 is_runnable g pool u = runnable_among g pool.domains u
 

@@ -101,7 +101,6 @@ fn first_waiting(
     None
 }
 
-/// The unit, where it waits.
 fn if_waits(units: &PoolUnits, u: UnitId) -> Option<UnitId>
     ensures { result ≡ (if has_unit units.now.queue u then Some u else None) }
 {

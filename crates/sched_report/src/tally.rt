@@ -61,7 +61,6 @@ fn ended(core: &CoreTally, c: &Choice) -> u64
     }
 }
 
-/// A core after a choice.
 fn core_after(core: &CoreTally, c: &Choice) -> CoreTally
     requires run { core.now.run + 2 ^ 64 ≤ 2 ^ 128 }
     requires decides { core.now.decides + 1 < 2 ^ 32 }
