@@ -15,7 +15,7 @@ use plain_pool::doing::{change_doing, set_pending};
 use plain_pool::events::{open_if_left, take_saved};
 use plain_pool::leaving::{end_stall, mark_leaving};
 use plain_pool::replenishing::bring_due_at;
-use sched_base::{DomId, Moment, NoMemory, ProcId, ResId, UnitId, VcpuId};
+use sched_base::{Cores, DomId, Moment, NoMemory, ProcId, ResId, UnitId, VcpuId};
 use sched_model::places::{item_at, set_place, take_item};
 use sched_model::row::{Row, empty_places};
 use sched_model::state::{Doing, Processor, Resource};
@@ -92,6 +92,7 @@ impl CoreState {
     ghost use Rattle.std.specs.Prelude.{◌≡◌, ◌≤◌, ◌<◌, ◌*◌, ◌/◌, ◌||◌, ℕ, true, IfOk, length, None, Some};
     ghost use Rattle.std.specs.List.{list_any};
     ghost use Rattle.std.specs.Option.{option_copied};
+    ghost use Rattle.sched_base.specs.Numbers.{core_set};
     ghost use Rattle.sched_model.specs.declared.action.Action.TheVariants.{Moved, Block, Slice, Arrive, Decide, Leave, Save};
     ghost use Rattle.sched_model.specs.declared.state.Doing.TheVariants as doing;
     ghost use Rattle.sched_model.specs.CheckedMachine.{IsGranularity};
@@ -183,10 +184,10 @@ impl CoreState {
     }
 
     /// The set of the cores.
-    pub fn home(&self) -> u64
-        ensures { result ≡ cores_from 0 self.now.resources }
+    pub fn home(&self) -> Cores
+        ensures { result ≡ core_set (cores_from 0 self.now.resources) }
     {
-        self.home
+        Cores(self.home)
     }
 
     /// The first core.

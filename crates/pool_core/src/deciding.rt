@@ -1,10 +1,9 @@
 //! What a core asks its scheduler, and the timers of a scheduler. g is the number of a core's processors.
 
 ghost use Rattle.std.specs.Prelude.{◌≡◌, true, false, None, Some};
-ghost use Rattle.sched_base.specs.Numbers.{core_set};
 ghost use Rattle.sched_model.specs.declared.action.Action.TheVariants.{Decide, Repl};
 ghost use Rattle.sched_model.specs.State.{runnable_among};
-ghost use Rattle.sched_model.specs.Pool.{after_in, cores_from, enabled_in, event_in};
+ghost use Rattle.sched_model.specs.Pool.{after_in, enabled_in, event_in};
 ghost use Rattle.sched_ops.specs.Conditions.{IsNow};
 ghost use Rattle.policy_laws.specs.Holds.{Holds};
 ghost use Rattle.pool_core.specs.Seen.{pool_of};
@@ -18,13 +17,6 @@ use sched_model::event::Event;
 use sched_model::state::Resource;
 use sched_ops::{Policy, Timer};
 use unit_state::Guests;
-
-/// The set of the pool's cores.
-fn home_of(cores: &CoreState) -> Cores
-    ensures { result ≡ core_set (cores_from 0 cores.now.resources) }
-{
-    Cores(cores.home())
-}
 
 /// What the core asks its scheduler at t, where these are the pool's cores.
 fn ask_of(guests: &Guests, home: Cores, t: Moment, r: ResId, c: &Resource) -> Ask
@@ -81,7 +73,7 @@ pub fn decide<P: Policy>(
     let Some(c) = cores.core(r) else {
         unreachable!();
     };
-    let ask = ask_of(guests, home_of(cores), t, r, c);
+    let ask = ask_of(guests, cores.home(), t, r, c);
     let late = lateness_of(t, c);
     let choice = policy.choose(&ask);
     cores.decide(r, t, choice.unit, choice.due);

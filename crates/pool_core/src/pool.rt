@@ -256,7 +256,7 @@ impl<P: Policy> PoolState<P> {
         ensures domains { (d : ℕ) → has_bit result.1 d
             ≡ is_some (at_place self.now.pool.domains d) }
     {
-        (self.cores.home(), self.guests.members())
+        (self.cores.home().0, self.guests.members())
     }
 
     /// A domain, none of whose vCPUs is started, comes into a pool that is in use, with these parameters. Its units that are runnable

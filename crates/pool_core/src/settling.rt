@@ -35,6 +35,6 @@ pub fn settle<P: Policy>(cores: &mut CoreState, policy: &P, t: Moment)
     } }
 {
     cores.keeps();
-    let wanted = policy.wanted(cores.cores(), t, Cores(cores.home()));
+    let wanted = policy.wanted(cores.cores(), t, cores.home());
     set_all_pending(cores, wanted);
 }

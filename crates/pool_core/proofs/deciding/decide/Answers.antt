@@ -36,7 +36,7 @@ returns-clause-event g c =
     let pool : Pool = pool_of c.args.guests.now c.args.cores.now s in
     let core = c.in-Some.c.now in
     let choice = c.choose-choice.result in
-    let asked : c.ask_of-ask.result ≡ ask_of k c.args.t.0 pool c.args.r.0 core = c.ask_of-ask.ensures ∙ ap (λ (home : Cores). record (ask_of k c.args.t.0 pool c.args.r.0 core) { home = home }) c.home_of.ensures in
+    let asked : c.ask_of-ask.result ≡ ask_of k c.args.t.0 pool c.args.r.0 core = c.ask_of-ask.ensures ∙ ap (λ (home : Cores). record (ask_of k c.args.t.0 pool c.args.r.0 core) { home = home }) c.home.ensures in
     let made : Option Resource → Decision = λ o. elim o as (λ _. Decision) [ None ↦ record { unit = None; due = None; reset = 0; records = s.scheduler.records } | Some x ↦ decision_of (ask_of k c.args.t.0 pool c.args.r.0 x) s.scheduler ] in
     let late : Option Resource → Span = λ o. elim o as (λ _. Span) [ None ↦ span 0 | Some x ↦ span (lateness c.args.t.0 x) ] in
     let unit : choice.unit ≡ (made (Some core)).unit = c.choose-choice.ensures.answer.unit ∙ ap (λ (a : Ask). (decision_of a s.scheduler).unit) asked in
@@ -58,7 +58,7 @@ returns-clause-pool g c =
     let pool : Pool = pool_of c.args.guests.now cores s in
     let core = c.in-Some.c.now in
     let choice = c.choose-choice.result in
-    let asked : c.ask_of-ask.result ≡ ask_of k t pool r core = c.ask_of-ask.ensures ∙ ap (λ (home : Cores). record (ask_of k t pool r core) { home = home }) c.home_of.ensures in
+    let asked : c.ask_of-ask.result ≡ ask_of k t pool r core = c.ask_of-ask.ensures ∙ ap (λ (home : Cores). record (ask_of k t pool r core) { home = home }) c.home.ensures in
     let made : Decision = decision_of (ask_of k t pool r core) s.scheduler in
     let unit : choice.unit ≡ made.unit = c.choose-choice.ensures.answer.unit ∙ ap (λ (a : Ask). (decision_of a s.scheduler).unit) asked in
     let due : choice.due ≡ made.due = c.choose-choice.ensures.answer.due ∙ ap (λ (a : Ask). (decision_of a s.scheduler).due) asked in

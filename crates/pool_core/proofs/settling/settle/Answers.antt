@@ -1,5 +1,6 @@
 use Rattle.std.proofs.Common.{◌≡◌, ◌∙◌, ℕ, List, ap}
 use Rattle.std.specs.Prelude.{Option}
+use Rattle.sched_base.specs.declared.Cores.{Cores}
 use Rattle.sched_model.specs.declared.state.Resource.{Resource}
 use Rattle.sched_model.specs.declared.state.Scheduler.{Scheduler}
 use Rattle.sched_model.specs.Places.{at_place}
@@ -16,7 +17,7 @@ returns g c =
     let t : ℕ = c.args.t.0 in
     let wanted : (r : ℕ) → has_core c.wanted-wanted.result.0 r ≡ is_wanted t (cores_from 0 cores) s r (at_place cores r) = λ r.
     c.wanted-wanted.ensures r
-    ∙ ap (λ (home : ℕ). is_wanted t home s r (at_place c.cores.result.now r)) c.home.ensures
+    ∙ ap (λ (home : Cores). is_wanted t home.0 s r (at_place c.cores.result.now r)) c.home.ensures
     ∙ ap (λ (there : List (Option Resource)). is_wanted t (cores_from 0 cores) s r (at_place there r)) c.cores.ensures in
     c.set_all_pending.ensures
     ∙ ap (λ (there : List (Option Resource)). record c.args.cores.now { resources = there }) (wanted_marked t (cores_from 0 cores) s c.wanted-wanted.result.0 cores wanted)
