@@ -127,7 +127,7 @@ but_again d stands f records es ready keeps but = record {
 pub but_of : (d : ℕ) (stands : Bool) (h : Credit2State) (ready : Ready) → IsReadyIn h ready → IsReadyBut d stands h.records h.queue.units ready
 but_of d stands h ready is = record {
   domains = λ i other. is.domains.each i;
-  first = λ stand. is.first ∙ sym (first_runnable h.records ready.domains h.queue.units is.domains);
+  first = λ stand. is.first ∙ sym (first_runnable h.records ready.domains.0 h.queue.units is.domains);
   most = is.most;
 }
 
@@ -176,21 +176,21 @@ fewer_pass p q (e ∷ es) fewer passes =
 
 -- the kept unit is the first where it stays it
 pub stays : (d : ℕ) (may : Bool) (records : Credit2Records) (es : List Queued) (ready : Ready) → IsReadyBut d true records es ready → may ≡ may_run_at (at_place records.domains d) → stays_first ready d may ≡ true → ready.first ≡ first_ready records es
-stays d true records es ready but is has = but.first refl ∙ first_runnable records ready.domains es all
+stays d true records es ready but is has = but.first refl ∙ first_runnable records ready.domains.0 es all
   where
-    all : AreRunnable records.domains ready.domains
+    all : AreRunnable records.domains ready.domains.0
     all = record {
       each = λ i. elim (ℕ_discrete i d) [
         | no other ↦ but.domains i other
-        | yes here ↦ subst (λ (k : ℕ). has_domain ready.domains k ≡ may_run_at (at_place records.domains k)) (sym here) (has ∙ is)
+        | yes here ↦ subst (λ (k : ℕ). has_domain ready.domains.0 k ≡ may_run_at (at_place records.domains k)) (sym here) (has ∙ is)
       ];
     }
-stays d false records es ready but is other = but.first refl ∙ sym (fewer_pass (λ u. has_domain ready.domains u.dom.0) (domain_has_budget records) es fewer passes)
+stays d false records es ready but is other = but.first refl ∙ sym (fewer_pass (λ u. has_domain ready.domains.0 u.dom.0) (domain_has_budget records) es fewer passes)
   where
     elsewhere : (u : UnitId) → domain_has_budget records u ≡ true → u.dom.0 ≢ d
     elsewhere u runs here = (let e : may_run_at (at_place records.domains d) ≡ true = subst (λ (k : ℕ). may_run_at (at_place records.domains k) ≡ true) here runs in absurd cc)
 
-    fewer : (u : UnitId) → domain_has_budget records u ≡ true → has_domain ready.domains u.dom.0 ≡ true
+    fewer : (u : UnitId) → domain_has_budget records u ≡ true → has_domain ready.domains.0 u.dom.0 ≡ true
     fewer u runs = but.domains u.dom.0 (elsewhere u runs) ∙ runs
 
     apart : (u : UnitId) (o : Option UnitId) → o ≡ Some u → elim o as (λ _. Bool) [ None ↦ true | Some w ↦ not (w.dom.0 == d) ] ≡ true → u.dom.0 ≢ d
@@ -200,10 +200,10 @@ stays d false records es ready but is other = but.first refl ∙ sym (fewer_pass
         let g : (w.dom.0 == d) ≡ true = grind (arith, ap (λ (x : UnitId). x.dom.0) same, here) in
         absurd (let k : not (w.dom.0 == d) ≡ false = rw g refl in cc)
 
-    passes : (u : UnitId) → first_that (λ w. has_domain ready.domains w.dom.0) es ≡ Some u → domain_has_budget records u ≡ true
+    passes : (u : UnitId) → first_that (λ w. has_domain ready.domains.0 w.dom.0) es ≡ Some u → domain_has_budget records u ≡ true
     passes u found =
         let there : ready.first ≡ Some u = but.first refl ∙ found in
-        sym (but.domains u.dom.0 (apart u ready.first there other)) ∙ first_passes (λ w. has_domain ready.domains w.dom.0) es u found
+        sym (but.domains u.dom.0 (apart u ready.first there other)) ∙ first_passes (λ w. has_domain ready.domains.0 w.dom.0) es u found
 
 -- the first of those that are left, where another one left
 pub first_left : (p : UnitId → Bool) (u : UnitId) (r : ℕ) (es : List Queued) → u.n < 256 → AllByRecursion (λ (e : Queued). e.unit.n < 256) es → is_unit (first_that p es) u ≡ false → first_that p (map (closed_up r) (list_without u es)) ≡ first_that p es

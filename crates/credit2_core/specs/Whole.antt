@@ -28,19 +28,19 @@ IsWhole state = ForSome state IsSound
 
 -- the set is that of the domains that may run, the unit the first that waits of one of them, and the weight the greatest
 pub record IsReadyIn (h : Credit2State) (ready : Ready) : Type 0 where
-  pub domains : AreRunnable h.records.domains ready.domains
+  pub domains : AreRunnable h.records.domains ready.domains.0
   pub first : ready.first ≡ first_ready h.records h.queue.units
   pub most : ready.most ≡ max_weight h.records
 
 -- the same, where the record of a domain was written since; the unit, where it stands, is the first by the set that was
 pub record IsReadyBut (d : ℕ) (stands : Bool) (records : Credit2Records) (es : List Queued) (ready : Ready) : Type 0 where
-  pub domains : AreRunnableBut d records.domains ready.domains
-  pub first : stands ≡ true → ready.first ≡ first_that (λ u. has_domain ready.domains u.dom.0) es
+  pub domains : AreRunnableBut d records.domains ready.domains.0
+  pub first : stands ≡ true → ready.first ≡ first_that (λ u. has_domain ready.domains.0 u.dom.0) es
   pub most : ready.most ≡ max_weight records
 
 -- whether the unit is the first also where the domain d may run now, or may not
 abbrev pub stays_first : Ready → ℕ → Bool → Bool
-stays_first ready d true = has_domain ready.domains d
+stays_first ready d true = has_domain ready.domains.0 d
 stays_first ready d false = elim ready.first [ None ↦ true | Some u ↦ not (u.dom.0 == d) ]
 
 -- and so is what is kept beside it

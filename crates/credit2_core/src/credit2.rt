@@ -27,6 +27,7 @@ use crate::line::{Ready, ready_in};
 use crate::room::DEFAULT_LIMIT;
 use crate::state::Credit2State;
 use crate::{decide, params, queue, room, timers, wanted};
+use runq::Allowed;
 use sched_base::{Cores, DomId, Moment, NoMemory, UnitId};
 use sched_model::ask::Ask;
 use sched_model::config::{DomParams, ParamChange, PoolParams};
@@ -94,7 +95,7 @@ impl Credit2 {
             limit: DEFAULT_LIMIT,
             early: 0,
             ready: Ready {
-                domains: 0,
+                domains: Allowed(0),
                 first: None,
                 most: 0,
             },

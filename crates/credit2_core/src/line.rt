@@ -75,8 +75,8 @@ pub fn rekey_all(queue: &mut Runq, records: &Credit2Records, affinity: &[Option<
 
 /// The unit of greatest credit of those that wait and may take the core; among equals the earlier. The set is that of the domains
 /// that may run.
-fn best_waiting(state: &Credit2State, runnable: u64, core: ResId, home: Cores) -> Option<UnitId>
-    requires set { AreRunnable state.now.records.domains runnable }
+fn best_waiting(state: &Credit2State, runnable: Allowed, core: ResId, home: Cores) -> Option<UnitId>
+    requires set { AreRunnable state.now.records.domains runnable.0 }
     requires core { core.0 < 64 }
     requires line { IsLine state.now }
     requires masks { AreMasks state.now.affinity state.now.masks }
@@ -84,25 +84,24 @@ fn best_waiting(state: &Credit2State, runnable: u64, core: ResId, home: Cores) -
         state.now.records }
 {
     state.queue.law_order();
-    let allowed = Allowed(runnable);
-    state.queue.first_on(&allowed, &state.masks, core, home)
+    state.queue.first_on(&runnable, &state.masks, core, home)
 }
 
-/// What is kept from change to change, so that neither a decision nor a question makes it: the set of the domains that may run, with bit d
-/// for the domain d, the first unit that waits of one of them, and the greatest weight of the pool.
+/// What is kept from change to change, so that neither a decision nor a question makes it: the set of the domains that may run, the
+/// first unit that waits of one of them, and the greatest weight of the pool.
 #[derive(Clone, Copy)]
 pub struct Ready {
-    pub domains: u64,
+    pub domains: Allowed,
     pub first: Option<UnitId>,
     pub most: u32,
 }
 
 /// The first unit that waits of a domain that may run. The set is that of these domains.
-pub fn first_ready(state: &Credit2State, domains: u64) -> Option<UnitId>
-    requires { AreRunnable state.now.records.domains domains }
+pub fn first_ready(state: &Credit2State, domains: Allowed) -> Option<UnitId>
+    requires { AreRunnable state.now.records.domains domains.0 }
     ensures { result ≡ first_ready_spec state.now.records state.now.queue.units }
 {
-    state.queue.first_where(&Allowed(domains))
+    state.queue.first_where(&domains)
 }
 
 /// All that is kept, made of the whole pool.
@@ -110,7 +109,7 @@ pub fn ready_in(state: &Credit2State) -> Ready
     requires { length state.now.records.domains ≤ 64 }
     ensures { IsReadyIn state.now result }
 {
-    let domains = runnable_domains(state.records.domains.as_slice());
+    let domains = Allowed(runnable_domains(state.records.domains.as_slice()));
     Ready {
         domains,
         first: first_ready(state, domains),
@@ -123,7 +122,7 @@ fn keeps_first(ready: Ready, d: DomId, may_run: bool) -> bool
     ensures { result ≡ stays_first ready d.0 may_run }
 {
     if may_run {
-        return has_domain(Allowed(ready.domains), d);
+        return has_domain(ready.domains, d);
     }
     match ready.first {
         None => true,
@@ -139,7 +138,7 @@ pub fn follow(state: &Credit2State, ready: Ready, d: DomId, stands: bool) -> Rea
     ensures { IsReadyIn state.now result }
 {
     let may = may_run(state.records.domains.as_slice(), d);
-    let domains = with_domain(ready.domains, d, may);
+    let domains = Allowed(with_domain(ready.domains.0, d, may));
     if stands && keeps_first(ready, d, may) {
         return Ready {
             domains,
@@ -172,9 +171,9 @@ pub fn richer(records: &Credit2Records, own: UnitId, waiting: Option<UnitId>) ->
 
 /// The first unit of a domain that may run, once the unit waits too, behind all others.
 pub fn first_with(records: &Credit2Records, ready: Ready, u: UnitId) -> Option<UnitId>
-    ensures { result ≡ first_with_spec records.now (domain_in ready.domains u.dom.0) ready.first u }
+    ensures { result ≡ first_with_spec records.now (domain_in ready.domains.0 u.dom.0) ready.first u }
 {
-    if !has_domain(Allowed(ready.domains), u.dom) {
+    if !has_domain(ready.domains, u.dom) {
         return ready.first;
     }
     match ready.first {

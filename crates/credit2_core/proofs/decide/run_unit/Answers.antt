@@ -29,8 +29,8 @@ take_slice-long-requires-clause-ready c =
     let first : left.records ≡ h.records = ap (λ (x : Credit2State). x.records) c.leave.ensures.rest in
     let begun : c.reset_pool.new.state.records ≡ reset c.args.ask.now.at.0 c.resets_for-resets.result h.records = c.reset_pool.ensures.records ∙ ap (reset c.args.ask.now.at.0 c.resets_for-resets.result) first in
     let spared : IsSpared h.records c.reset_pool.new.state.records = subst (IsSpared h.records) (sym begun) (spared_reset c.args.ask.now.at.0 c.resets_for-resets.result h.records) in
-    let p : UnitId → Bool = λ w. has_domain kept.domains w.dom.0 in
-    let was : kept.first ≡ first_that p h.queue.units = c.requires.ready.first ∙ sym (first_runnable h.records kept.domains h.queue.units c.requires.ready.domains) in
+    let p : UnitId → Bool = λ w. has_domain kept.domains.0 w.dom.0 in
+    let was : kept.first ≡ first_that p h.queue.units = c.requires.ready.first ∙ sym (first_runnable h.records kept.domains.0 h.queue.units c.requires.ready.domains) in
     record {
       domains = λ i other. c.requires.ready.domains.each i ∙ sym (spared.runs i);
       first = λ stand.

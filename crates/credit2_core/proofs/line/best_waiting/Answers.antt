@@ -16,8 +16,8 @@ returns c =
     let state = c.args.state.now in
     let records : Credit2Records = state.records in
     let es : List Queued = state.queue.units in
-    let p : UnitId → Bool = λ u. has_domain c.args.runnable u.dom.0 && may_run state.masks (record { 0 = c.args.core.0 }) (record { 0 = c.args.home.0 }) u in
+    let p : UnitId → Bool = λ u. has_domain c.args.runnable.0 u.dom.0 && may_run state.masks (record { 0 = c.args.core.0 }) (record { 0 = c.args.home.0 }) u in
     let found : c.first_on.result ≡ first_that p es = c.first_on.ensures in
     found
     ∙ first_greatest records p es (record { order = c.law_order.ensures.order; ranks = c.law_order.ensures.ranks; units = c.law_order.ensures.units }) c.requires.line.keys
-    ∙ ap (greatest_unit records None) (filter-same p (may_take state.affinity c.args.home.0 c.args.core.0 records) (arrivals es) (passes_each state.affinity state.masks records c.args.runnable c.args.core.0 c.args.home.0 (arrivals es) c.requires.set c.requires.masks c.requires.line.joined))
+    ∙ ap (greatest_unit records None) (filter-same p (may_take state.affinity c.args.home.0 c.args.core.0 records) (arrivals es) (passes_each state.affinity state.masks records c.args.runnable.0 c.args.core.0 c.args.home.0 (arrivals es) c.requires.set c.requires.masks c.requires.line.joined))

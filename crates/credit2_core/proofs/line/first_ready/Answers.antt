@@ -5,4 +5,4 @@ use Rattle.credit2_core.proofs.line.first_ready.Goals as goal
 pub returns : goal.returns
 returns c =
     let state = c.args.state.now in
-    c.first_where.ensures ∙ first_runnable state.records c.args.domains state.queue.units c.requires
+    c.first_where.ensures ∙ first_runnable state.records c.args.domains.0 state.queue.units c.requires

@@ -10,11 +10,11 @@ runnable : (set : ℕ) (domains : List (Option Credit2Domain)) → set ≡ set_o
 runnable set domains is = record { each = λ i. ap (λ (k : ℕ). has_domain k i) is ∙ set_has domains i }
 
 pub first_ready-requires : goal.first_ready-requires
-first_ready-requires c = runnable c.runnable_domains-domains.result c.args.state.now.records.domains (c.runnable_domains-domains.ensures.exact ∙ ap set_of c.as_slice.ensures)
+first_ready-requires c = runnable c.runnable_domains.result c.args.state.now.records.domains (c.runnable_domains.ensures.exact ∙ ap set_of c.as_slice.ensures)
 
 pub returns : goal.returns
 returns c = record {
-  domains = runnable c.runnable_domains-domains.result c.args.state.now.records.domains (c.runnable_domains-domains.ensures.exact ∙ ap set_of c.as_slice.ensures);
+  domains = runnable c.runnable_domains.result c.args.state.now.records.domains (c.runnable_domains.ensures.exact ∙ ap set_of c.as_slice.ensures);
   first = c.first_ready.ensures;
   most = c.max_weight.ensures;
 }
