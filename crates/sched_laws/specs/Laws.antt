@@ -6,7 +6,11 @@ use Rattle.sched_model.specs.declared.state.Doing.TheVariants.{Guest, Idle, Held
 use Rattle.sched_model.specs.declared.state.Processor.{Processor}
 use Rattle.sched_model.specs.declared.state.Resource.{Resource}
 use Rattle.sched_model.specs.Places.{at_place, numbered_items, is_unit, same_unit}
-use Rattle.sched_model.specs.State.{Machine, Pool, State, Records, is_runnable, is_up}
+use Rattle.sched_model.specs.declared.state.Records.{Records}
+use Rattle.sched_model.specs.declared.state.Pool.{Pool}
+use Rattle.sched_model.specs.declared.state.State.{State}
+use Rattle.sched_model.specs.declared.machine.Machine.{Machine}
+use Rattle.sched_model.specs.State.{is_runnable, is_up}
 use Rattle.sched_model.specs.declared.state.Records.TheVariants.{Credit2Pool, RtdsPool, ArincPool, NullPool}
 use Rattle.sched_model.specs.EligibleUnits.{is_eligible, is_allowed}
 use Rattle.sched_model.specs.Rtds.{unit_before}
