@@ -19,7 +19,7 @@ ghost use Rattle.credit2_core.specs.Whole.{IsReadyIn};
 use crate::domains::{count_at, rearm, set_masks};
 use crate::line::{Ready, follow};
 use crate::state::Credit2State;
-use plain_credit2::credit2;
+use plain_credit2::params;
 use plain_credit2::running::max_weight;
 use plain_units::pins;
 use sched_base::{Cores, DomId, Moment};
@@ -80,7 +80,7 @@ pub fn join(
     let sets = copies(Cores(u64::MAX), units);
     set_place(&mut state.affinity, d.0, Some(sets));
     refresh(&mut state.masks, state.affinity.as_slice(), d);
-    let domain = credit2::fresh_domain(weight, cap, units, t);
+    let domain = params::fresh_domain(weight, cap, units, t);
     set_place(&mut state.records.domains, d.0, Some(domain));
     rearm(&mut state.refills, state.records.domains.as_slice(), d);
     state.spare -= units as usize;
@@ -129,7 +129,7 @@ pub fn set_domain(
     ensures sound { IsSound state.new }
     ensures ready { IsReadyIn state.new ready.new }
 {
-    credit2::set_domain(t, d, weight, cap, &mut state.records);
+    params::set_domain(t, d, weight, cap, &mut state.records);
     rearm(&mut state.refills, state.records.domains.as_slice(), d);
     state.latest = t.0;
     reweigh(state, ready, d);

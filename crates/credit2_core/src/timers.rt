@@ -13,8 +13,8 @@ ghost use Rattle.credit2_core.specs.Timing.{come_at, periods_at as periods_at_sp
 use crate::domains::rearm;
 use crate::line::{Ready, follow};
 use crate::state::Credit2State;
-use plain_credit2::credit2;
 use plain_credit2::domain::periods;
+use plain_credit2::running;
 use sched_base::{DomId, Moment};
 use sched_model::event::Event;
 use sched_model::places::item_at;
@@ -98,7 +98,7 @@ pub fn refill(state: &mut Credit2State, ready: &mut Ready, d: DomId, t: Moment) 
     ensures ready { IsReadyIn state.new ready.new }
 {
     let periods = periods_at(&state.records, d, t);
-    credit2::refill(t, d, &mut state.records);
+    running::refill(t, d, &mut state.records);
     rearm(&mut state.refills, state.records.domains.as_slice(), d);
     state.latest = t.0;
     *ready = follow(state, *ready, d, true);

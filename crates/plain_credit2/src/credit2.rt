@@ -10,9 +10,6 @@ ghost use Rattle.plain_credit2.specs.Bounds.{PoolFits};
 ghost use Rattle.plain_credit2.specs.WaitingUnits.{scheduler_of};
 
 use crate::choice::{choice, domain_has_budget, is_within_limit, resets_for, slice_of};
-pub use crate::domain::periods;
-pub use crate::params::{fresh_domain, set_domain};
-pub use crate::running::refill;
 use crate::running::{
     burn_cur, burned_credit_of, credit_of, reset, set_running, switch_off, take_at,
 };

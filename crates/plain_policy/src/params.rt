@@ -7,8 +7,8 @@ ghost use Rattle.plain_units.specs.Fits.{RecordsFit};
 ghost use Rattle.plain_policy.specs.Parameters.{ParamsFit, ChangeFits};
 
 use crate::null::release_domain;
-use crate::rtds;
-use plain_credit2::credit2;
+use crate::rtds::{fresh_units, set_next};
+use plain_credit2::params::{fresh_domain, set_domain};
 use plain_units::pins::pin;
 use sched_base::{Cores, DomId, Moment, Span};
 use sched_model::config::{DomParams, ParamChange, Pins, PoolParams, SchedKind};
@@ -58,7 +58,7 @@ fn join_records(d: DomId, count: u8, params: &DomParams, t: Moment, records: &mu
 {
     match (records, *params) {
         (Records::Credit2Pool(records), DomParams::Credit2 { weight, cap }) => {
-            let domain = credit2::fresh_domain(weight, cap, count, t);
+            let domain = fresh_domain(weight, cap, count, t);
             set_place(&mut records.domains, d.0, Some(domain));
         }
         (
@@ -69,7 +69,7 @@ fn join_records(d: DomId, count: u8, params: &DomParams, t: Moment, records: &mu
                 extra,
             },
         ) => {
-            let units = rtds::fresh_units(period, budget, extra, count, t);
+            let units = fresh_units(period, budget, extra, count, t);
             set_place(domains, d.0, Some(units));
         }
         _ => {}
@@ -120,7 +120,7 @@ pub fn set_params(change: ParamChange, t: Moment, scheduler: &mut Scheduler)
             pin(dom, unit, cores, &mut scheduler.affinity);
         }
         (ParamChange::Dom { dom, weight, cap }, Records::Credit2Pool(records)) => {
-            credit2::set_domain(t, dom, weight, cap, records);
+            set_domain(t, dom, weight, cap, records);
         }
         (ParamChange::Rate { limit }, Records::Credit2Pool(records)) => records.limit = limit,
         (
@@ -131,7 +131,7 @@ pub fn set_params(change: ParamChange, t: Moment, scheduler: &mut Scheduler)
                 extra,
             },
             Records::RtdsPool(domains),
-        ) => rtds::set_next(unit, period, budget, extra, domains),
+        ) => set_next(unit, period, budget, extra, domains),
         (ParamChange::Frame { frame }, Records::ArincPool(records)) => {
             records.frame = Some(frame);
             records.installed = t.0;

@@ -9,8 +9,10 @@ ghost use Rattle.plain_units.specs.Fits.{RecordsFit};
 ghost use Rattle.plain_units.specs.Tells.{Tells};
 ghost use Rattle.plain_policy.specs.Parts.{scheduler_of};
 
+use crate::rtds::{replenish as replenish_unit, unit_before};
 use crate::{arinc, null, rtds};
 use plain_credit2::credit2;
+use plain_credit2::running::refill as refill_domain;
 use plain_units::decided::Decided;
 use plain_units::eligible::is_allowed;
 use plain_units::units::drop_unit;
@@ -61,7 +63,7 @@ fn is_better(scheduler: &Scheduler, cur: UnitId, since: Moment, t: Moment, u: Un
 {
     match &scheduler.records {
         Records::Credit2Pool(records) => credit2::is_better(records, cur, since, t, u),
-        Records::RtdsPool(domains) => rtds::unit_before(domains.as_slice(), u, cur),
+        Records::RtdsPool(domains) => unit_before(domains.as_slice(), u, cur),
         Records::ArincPool(_) => !is_same(u, cur),
         Records::NullPool(_) => false,
     }
@@ -176,7 +178,7 @@ pub fn replenish(records: &mut Records, t: Moment, u: UnitId)
     ensures { records.new ≡ replenish_spec records.old t.0 u }
 {
     match records {
-        Records::RtdsPool(domains) => rtds::replenish(t, u, domains),
+        Records::RtdsPool(domains) => replenish_unit(t, u, domains),
         _ => {}
     }
 }
@@ -188,7 +190,7 @@ pub fn refill(records: &mut Records, t: Moment, d: DomId)
     ensures { records.new ≡ refill_spec records.old t.0 d.0 }
 {
     match records {
-        Records::Credit2Pool(records) => credit2::refill(t, d, records),
+        Records::Credit2Pool(records) => refill_domain(t, d, records),
         _ => {}
     }
 }

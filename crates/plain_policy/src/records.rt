@@ -6,7 +6,6 @@ ghost use Rattle.sched_model.specs.Policy.{rate_of as rate_of_spec, replenish_du
 ghost use Rattle.sched_model.specs.Machine.{is_null as is_null_spec};
 
 use crate::rtds::rtds_unit;
-pub use plain_credit2::credit2::periods;
 use sched_base::{DomId, Moment, UnitId};
 use sched_model::places::item_at;
 use sched_model::state::{Credit2Domain, Records, RtdsUnit};

@@ -14,7 +14,8 @@ ghost use Rattle.plain_pool.specs.Records.{budget_at, due_at_core, periods_at};
 
 use crate::cores::core_of;
 use plain_policy::policy::{refill as refill_records, replenish as replenish_records};
-use plain_policy::records::{credit2_record, periods, rtds_record};
+use plain_credit2::domain::periods;
+use plain_policy::records::{credit2_record, rtds_record};
 use sched_base::{DomId, Moment, Span, UnitId};
 use sched_model::event::Event;
 use sched_model::row::Row;
