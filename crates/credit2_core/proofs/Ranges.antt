@@ -23,7 +23,7 @@ use Rattle.sched_ranges.proofs.Done.{credit2_in_range}
 use Rattle.sched_base.specs.Numbers.{has_come}
 use Rattle.sched_model.specs.Policy.{next_refill}
 use Rattle.sched_model.specs.declared.state.Records.TheVariants.{Credit2Pool}
-use Rattle.plain_units.specs.Fits as plain
+use Rattle.scheduler_records.specs.Fits as plain
 use Rattle.credit2_core.specs.Choice.{records_after_run}
 use Rattle.credit2_core.specs.Credit2State.{InRange}
 

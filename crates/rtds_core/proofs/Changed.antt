@@ -18,7 +18,7 @@ use Rattle.sched_base.proofs.Lists.{AllByRecursion-map}
 use Rattle.sched_ranges.specs.Ranges.{RtdsInRange}
 use Rattle.sched_ranges.specs.Fits.{RtdsFits, RtdsFit}
 use Rattle.sched_ranges.proofs.Done.{rtds_in_range}
-use Rattle.plain_units.specs.Fits as plain
+use Rattle.scheduler_records.specs.Fits as plain
 use Rattle.rtds_core.specs.RtdsParts.{IsShaped, size, total}
 use Rattle.std.proofs.lemmas.Option.{slice_get_within}
 

@@ -26,7 +26,7 @@ use Rattle.sched_laws.proofs.EachPlace.{found_at, is_empty, none_found, place_be
 use Rattle.sched_laws.proofs.Lists.{some_is, none_without}
 use Rattle.sched_laws.proofs.PoolsLaw.{pools_keep_their_own}
 use Rattle.journal_core.specs.Parts.{ToolPart, UnderWay, core_to, under_way_of}
-use Rattle.plain_pool.specs.Cores as plain
+use Rattle.pool_records.specs.Cores as plain
 use Rattle.cpupool.specs.ToolArrival.{EndsTheMove, but_for_free}
 use Rattle.cpupool.specs.Steps.{move_of}
 use Rattle.cpupool.specs.Tool.{Tool, ends_of, tool_of}

@@ -1,4 +1,4 @@
-use Rattle.plain_credit2.proofs.Ranges.{pool_in_range}
+use Rattle.scheduler_records.proofs.Ranges.{pool_in_range}
 use Rattle.credit2_core.proofs.Ranges.{plain_fits, range_later}
 use Rattle.credit2_core.proofs.choice.better_than.Goals as goal
 

@@ -5,9 +5,9 @@ use Rattle.sched_model.specs.declared.state.Credit2Records.{Credit2Records}
 use Rattle.sched_model.specs.Places.{at_place}
 use Rattle.sched_model.specs.Credit2.{max_weight}
 use Rattle.sched_laws.proofs.EachPlace.{length_set}
-use Rattle.plain_credit2.specs.Bounds.{PoolFits, own_charged}
-use Rattle.plain_credit2.proofs.Ranges.{pool_in_range}
-use Rattle.plain_credit2.proofs.Steps.{burn_cur_fits, burn_cur-own}
+use Rattle.scheduler_records.specs.Bounds.{PoolFits, own_charged}
+use Rattle.scheduler_records.proofs.Ranges.{pool_in_range}
+use Rattle.scheduler_records.proofs.Steps.{burn_cur_fits, burn_cur-own}
 use Rattle.credit2_core.specs.declared.state.Credit2State.{Credit2State}
 use Rattle.credit2_core.specs.Credit2State.{IsLineOf}
 use Rattle.credit2_core.specs.Whole.{IsReadyBut}

@@ -8,7 +8,7 @@ use Rattle.sched_model.specs.declared.state.Records.TheVariants.{RtdsPool}
 use Rattle.sched_model.specs.Rtds.{burn_cur, switch_off, choice, budget_left}
 use Rattle.sched_model.specs.Policy.{decision_of, after_decision}
 use Rattle.sched_ops.specs.Seen.{Seen, seen_at}
-use Rattle.plain_policy.specs.Parts.{scheduler_of}
+use Rattle.scheduler_records.specs.Parts.{scheduler_of}
 use Rattle.rtds_queue.specs.Lists.{Lists}
 use Rattle.rtds_core.specs.Best.{queue_of, AreQueued, queues_without, dues_with, dues_without, run_from}
 use Rattle.rtds_core.specs.RtdsParts.{IsShaped, seen_of}
