@@ -23,8 +23,8 @@ use sched_base::{Cores, DomId, Moment};
 use sched_model::config::{ParamChange, Pins};
 use sched_model::places::{item_at, set_place};
 use sched_model::short::copies;
-use scheduler_records::{credit2_params, pins};
 use scheduler_records::credit2_running::max_weight;
+use scheduler_records::{credit2_params, pins};
 use unit_places::Masks;
 
 /// The table of masks has the sets of cores of the domain's units again.

@@ -18,8 +18,8 @@ use sched_model::event::Event;
 use sched_model::places::item_at;
 use sched_model::state::{Credit2Domain, Credit2Records};
 use sched_ops::Timer;
-use scheduler_records::credit2_running;
 use scheduler_records::credit2_domain::periods;
+use scheduler_records::credit2_running;
 
 /// The moment of the domain's refill, where it has come at t.
 fn come(place: &Option<Credit2Domain>, t: Moment) -> Option<u64>

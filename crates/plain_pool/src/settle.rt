@@ -1,4 +1,4 @@
-//! The closure: which cores are to decide anew after an event. It is that of `plain_pool`, by one scan of the waiting units for all cores.
+//! The closure: which cores are to decide anew after an event. One scan of the waiting units serves all cores.
 
 ghost use Rattle.sched_model.specs.CheckedMachine.{most_span};
 ghost use Rattle.std.specs.Prelude.{◌≡◌, ◌<◌, ◌≤◌, length};

@@ -9,8 +9,8 @@ ghost use Rattle.scheduler_records.specs.Fits.{RecordsFit};
 ghost use Rattle.plain_schedulers.specs.Tells.{Tells};
 ghost use Rattle.scheduler_records.specs.Parts.{scheduler_of};
 
-use crate::{arinc, credit2, null, rtds};
 use crate::decided::Decided;
+use crate::{arinc, credit2, null, rtds};
 use sched_base::{Cores, DomId, Moment, ResId, UnitId};
 use sched_model::ask::Ask;
 use sched_model::config::Pins;

@@ -1,4 +1,4 @@
--- Windows of ARINC 653, as the plain machine keeps them.
+-- Windows of ARINC 653, as the code keeps them.
 use Rattle.sched_model.specs.Arinc as arinc
 use Rattle.scheduler_records.specs.declared.arinc.Window.{Window}
 
