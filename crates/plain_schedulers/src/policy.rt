@@ -18,6 +18,7 @@ use sched_model::state::{Records, Scheduler};
 use sched_model::units::is_same;
 use scheduler_records::credit2_running::refill as refill_domain;
 use scheduler_records::eligible::is_allowed;
+use scheduler_records::null::passes as null_passes;
 use scheduler_records::queue::drop_unit;
 use scheduler_records::rtds::{replenish as replenish_unit, unit_before};
 
@@ -33,7 +34,7 @@ fn passes(scheduler: &Scheduler, home: Cores, core: ResId, t: Moment, u: UnitId)
         Records::RtdsPool(domains) => rtds::passes(domains.as_slice(), u),
         Records::ArincPool(records) => arinc::passes(records, t, u),
         Records::NullPool(kept) => {
-            null::passes(
+            null_passes(
                 kept.as_slice(),
                 scheduler.affinity.as_slice(),
                 home,
