@@ -129,6 +129,18 @@ class Pages(unittest.TestCase):
         faults, _ = said(self.top, "map", "--check")
         self.assertEqual(faults, [f"crates/{it}/README.md:1: is stale: tools/map makes it anew" for it in ("due_heap", "runq")])
 
+    def test_the_fast_side_does_not_use_the_reference(self):
+        def faults():
+            return [it for it in said(self.top)[0] if "of the fast side" in it]
+
+        self.assertEqual(faults(), [])
+        self.change("crates.txt", "\nrunq: ", "\nrunq: plain_pool sched_plain ")
+        self.change("crates.txt", "\nsched_check: ", "\nsched_check: plain_pool ")
+        self.change("crates.txt", "\nleaf_trials: ", "\nleaf_trials: sched_plain ")
+        number = (self.top / "crates.txt").read_text().partition("\nrunq: ")[0].count("\n") + 2
+        self.assertEqual(faults(), [f"crates.txt:{number}: crate runq of the fast side uses the reference crate {it}" for it in ("plain_pool", "sched_plain")])
+        self.assertEqual(said(self.top)[1], 1)
+
     @unittest.skipUnless(shutil.which("rt"), "the toolchain is not in PATH")
     def test_what_a_reader_must_believe_goes_stale(self):
         self.change("docs/BELIEVE.md", "`IsWholeRun` ", "`IsAnyRun` ")

@@ -10,7 +10,7 @@ use Rattle.sched_model.specs.Places.{has_unit, is_unit, same_unit}
 use Rattle.sched_model.specs.EligibleUnits.{is_allowed_by, is_eligible}
 use Rattle.sched_laws.proofs.Choices.{same_unit_same}
 use Rattle.sched_laws.proofs.Counts.{same_unit_refl}
-use Rattle.plain_policy.specs.Parts.{scheduler_of}
+use Rattle.scheduler_records.specs.Parts.{scheduler_of}
 use Rattle.pool_units.specs.Units.{Units}
 use Rattle.pool_units.proofs.Waiting.{any_of_one, any_of_none}
 use Rattle.arinc_frame.specs.WaitingUnits.{awaited_unit, is_other}

@@ -13,7 +13,7 @@ use Rattle.sched_model.specs.Policy.{fresh_records}
 use Rattle.sched_laws.specs.RecordRanges.{IsFrame}
 use Rattle.sched_ops.specs.Conditions.{is_vacant}
 use Rattle.sched_ops.specs.Seen.{restarted_scheduler}
-use Rattle.plain_policy.specs.Parts.{scheduler_of}
+use Rattle.scheduler_records.specs.Parts.{scheduler_of}
 use Rattle.sched_ops.specs.Affinity.{is_member_among}
 use Rattle.pool_units.proofs.Whole.{affinity_of_vacant, queue_of_vacant}
 use Rattle.arinc_frame.specs.declared.window.Present.{Present}

@@ -8,7 +8,7 @@ use Rattle.sched_model.specs.declared.state.ArincRecords.{ArincRecords}
 use Rattle.sched_model.specs.Arinc.{Window, window_from, window_at, present_window}
 use Rattle.sched_laws.proofs.Window.{cons_window, until_last, mod_more, mod_self}
 use Rattle.sched_laws.specs.RecordRanges.{IsFrame}
-use Rattle.plain_policy.specs.Frames.{window_of}
+use Rattle.scheduler_records.specs.Frames.{window_of}
 use Rattle.arinc_frame.specs.declared.window.Present.{Present}
 use Rattle.arinc_frame.specs.Frames.{IsPresent}
 use Rattle.std.proofs.lemmas.Bool.{le-ltb, ltb-false, lt-ltb}

@@ -4,7 +4,7 @@ use Rattle.std.specs.Option.{ForSome}
 use Rattle.sched_model.specs.declared.state.ArincRecords.{ArincRecords}
 use Rattle.sched_model.specs.Arinc.{present_window}
 use Rattle.sched_laws.specs.RecordRanges.{IsFrame}
-use Rattle.plain_policy.specs.Frames.{window_of}
+use Rattle.scheduler_records.specs.Frames.{window_of}
 use Rattle.arinc_frame.specs.declared.window.Present.{Present}
 
 -- the window was found at a moment when the frame was installed

@@ -25,7 +25,7 @@ ghost use Rattle.sched_model.specs.Arinc.{window_unit};
 ghost use Rattle.sched_model.specs.Policy.{better_waits, decision_of, fresh_records};
 ghost use Rattle.sched_model.specs.declared.state.ArincRecords.{ArincRecords as ArincRecord};
 ghost use Rattle.sched_laws.specs.RecordRanges.{IsFrame};
-ghost use Rattle.plain_policy.specs.Parts.{scheduler_of};
+ghost use Rattle.scheduler_records.specs.Parts.{scheduler_of};
 ghost use Rattle.sched_ops.specs.Conditions.{ArePoolParams};
 ghost use Rattle.sched_ops.specs.Seen.{Tells};
 ghost use Rattle.arinc_frame.specs.Frames.{IsPresent};
@@ -56,7 +56,7 @@ pub struct Arinc {
 
 impl Model for Arinc {
     ghost use Rattle.sched_model.specs.declared.state.Records.TheVariants.{ArincPool};
-    ghost use Rattle.plain_policy.specs.Parts.{scheduler_of};
+    ghost use Rattle.scheduler_records.specs.Parts.{scheduler_of};
     ghost use Rattle.sched_ops.specs.Seen.{Seen};
     ghost use Rattle.arinc_frame.specs.Frames.{IsReady};
 

@@ -5,12 +5,12 @@ ghost use Rattle.std.specs.Prelude.{◌≡◌, ◌≤◌, option_map};
 ghost use Rattle.std.specs.Option.{ForSome};
 ghost use Rattle.sched_model.specs.Arinc.{present_window as present_window_spec};
 ghost use Rattle.sched_laws.specs.RecordRanges.{IsFrame};
-ghost use Rattle.plain_policy.specs.Frames.{window_of};
+ghost use Rattle.scheduler_records.specs.Frames.{window_of};
 ghost use Rattle.arinc_frame.specs.Frames.{IsPresent};
 
-use plain_policy::arinc::{Window, present_window};
 use sched_base::Moment;
 use sched_model::state::ArincRecords;
+use scheduler_records::arinc::{Window, present_window};
 
 /// A window, and the moment at which it was found, in nanoseconds.
 #[derive(Clone, Copy)]

@@ -10,7 +10,7 @@ use Rattle.sched_model.specs.declared.state.Resource.{Resource}
 use Rattle.sched_model.specs.EligibleUnits.{Decision}
 use Rattle.sched_model.specs.Places.{at_place, change_at, clear_at}
 use Rattle.sched_model.specs.Pool.{decided_core}
-pub use Rattle.plain_pool.specs.Cores.{leaving_core, stalled_to, with_sibling}
+pub use Rattle.pool_records.specs.Cores.{leaving_core, stalled_to, with_sibling}
 
 -- the cores by number, for each processor the moment at which the work of the vCPU that it runs is done, and a core's processors
 pub record Seen : Type 0 where

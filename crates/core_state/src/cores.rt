@@ -10,11 +10,10 @@ use crate::dues::{
     Dues, IDS, advance, earlier, empty_dues, first_due_core, first_due_processor, least_of, rearm,
 };
 use crate::ends::{lowest_end, move_end, processor_at};
-use plain_pool::cores::{core_of, first_core, has_domain, home_cores, is_on_core};
-use plain_pool::doing::{change_doing, set_pending};
-use plain_pool::events::{open_if_left, take_saved};
-use plain_pool::leaving::{end_stall, mark_leaving};
-use plain_pool::replenishing::bring_due_at;
+use pool_records::changes::{bring_due_at, open_if_left, take_saved};
+use pool_records::cores::{core_of, first_core, has_domain, home_cores, is_on_core};
+use pool_records::doing::{change_doing, set_pending};
+use pool_records::leaving::{end_stall, mark_leaving};
 use sched_base::{Cores, DomId, Moment, NoMemory, ProcId, ResId, UnitId, VcpuId};
 use sched_model::places::{item_at, set_place, take_item};
 use sched_model::row::{Row, empty_places};

@@ -8,7 +8,7 @@ ghost use Rattle.pool_laws.specs.ReadyMoments.{moment_if as when_spec, later_mom
 ghost use Rattle.core_state.specs.Seen.{processor_among, sibling_of as sibling_of_spec};
 ghost use Rattle.core_state.specs.Ends.{may_decide as may_decide_spec, may_save as may_save_spec, parts as parts_spec, sibling_end, lowest_among};
 
-use plain_pool::cores::{all_held, any_held, is_held, is_open};
+use pool_records::cores::{all_held, any_held, is_held, is_open};
 use sched_base::Moment;
 use sched_model::places::item_at;
 use sched_model::state::{Processor, Resource};

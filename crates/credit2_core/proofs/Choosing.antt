@@ -12,8 +12,8 @@ use Rattle.sched_model.specs.declared.state.Records.TheVariants.{Credit2Pool}
 use Rattle.sched_model.specs.Places.{same_unit, without_unit}
 use Rattle.sched_model.specs.EligibleUnits.{eligible_units}
 use Rattle.sched_model.specs.Credit2.{greatest_unit, credit_of, choice, own_candidate, is_within_limit, best_other}
-use Rattle.plain_credit2.specs.WaitingUnits.{scheduler_of}
-use Rattle.plain_credit2.proofs.Items.{filter-both}
+use Rattle.scheduler_records.specs.Parts.{credit2_scheduler}
+use Rattle.scheduler_records.proofs.Items.{filter-both}
 use Rattle.credit2_core.specs.Choice.{may_take, best_of, credit_or_0}
 use Rattle.std.proofs.Math.Bool.{or_assoc, and_comm, and-false}
 use Rattle.std.proofs.lemmas.Bool.{cases_Bool}
@@ -110,7 +110,7 @@ filter-swap p q units = filter-both p q units ∙ same units ∙ sym (filter-bot
 
 -- the best of the others is the first that may run, once the chosen one has left the queue
 pub other_best : (ask : Ask) (queue : List UnitId) (affinity : List (Option (List Cores))) (first records : Credit2Records) (u : UnitId)
-    → credit_or_0 records (best_of (without_unit u queue) affinity ask.home.0 ask.core.0 records) ≡ best_other ask (scheduler_of queue affinity first) records u
+    → credit_or_0 records (best_of (without_unit u queue) affinity ask.home.0 ask.core.0 records) ≡ best_other ask (credit2_scheduler queue affinity first) records u
 other_best ask queue affinity first records u =
     ap (λ (units : List UnitId). credit_or_0 records (greatest_unit records None units)) (filter-swap (may_take affinity ask.home.0 ask.core.0 records) (λ w. not (same_unit u w)) queue) ∙ same_form (greatest_unit records None (without_unit u (filter (may_take affinity ask.home.0 ask.core.0 records) queue)))
   where

@@ -10,7 +10,7 @@ use Rattle.sched_model.specs.declared.state.Records.TheVariants.{Credit2Pool}
 use Rattle.sched_model.specs.Places.{has_unit}
 use Rattle.sched_model.specs.Credit2.{burn_all, burn_cur, reset, switch_off, choice, decide, domain_has_budget}
 use Rattle.sched_model.specs.Policy.{decision_by}
-use Rattle.plain_credit2.specs.WaitingUnits.{scheduler_of}
+use Rattle.scheduler_records.specs.Parts.{credit2_scheduler}
 use Rattle.sched_laws.proofs.EachPlace.{length_change_each}
 use Rattle.sched_laws.proofs.Choices.{decision_has, at_unit}
 use Rattle.sched_laws.specs.PoolFacts.{IfUnit}
@@ -59,7 +59,7 @@ choice_from ask scheduler records u own is =
     subst (λ (o : Option UnitId). IfUnit P (decide ask scheduler burned o).unit) is chosen
 
 -- the core runs the chosen unit
-pub sound_ran : (h : Credit2State) (ask : Ask) (u : UnitId) (k : ℕ) (q : Queue) → IsSound h → h.latest ≤ ask.at.0 → IsOwnOf (scheduler_in h) ask.cur → choice ask (scheduler_of (arrivals h.queue.units) h.affinity (burn_cur ask.cur ask.at.0 h.records)) (burn_cur ask.cur ask.at.0 h.records) ≡ Some u
+pub sound_ran : (h : Credit2State) (ask : Ask) (u : UnitId) (k : ℕ) (q : Queue) → IsSound h → h.latest ≤ ask.at.0 → IsOwnOf (scheduler_in h) ask.cur → choice ask (credit2_scheduler (arrivals h.queue.units) h.affinity (burn_cur ask.cur ask.at.0 h.records)) (burn_cur ask.cur ask.at.0 h.records) ≡ Some u
     → IsLineOf h.affinity (records_after_run ask.cur ask.at.0 k u (burn_cur ask.cur ask.at.0 h.records)) q.units → IsSameRoom h.queue q → IsSound (record h { records = records_after_run ask.cur ask.at.0 k u (burn_cur ask.cur ask.at.0 h.records); queue = q; latest = ask.at.0 })
 sound_ran h ask u k q sound past own is line room =
     let burned : Credit2Records = burn_cur ask.cur ask.at.0 h.records in

@@ -14,8 +14,8 @@ use Rattle.sched_laws.proofs.Sound.{change_at-twice}
 use Rattle.sched_ranges.proofs.Budget.{get_map}
 use Rattle.sched_ranges.proofs.Decided.{unit_rec}
 use Rattle.sched_ranges.specs.Budgets.{AllRunOnly}
-use Rattle.plain_credit2.specs.Bounds.{own_charged, credit_at}
-use Rattle.plain_credit2.proofs.Steps.{burn_cur-own}
+use Rattle.scheduler_records.specs.Bounds.{own_charged, credit_at}
+use Rattle.scheduler_records.proofs.Steps.{burn_cur-own}
 use Rattle.arrival_queue.specs.Queues.{Queued}
 use Rattle.queue_laws.specs.Arrivals.{arrivals}
 use Rattle.credit2_core.specs.Keys.{HasCredits}

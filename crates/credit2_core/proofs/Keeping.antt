@@ -32,7 +32,7 @@ use Rattle.sched_ops.specs.Conditions.{is_on, is_vacant, IsAway, HasNoneBusy, Ke
 use Rattle.sched_ops.specs.Seen.{Seen, with_scheduler, restarted_scheduler}
 use Rattle.sched_model.specs.declared.config.PoolParams.TheVariants as pool_params
 use Rattle.sched_model.proofs.PlaceLemmas.{at_place-change_at_other}
-use Rattle.plain_credit2.specs.WaitingUnits.{scheduler_of}
+use Rattle.scheduler_records.specs.Parts.{credit2_scheduler}
 use Rattle.arrival_queue.specs.Queues.{Queued}
 use Rattle.runq.specs.Queue.{after_insert, empty_queue as empty}
 use Rattle.queue_laws.specs.Arrivals.{arrivals}
@@ -405,7 +405,7 @@ restarted_is h limit sound vacant =
     let places : h.records.domains ≡ replicate (length h.affinity) None = all_empty_too h.affinity h.records.domains sound.counts none in
     let nobody : arrivals h.queue.units ≡ [] = nobody_waits h.affinity (arrivals h.queue.units) sets sound.line.joined in
     let seen : List UnitId → List (Option (List Cores)) → List (Option Credit2Domain) → Seen = λ units affinity domains.
-    record { scheduler = scheduler_of units affinity (record { limit = limit; last_reset = None; domains = domains }); spare = h.spare; latest = h.latest }
+    record { scheduler = credit2_scheduler units affinity (record { limit = limit; last_reset = None; domains = domains }); spare = h.spare; latest = h.latest }
     in
     ap (λ (units : List UnitId). seen units h.affinity h.records.domains) nobody ∙ ap (λ (affinity : List (Option (List Cores))). seen [] affinity h.records.domains) sets ∙ ap (seen [] (replicate (length h.affinity) None)) places
 

@@ -15,8 +15,8 @@ use Rattle.sched_model.specs.Places.{at_place, change_at, change_each, change_it
 use Rattle.sched_model.specs.EligibleUnits.{has_budget, is_allowed_by}
 use Rattle.sched_model.specs.Credit2.{max_weight, change_domain, domain_has_budget, greatest_unit, credit_of, give_back, reset, take_budget, set_running, switch_off}
 use Rattle.sched_laws.proofs.EachPlace.{by_option, by_cond}
-use Rattle.plain_credit2.specs.Bounds.{own_charged, reset_by}
-use Rattle.plain_credit2.proofs.Steps.{reset-each}
+use Rattle.scheduler_records.specs.Bounds.{own_charged, reset_by}
+use Rattle.scheduler_records.proofs.Steps.{reset-each}
 use Rattle.arrival_queue.specs.Filters.{first_that, has_domain}
 use Rattle.arrival_queue.specs.Queues.{Queued, list_without, is_of, closed_up}
 use Rattle.queue_laws.proofs.Removed.{is_of_same}

@@ -23,7 +23,7 @@ use Rattle.sched_ranges.proofs.Done.{credit2_in_range}
 use Rattle.sched_base.specs.Numbers.{has_come}
 use Rattle.sched_model.specs.Policy.{next_refill}
 use Rattle.sched_model.specs.declared.state.Records.TheVariants.{Credit2Pool}
-use Rattle.plain_units.specs.Fits as plain
+use Rattle.scheduler_records.specs.Fits as shared
 use Rattle.credit2_core.specs.Choice.{records_after_run}
 use Rattle.credit2_core.specs.Credit2State.{InRange}
 
@@ -31,9 +31,9 @@ use Rattle.credit2_core.specs.Credit2State.{InRange}
 abbrev pub Few : ℕ → ℕ → Type 0
 Few d k = k ≤ 32
 
--- the ranges that the plain machine asks
-pub plain_fits : (t : ℕ) (records : Credit2Records) → InRange t records → plain.Credit2Fits t records
-plain_fits t records range = record {
+-- the ranges that the changes of records ask for
+pub shared_fits : (t : ℕ) (records : Credit2Records) → InRange t records → shared.Credit2Fits t records
+shared_fits t records range = record {
   few_domains = range.few;
   limit = range.credits.limit;
   domains = λ d x at. (let budget = range.budgets d x at in credit2_in_range t (Few d) x budget.count (range.credits.domains d x at) budget);

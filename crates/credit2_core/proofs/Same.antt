@@ -10,8 +10,8 @@ use Rattle.sched_model.specs.Places.{at_place, change_at, change_each, change_it
 use Rattle.sched_model.specs.Credit2.{max_weight, burn_unit, burn_units, change_domain, give_back, burn_cur, reset, take_budget, set_running, switch_off, refill_domain, refilled_pool, set_weight, set_cap, set_domain}
 use Rattle.sched_laws.proofs.EachPlace.{by_option, by_cond}
 use Rattle.sched_laws.proofs.Lists.{length_change_item}
-use Rattle.plain_credit2.specs.Bounds.{own_charged, reset_by}
-use Rattle.plain_credit2.proofs.Steps.{burn_cur-own, reset-each}
+use Rattle.scheduler_records.specs.Bounds.{own_charged, reset_by}
+use Rattle.scheduler_records.proofs.Steps.{burn_cur-own, reset-each}
 use Rattle.credit2_core.specs.Choice.{records_after_run}
 use Rattle.credit2_core.specs.Places.{unit_counts, refill_of, refills_of}
 

@@ -6,7 +6,7 @@ use Rattle.arrival_queue.specs.Filters.{first_that}
 use Rattle.arrival_queue.specs.Queues.{Queued}
 use Rattle.sched_model.specs.declared.state.Credit2Records.{Credit2Records}
 use Rattle.sched_model.specs.Places.{at_place}
-use Rattle.plain_credit2.specs.WaitingUnits.{slice_in}
+use Rattle.scheduler_records.specs.Slices.{slice_in}
 use Rattle.sched_model.specs.EligibleUnits.{is_allowed_by}
 use Rattle.sched_model.specs.Credit2.{domain_has_budget, greatest_unit, credit_of, max_weight, set_running, switch_off, change_domain, take_budget, reset, is_better}
 

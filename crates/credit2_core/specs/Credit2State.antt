@@ -11,7 +11,7 @@ use Rattle.sched_model.specs.Places.{has_unit}
 use Rattle.sched_model.specs.EligibleUnits.{cores_of}
 use Rattle.sched_ranges.specs.Fits.{Credit2Fits}
 use Rattle.sched_ranges.specs.Budgets.{Budgets, None2, AllRunOnly}
-use Rattle.plain_credit2.specs.WaitingUnits.{scheduler_of}
+use Rattle.scheduler_records.specs.Parts.{credit2_scheduler}
 use Rattle.arrival_queue.specs.Queues.{Queued}
 use Rattle.runq.specs.Queue.{Queue}
 use Rattle.queue_laws.specs.Arrivals.{arrivals}
@@ -71,7 +71,7 @@ pub record IsSound (h : Credit2State) : Type 0 where
 
 -- the scheduler that callers see
 abbrev pub scheduler_in : Credit2State → Scheduler
-scheduler_in h = scheduler_of (arrivals h.queue.units) h.affinity h.records
+scheduler_in h = credit2_scheduler (arrivals h.queue.units) h.affinity h.records
 
 -- all that callers see
 abbrev pub seen_in : Credit2State → Seen

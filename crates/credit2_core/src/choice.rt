@@ -9,19 +9,19 @@ ghost use Rattle.sched_model.specs.Places.{without_unit, is_unit};
 ghost use Rattle.sched_model.specs.Policy.{better_waits as better_waits_spec};
 ghost use Rattle.sched_model.specs.Credit2.{max_weight, own_candidate as own_candidate_spec, choice as choice_spec, reset as reset_spec, is_within_limit as is_within_limit_spec};
 ghost use Rattle.sched_ops.specs.Conditions.{IsNow, IsOwnOf};
-ghost use Rattle.plain_credit2.specs.Bounds.{PoolFits};
+ghost use Rattle.scheduler_records.specs.Bounds.{PoolFits};
 ghost use Rattle.credit2_core.specs.Credit2State.{IsFree, IsSound, IsLine, IsSameRoom, AreMasks, scheduler_in, seen_in};
 ghost use Rattle.credit2_core.specs.Choice.{best_of, credit_or_0, is_better_of};
 ghost use Rattle.credit2_core.specs.Whole.{IsReadyIn};
 
 use crate::line::{Ready, best_ready, may_be_on, rekey_all, richer};
 use crate::state::Credit2State;
-use plain_credit2::choice::{domain_has_budget, is_within_limit};
-use plain_credit2::running::{burned_credit_by, credit_of, reset};
-use plain_units::eligible::is_allowed;
 use sched_base::{Cores, Moment, ResId, UnitId};
 use sched_model::ask::Ask;
 use sched_model::state::Credit2Records;
+use scheduler_records::credit2_running::{burned_credit_by, credit_of, reset};
+use scheduler_records::credit2_slice::{domain_has_budget, is_within_limit};
+use scheduler_records::eligible::is_allowed;
 
 /// The core's own unit, where it may go on.
 fn own_candidate(state: &Credit2State, ask: &Ask) -> Option<UnitId>

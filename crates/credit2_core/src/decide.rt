@@ -8,7 +8,7 @@ ghost use Rattle.sched_model.specs.Policy.{decision_of, after_decision};
 ghost use Rattle.sched_model.specs.Credit2.{burn_cur as burn_cur_spec, decide, resets_for as resets_for_spec, set_running as set_running_spec, switch_off as switch_off_spec};
 ghost use Rattle.sched_ops.specs.Seen.{Tells, seen_at};
 ghost use Rattle.sched_ops.specs.Conditions.{IsAsked};
-ghost use Rattle.plain_credit2.specs.Bounds.{PoolFits};
+ghost use Rattle.scheduler_records.specs.Bounds.{PoolFits};
 ghost use Rattle.credit2_core.specs.Credit2State.{IsFree, IsSound, IsLine, IsSameRoom, AreMasks, scheduler_in, seen_in};
 ghost use Rattle.credit2_core.specs.Choice.{records_after_run};
 ghost use Rattle.credit2_core.specs.Whole.{IsReadyIn};
@@ -17,12 +17,12 @@ use crate::choice::{choice, leave, reset_pool};
 use crate::line::{Ready, follow};
 use crate::slice::take_slice;
 use crate::state::Credit2State;
-use plain_credit2::choice::resets_for;
-use plain_credit2::running::{charge, set_running, switch_off};
 use sched_base::{Moment, UnitId};
 use sched_model::ask::Ask;
 use sched_model::units::is_there;
 use sched_ops::Choice;
+use scheduler_records::credit2_running::{charge, set_running, switch_off};
+use scheduler_records::credit2_slice::resets_for;
 
 /// The core's own unit is charged.
 fn charge_own(state: &mut Credit2State, ready: &mut Ready, ask: &Ask)

@@ -10,11 +10,11 @@ ghost use Rattle.sched_ops.specs.Affinity.{count_at as count_at_spec};
 ghost use Rattle.credit2_core.specs.Domains.{may_run_at, may_run_bit, set_of, masked_cores};
 
 use due_heap::{DueHeap, put_id};
-use plain_credit2::choice::has_budget;
 use sched_base::{Cores, DomId, Moment, UnitId};
 use sched_model::config::Pins;
 use sched_model::places::item_at;
 use sched_model::state::Credit2Domain;
+use scheduler_records::credit2_slice::has_budget;
 use unit_places::Masks;
 
 /// 1 where the cap lets the domain run, and 0 where it does not or there is no domain.

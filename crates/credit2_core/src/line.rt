@@ -17,12 +17,12 @@ ghost use Rattle.credit2_core.specs.Whole.{IsReadyIn, IsReadyBut, stays_first};
 use crate::domains::{count_at, may_run, runnable_domains, with_domain};
 use crate::state::Credit2State;
 use arrival_queue::has_domain;
-use plain_credit2::running::{credit_of, max_weight};
-use plain_units::eligible::is_allowed;
 use runq::{Allowed, Runq};
 use sched_base::{Cores, DomId, ResId, UnitId};
 use sched_model::config::Pins;
 use sched_model::state::Credit2Records;
+use scheduler_records::credit2_running::{credit_of, max_weight};
+use scheduler_records::eligible::is_allowed;
 
 /// The key of a unit.
 pub fn key_of(records: &Credit2Records, u: UnitId) -> i128

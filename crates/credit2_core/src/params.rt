@@ -19,13 +19,12 @@ ghost use Rattle.credit2_core.specs.Whole.{IsReadyIn};
 use crate::domains::{count_at, rearm, set_masks};
 use crate::line::{Ready, follow};
 use crate::state::Credit2State;
-use plain_credit2::credit2;
-use plain_credit2::running::max_weight;
-use plain_units::pins;
 use sched_base::{Cores, DomId, Moment};
 use sched_model::config::{ParamChange, Pins};
 use sched_model::places::{item_at, set_place};
 use sched_model::short::copies;
+use scheduler_records::credit2_running::max_weight;
+use scheduler_records::{credit2_params, pins};
 use unit_places::Masks;
 
 /// The table of masks has the sets of cores of the domain's units again.
@@ -80,7 +79,7 @@ pub fn join(
     let sets = copies(Cores(u64::MAX), units);
     set_place(&mut state.affinity, d.0, Some(sets));
     refresh(&mut state.masks, state.affinity.as_slice(), d);
-    let domain = credit2::fresh_domain(weight, cap, units, t);
+    let domain = credit2_params::fresh_domain(weight, cap, units, t);
     set_place(&mut state.records.domains, d.0, Some(domain));
     rearm(&mut state.refills, state.records.domains.as_slice(), d);
     state.spare -= units as usize;
@@ -129,7 +128,7 @@ pub fn set_domain(
     ensures sound { IsSound state.new }
     ensures ready { IsReadyIn state.new ready.new }
 {
-    credit2::set_domain(t, d, weight, cap, &mut state.records);
+    credit2_params::set_domain(t, d, weight, cap, &mut state.records);
     rearm(&mut state.refills, state.records.domains.as_slice(), d);
     state.latest = t.0;
     reweigh(state, ready, d);

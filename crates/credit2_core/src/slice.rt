@@ -3,7 +3,7 @@
 ghost use Rattle.std.specs.Prelude.{◌≡◌, ◌≤◌, ◌<◌, length};
 ghost use Rattle.queue_laws.specs.Arrivals.{arrivals};
 ghost use Rattle.sched_model.specs.Credit2.{change_domain, max_weight, take_budget};
-ghost use Rattle.plain_credit2.specs.Bounds.{PoolParamsFit};
+ghost use Rattle.scheduler_records.specs.Bounds.{PoolParamsFit};
 ghost use Rattle.credit2_core.specs.Credit2State.{IsFree, IsLine, AreMasks};
 ghost use Rattle.credit2_core.specs.Whole.{IsReadyIn, IsReadyBut};
 ghost use Rattle.credit2_core.specs.Choice.{best_of, credit_or_0, slice_beside as slice_beside_spec};
@@ -11,12 +11,12 @@ ghost use Rattle.credit2_core.specs.Choice.{best_of, credit_or_0, slice_beside a
 use crate::choice::other_credit;
 use crate::line::{Ready, follow};
 use crate::state::Credit2State;
-use plain_credit2::choice::slice_in;
-use plain_credit2::running::take_at;
 use sched_base::UnitId;
 use sched_model::ask::Ask;
 use sched_model::places::item_at;
 use sched_model::state::Credit2Records;
+use scheduler_records::credit2_running::take_at;
+use scheduler_records::credit2_slice::slice_in;
 
 /// How long the unit runs, where the best of the others has so much credit. The greatest weight of the pool is most.
 fn slice_beside(records: &Credit2Records, most: u32, u: UnitId, other: i64) -> u64

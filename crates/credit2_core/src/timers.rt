@@ -13,13 +13,13 @@ ghost use Rattle.credit2_core.specs.Timing.{come_at, periods_at as periods_at_sp
 use crate::domains::rearm;
 use crate::line::{Ready, follow};
 use crate::state::Credit2State;
-use plain_credit2::credit2;
-use plain_credit2::domain::periods;
 use sched_base::{DomId, Moment};
 use sched_model::event::Event;
 use sched_model::places::item_at;
 use sched_model::state::{Credit2Domain, Credit2Records};
 use sched_ops::Timer;
+use scheduler_records::credit2_domain::periods;
+use scheduler_records::credit2_running;
 
 /// The moment of the domain's refill, where it has come at t.
 fn come(place: &Option<Credit2Domain>, t: Moment) -> Option<u64>
@@ -98,7 +98,7 @@ pub fn refill(state: &mut Credit2State, ready: &mut Ready, d: DomId, t: Moment) 
     ensures ready { IsReadyIn state.new ready.new }
 {
     let periods = periods_at(&state.records, d, t);
-    credit2::refill(t, d, &mut state.records);
+    credit2_running::refill(t, d, &mut state.records);
     rearm(&mut state.refills, state.records.domains.as_slice(), d);
     state.latest = t.0;
     *ready = follow(state, *ready, d, true);

@@ -20,8 +20,8 @@ use Rattle.sched_model.specs.Policy.{default_pool_params}
 use Rattle.sched_laws.specs.EachPlace.{EachPlace}
 use Rattle.sched_laws.proofs.EachPlace.{at_place-clear_at_other}
 use Rattle.sched_laws.proofs.Judged.{AreUnits, Passed, verdict_passed}
-use Rattle.plain_pool.specs.Fits.{DomainFits, PoolFits}
-use Rattle.plain_pool.proofs.FitsLemmas.{at_place-fits}
+use Rattle.pool_records.specs.Fits.{DomainFits, PoolFits}
+use Rattle.pool_records.proofs.FitsLemmas.{at_place-fits}
 use Rattle.plain_opening.specs.OpeningPool.{spare_by, spare_for}
 use Rattle.plain_commands.specs.PlanEffects.{PlanFits, HasSpare, spares_after}
 

@@ -7,9 +7,9 @@ use Rattle.sched_model.specs.declared.state.Pool.{Pool}
 use Rattle.sched_model.specs.Opening.{empty_pool}
 use Rattle.sched_model.specs.Places.{at_place, clear_at}
 use Rattle.sched_model.specs.Policy.{default_pool_params}
-use Rattle.plain_units.specs.Fits.{RecordsFit}
-use Rattle.plain_policy.specs.Parameters.{WeightAndCapFit}
-use Rattle.plain_pool.specs.Fits.{PoolFits}
+use Rattle.scheduler_records.specs.Fits.{RecordsFit}
+use Rattle.plain_schedulers.specs.Parameters.{WeightAndCapFit}
+use Rattle.pool_records.specs.Fits.{PoolFits}
 
 -- the numbers of the pool are in range at t
 pub record FitsAt (t : ℕ) (pool : Pool) : Type 0 where

@@ -10,8 +10,8 @@ ghost use Rattle.sched_model.specs.Actions.{change_pool, home_of_domain};
 ghost use Rattle.sched_model.specs.Commands.{carried_out, change_home, pool_of_plan, set_rtds};
 ghost use Rattle.sched_model.specs.Places.{at_place, put_at, clear_at, change_at, numbers_from};
 ghost use Rattle.sched_model.specs.Pool as pool_spec;
-ghost use Rattle.plain_policy.specs.Parameters.{ChangeFits};
-ghost use Rattle.plain_pool.specs.Fits.{PoolFits};
+ghost use Rattle.plain_schedulers.specs.Parameters.{ChangeFits};
+ghost use Rattle.pool_records.specs.Fits.{PoolFits};
 ghost use Rattle.plain_opening.specs.OpeningPool.{FewWait};
 ghost use Rattle.plain_commands.specs.PlanEffects.{FitsAt, PlanFits, HasSpare, spares_after};
 

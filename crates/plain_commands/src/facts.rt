@@ -4,10 +4,10 @@ ghost use Rattle.std.specs.Prelude.{◌≡◌, ◌+◌, ◌≤◌, ◌<◌, ◌+
 ghost use Rattle.cpupool.specs.Facts.{stored_from, stored_in, rate_at as rate_at_spec, stored_at as stored_at_spec};
 ghost use Rattle.sched_model.specs.Policy.{stored_of as stored_of_spec};
 ghost use Rattle.sched_laws.specs.EachPlace.{EachPlace};
-ghost use Rattle.plain_pool.specs.Fits.{PoolFits};
+ghost use Rattle.pool_records.specs.Fits.{PoolFits};
 
-use plain_policy::records::{credit2_record, rate_of, rtds_record};
-use plain_pool::domains::unit_count;
+use plain_schedulers::records::{credit2_record, rate_of, rtds_record};
+use pool_records::units::unit_count;
 use sched_base::{DomId, Span, UnitId};
 use sched_model::facts::{Facts, Stored, StoredList, Subject};
 use sched_model::places::item_at;

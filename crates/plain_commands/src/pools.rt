@@ -6,20 +6,20 @@ ghost use Rattle.sched_laws.specs.EachPlace.{EachPlace};
 ghost use Rattle.sched_model.specs.Places.{change_at, numbers_from};
 ghost use Rattle.sched_model.specs.Pool as pool_spec;
 ghost use Rattle.sched_model.specs.Commands.{set_rtds as set_rtds_spec, set_rtds_unit as set_rtds_unit_spec};
-ghost use Rattle.plain_policy.specs.Parameters.{ChangeFits};
-ghost use Rattle.plain_pool.specs.Fits.{PoolFits};
+ghost use Rattle.plain_schedulers.specs.Parameters.{ChangeFits};
+ghost use Rattle.pool_records.specs.Fits.{PoolFits};
 ghost use Rattle.plain_opening.specs.OpeningPool.{FewWait};
 ghost use Rattle.plain_commands.specs.PlanEffects.{FitsAt};
 
-use plain_policy::rtds::{rtds_unit, set_next};
-use plain_pool::leaving::set_leaving;
 use plain_pool::params::set_params;
 use plain_pool::pausing::{pause, set_moving, unpause};
+use pool_records::leaving::set_leaving;
 use sched_base::{DomId, Moment, ResId, Span, UnitId};
 use sched_model::config::ParamChange;
 use sched_model::facts::RtdsGiven;
 use sched_model::row::Row;
 use sched_model::state::{Pool, Records};
+use scheduler_records::rtds::{rtds_unit, set_next};
 
 /// The core is leaving the pool.
 pub fn set_leaving_at(i: usize, core: ResId, pools: &mut Row<Option<Pool>>)

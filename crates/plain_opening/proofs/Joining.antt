@@ -9,7 +9,7 @@ use Rattle.sched_model.specs.declared.config.SchedKind.TheVariants as kinds
 use Rattle.sched_model.specs.declared.config.DomParams.{DomParams}
 use Rattle.sched_model.specs.declared.config.DomParams.TheVariants as dom_params
 use Rattle.sched_model.specs.CheckedMachine.{IsCheckedConfig, IsCheckedDomain, DomParamsPass}
-use Rattle.plain_policy.specs.Parameters.{ParamsFit}
+use Rattle.plain_schedulers.specs.Parameters.{ParamsFit}
 use Rattle.plain_opening.specs.OpeningPool.{JoinFits}
 
 -- parameters that pass the checks of a scheduler are in range

@@ -1,24 +1,17 @@
 -- What the opening makes, place by place.
-use Rattle.std.specs.Prelude.{◌≤◌, ◌==◌, length, ℕ, suc, [], ◌∷◌, List, Option, Some, None, Ok, Err, map, replicate, unwrap_or, if◌then◌else◌}
-use Rattle.sched_base.specs.Numbers.{moment}
+use Rattle.std.specs.Prelude.{◌≤◌, ◌==◌, length, ℕ, suc, [], ◌∷◌, List, Option, Some, None, Ok, Err, map, unwrap_or, if◌then◌else◌}
 use Rattle.sched_model.specs.declared.command.Command.{Command}
 use Rattle.sched_model.specs.declared.command.Command.TheVariants as command
 use Rattle.sched_model.specs.declared.config.Config.{Config}
 use Rattle.sched_model.specs.declared.config.SchedKind.TheVariants as kinds
 use Rattle.sched_model.specs.declared.config.DomConfig.{DomConfig}
 use Rattle.sched_model.specs.declared.config.PoolConfig.{PoolConfig}
-use Rattle.plain_policy.specs.Parameters.{ParamsFit}
+use Rattle.plain_schedulers.specs.Parameters.{ParamsFit}
 use Rattle.sched_model.specs.declared.machine.Machine.{Machine}
-use Rattle.sched_model.specs.declared.state.Resource.{Resource}
 use Rattle.sched_model.specs.declared.state.Pool.{Pool}
 use Rattle.sched_model.specs.declared.work.CommandLine.{CommandLine}
-use Rattle.sched_model.specs.Opening.{fresh_core, empty_pool, with_configured, opening_pool}
+use Rattle.sched_model.specs.Opening.{empty_pool, with_configured, opening_pool}
 use Rattle.sched_model.specs.Policy.{default_pool_params}
-use Rattle.sched_model.specs.State.{has_core}
-
--- the core r of g processors, where it is in the set
-abbrev pub opening_core : ℕ → ℕ → ℕ → Option Resource
-opening_core g cores r = (if has_core cores r then Some (fresh_core (replicate g (moment 0))) else None)
 
 -- the pool that the command makes, where it makes one
 abbrev pub spare_by : Config → Command → Option Pool

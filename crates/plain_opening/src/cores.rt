@@ -1,43 +1,20 @@
 //! The cores at the opening.
 
-ghost use Rattle.std.specs.Prelude.{◌≡◌, ◌+◌, ◌≤◌, ◌<◌, ◌^◌, ◌∷◌, [], List, Option, Some, None, IfOk, replicate, length, map, if◌then◌else◌};
+ghost use Rattle.std.specs.Prelude.{◌≡◌, ◌≤◌, ◌<◌, IfOk, length, map};
 ghost use Rattle.std.specs.List.{list_any};
-ghost use Rattle.sched_base.specs.Numbers.{moment};
 ghost use Rattle.sched_model.specs.Places.{numbers_from};
 ghost use Rattle.sched_model.specs.State.{has_core as has_core_spec};
 ghost use Rattle.sched_model.specs.Opening.{opening_free as opening_free_spec};
 ghost use Rattle.sched_model.specs.declared.config.PoolConfig.{PoolConfig as PoolRecord};
-ghost use Rattle.plain_opening.specs.OpeningPool.{opening_core};
+ghost use Rattle.pool_records.specs.OpeningCores.{opening_core};
 
-use plain_pool::leaving::fresh_core;
-use sched_base::{Moment, NoMemory, ResId};
+use pool_records::leaving::fresh_core;
+use pool_records::opening::{has_core, no_stalls};
+use sched_base::{NoMemory, ResId};
 use sched_model::config::{Config, PoolConfig};
-use sched_model::facts::StallEnds;
 use sched_model::row::Row;
-use sched_model::short::Short;
 use sched_model::state::{FreeCore, Resource};
 use std::alloc::Global;
-
-/// Whether the core is in the set.
-pub fn has_core(cores: u64, r: ResId) -> bool
-    requires { r.0 < 64 }
-    ensures { result ≡ has_core_spec cores r.0 }
-{
-    cores / (1u64 << r.0) % 2 == 1
-}
-
-/// The ends of the stalls of g processors that were never stalled.
-#[tactic(auto, using(sched_model::proofs::Replicate::replicate_one_more))]
-pub fn no_stalls(g: u8) -> StallEnds
-    requires { g ≤ 4 }
-    ensures { result ≡ replicate g (moment 0) }
-{
-    let mut ends = Short::new();
-    for i in 0..g {
-        ends.push(Moment(0));
-    }
-    ends
-}
 
 /// The core r, where it is in the set.
 fn core_of_set(cores: u64, r: ResId, g: u8) -> Option<Resource>
@@ -97,7 +74,7 @@ fn free_core(config: &Config, r: ResId) -> Option<FreeCore>
 }
 
 /// The cores of no pool: one place for each core of the machine.
-#[tactic(auto, using(crate::proofs::Growing::numbers_one_more))]
+#[tactic(auto, using(pool_records::proofs::Growing::numbers_one_more))]
 pub fn free_cores(
     alloc: Global,
     config: &Config,

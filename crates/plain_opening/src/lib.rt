@@ -3,5 +3,4 @@
 
 pub mod cores;
 pub mod opening;
-pub mod rows;
 pub mod spare;

@@ -5,19 +5,20 @@ ghost use Rattle.sched_model.specs.declared.config.PoolConfig.{PoolConfig as Poo
 ghost use Rattle.sched_model.specs.CheckedMachine.{IsChecked, IsCheckedConfig};
 ghost use Rattle.sched_model.specs.Opening.{with_pins as with_pins_spec, with_configured as with_configured_spec, with_domains as with_domains_spec, opening_pool as opening_pool_spec, opening_pools as opening_pools_spec, opening};
 ghost use Rattle.std.specs.List.{All};
-ghost use Rattle.plain_policy.specs.Parameters.{ParamsFit};
+ghost use Rattle.plain_schedulers.specs.Parameters.{ParamsFit};
 ghost use Rattle.plain_opening.specs.OpeningPool.{FewWait, AllFewWait, JoinFits, configured_if as configured_if_spec};
 
 use crate::cores::{free_cores, fresh_cores};
-use crate::rows::fresh_vcpus;
-use crate::spare::{core_count, pool_of_cores};
+use crate::spare::pool_of_cores;
 use plain_pool::domains::with_domain;
-use plain_units::pins::pin;
+use pool_records::opening::core_count;
+use pool_records::rows::fresh_vcpus;
 use sched_base::{Cores, DomId, Moment, Name, NoMemory};
 use sched_model::config::{Config, DomConfig, PoolConfig};
 use sched_model::machine::{MOST_POOLS, Machine};
 use sched_model::row::Row;
 use sched_model::state::{Domain, Pool, State};
+use scheduler_records::pins::pin;
 use std::alloc::Global;
 
 /// The sets of cores of the units of the domain d set, the first of them that of unit n.

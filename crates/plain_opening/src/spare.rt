@@ -1,11 +1,11 @@
 //! Pools without domains and cores, and those that the commands of a work file may make.
 
-ghost use Rattle.std.specs.Prelude.{◌≡◌, ◌<◌, ◌/◌, [], Option, Some, None, IfOk, replicate};
-ghost use Rattle.sched_model.specs.Opening.{empty_pool as empty_pool_spec, core_count as core_count_spec};
+ghost use Rattle.std.specs.Prelude.{◌≡◌, ◌<◌, [], None, IfOk, replicate};
+ghost use Rattle.sched_model.specs.Opening.{empty_pool as empty_pool_spec};
 ghost use Rattle.sched_model.specs.Policy.{fresh_records as fresh_records_spec};
 ghost use Rattle.plain_opening.specs.OpeningPool.{spare_for as spare_for_spec, spares_of};
 
-use plain_policy::params::default_pool_params;
+use pool_records::opening::core_count;
 use sched_base::NoMemory;
 use sched_model::command::Command;
 use sched_model::config::{Config, PoolParams, SchedKind, same_frame};
@@ -14,15 +14,8 @@ use sched_model::row::{Row, empty_places};
 use sched_model::short::Short;
 use sched_model::state::{ArincRecords, Credit2Records, Pool, Records, Resource, Scheduler};
 use sched_model::work::CommandLine;
+use scheduler_records::params::default_pool_params;
 use std::alloc::Global;
-
-/// How many cores the machine has.
-pub fn core_count(config: &Config) -> u8
-    requires { 0 < config.now.granularity }
-    ensures { result ≡ core_count_spec config.now }
-{
-    config.processors / config.granularity
-}
 
 /// The records of a pool with these parameters and no domain, on a machine of so many domains and cores.
 fn fresh_records(

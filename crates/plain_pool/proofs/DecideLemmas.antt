@@ -11,9 +11,9 @@ use Rattle.sched_model.specs.Places.{at_place, change_at}
 use Rattle.sched_model.specs.EligibleUnits.{Decision}
 use Rattle.sched_model.specs.Policy.{decision_of, after_decision}
 use Rattle.sched_model.specs.Pool.{after_in, after_decide, ask_of, decided_core}
-use Rattle.plain_units.specs.Tells.{Tells}
+use Rattle.plain_schedulers.specs.Tells.{Tells}
 use Rattle.plain_pool.specs.Decisions.{decided_by}
-use Rattle.plain_units.specs.declared.decided.Decided.{Decided}
+use Rattle.plain_schedulers.specs.declared.decided.Decided.{Decided}
 
 -- the core, by the answer and by the decision
 decided_by-decided : (t : ℕ) (answer : Decided) (decision : Decision) (c : Resource) → Tells answer decision → decided_by t answer c ≡ decided_core t decision c

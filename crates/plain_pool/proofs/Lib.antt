@@ -1,4 +1,9 @@
-pub mod FitsLemmas
+pub mod Best
 pub mod DecideLemmas
-pub mod Replenished
+pub mod Leasts
+pub mod Lists
+pub mod Looking
 pub mod QueueLemmas
+pub mod ReadyLaw
+pub mod ReadyParts
+pub mod Replenished

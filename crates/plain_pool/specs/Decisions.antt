@@ -4,7 +4,7 @@ use Rattle.sched_base.specs.Numbers.{moment}
 use Rattle.sched_model.specs.declared.state.Resource.{Resource}
 use Rattle.sched_model.specs.declared.state.Stage.TheVariants as stage
 use Rattle.sched_model.specs.Pool.{same_choice}
-use Rattle.plain_units.specs.declared.decided.Decided.{Decided}
+use Rattle.plain_schedulers.specs.declared.decided.Decided.{Decided}
 
 -- the core with what was decided
 abbrev pub decided_by : ℕ → Decided → Resource → Resource

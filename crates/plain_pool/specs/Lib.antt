@@ -1,7 +1,7 @@
-pub mod Cores
 pub mod Decisions
-pub mod Fits
-pub mod Marks
+pub mod Looks
+pub mod Pauses
+pub mod Ready
 pub mod Records
 pub mod Rows
 pub mod Wakes

@@ -1,20 +1,19 @@
 //! A core decides. g is the number of a core's processors, t the moment.
 
 ghost use Rattle.sched_model.specs.CheckedMachine.{most_span};
-ghost use Rattle.std.specs.Prelude.{◌≡◌, ◌≤◌, ◌<◌, length, IsTrue, false, None, Some};
-ghost use Rattle.sched_base.specs.Numbers.{span};
+ghost use Rattle.std.specs.Prelude.{◌≡◌, ◌≤◌, length, IsTrue};
 ghost use Rattle.sched_model.specs.declared.action.Action.TheVariants.{Decide};
 ghost use Rattle.sched_model.specs.Places.{change_at};
-ghost use Rattle.sched_model.specs.Pool.{enabled_in, after_in, event_in, ask_of as ask_of_spec, lateness};
-ghost use Rattle.plain_units.specs.Fits.{RecordsFit};
+ghost use Rattle.sched_model.specs.Pool.{enabled_in, after_in, event_in, ask_of as ask_of_spec};
+ghost use Rattle.scheduler_records.specs.Fits.{RecordsFit};
 ghost use Rattle.plain_pool.specs.Decisions.{decided_by};
-ghost use Rattle.plain_pool.specs.Fits.{PoolFits};
+ghost use Rattle.pool_records.specs.Fits.{PoolFits};
 
-use crate::cores::home_cores;
-use crate::runnable::is_runnable;
-use plain_policy::policy::decide as decide_by_policy;
-use plain_units::decided::Decided;
-use sched_base::{Cores, Moment, ResId, Span};
+use plain_schedulers::decided::Decided;
+use plain_schedulers::policy::decide as decide_by_policy;
+use pool_records::cores::{home_cores, lateness_of};
+use pool_records::runnable::is_runnable;
+use sched_base::{Cores, Moment, ResId};
 use sched_model::ask::Ask;
 use sched_model::event::Event;
 use sched_model::places::item_at;
@@ -39,16 +38,6 @@ pub fn ask_of(g: u8, t: Moment, pool: &Pool, r: ResId, c: &Resource) -> Ask
         at: t,
         core: r,
         home: Cores(home_cores(pool.resources.as_slice())),
-    }
-}
-
-/// How much later than its due the core decides.
-pub fn lateness_of(t: Moment, c: &Resource) -> Span
-    ensures { result ≡ span (lateness t.0 c.now) }
-{
-    match c.due {
-        None => Span(0),
-        Some(due) => Span(t.0.saturating_sub(due.0)),
     }
 }
 

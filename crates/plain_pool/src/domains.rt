@@ -3,29 +3,18 @@
 ghost use Rattle.sched_model.specs.CheckedMachine.{most_span};
 ghost use Rattle.std.specs.Prelude.{◌≡◌, ◌<◌, ◌≤◌, length};
 ghost use Rattle.sched_model.specs.Places.{at_place, numbers_from};
-ghost use Rattle.sched_model.specs.Pool.{unit_count as unit_count_spec, queue_if_off as queue_if_off_spec, queue_units as queue_units_spec, with_domain as with_domain_spec, without_domain as without_domain_spec};
-ghost use Rattle.plain_policy.specs.Parameters.{ParamsFit};
+ghost use Rattle.sched_model.specs.Pool.{queue_if_off as queue_if_off_spec, queue_units as queue_units_spec, with_domain as with_domain_spec, without_domain as without_domain_spec};
+ghost use Rattle.plain_schedulers.specs.Parameters.{ParamsFit};
 
-use crate::runnable::is_runnable;
 use crate::waking::is_off;
-use plain_policy::params::{join, part};
-use plain_policy::queue::enqueue;
+use plain_schedulers::params::{join, part};
+use plain_schedulers::queue::enqueue;
+use pool_records::runnable::is_runnable;
+use pool_records::units::unit_count;
 use sched_base::{DomId, Moment, UnitId};
 use sched_model::config::DomParams;
 use sched_model::places::{set_place, take_item};
-use sched_model::row::Row;
 use sched_model::state::{Domain, Pool};
-
-/// How many units of g vCPUs the domain has.
-pub fn unit_count(g: u8, domain: &Domain) -> u8
-    requires some { 0 < g }
-    requires few { g ≤ 4 }
-    requires vcpus { length domain.now.vcpus ≤ 32 }
-    ensures count { result ≡ unit_count_spec g domain.now }
-    ensures fits { result ≤ 32 }
-{
-    ((domain.vcpus.len() + g as usize - 1) / g as usize) as u8
-}
 
 /// The unit joins the queue where it is runnable and off.
 fn queue_if_off(g: u8, u: UnitId, pool: &mut Pool)

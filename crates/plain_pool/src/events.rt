@@ -1,29 +1,27 @@
 //! The events of one pool, before its cores are looked at. g is the number of a core's processors, t the moment.
 
 ghost use Rattle.sched_model.specs.CheckedMachine.{most_span};
-ghost use Rattle.std.specs.Prelude.{◌≡◌, ◌+◌, ◌*◌, ◌<◌, ◌≤◌, ◌/◌, ◌%◌, length, IsTrue, Some, None, true};
+ghost use Rattle.std.specs.Prelude.{◌≡◌, ◌<◌, ◌≤◌, length, IsTrue, true};
 ghost use Rattle.sched_model.specs.declared.action.Action.TheVariants.{Slice, Arrive, Leave, Save};
-ghost use Rattle.sched_model.specs.Places.{change_at};
-ghost use Rattle.sched_model.specs.Pool.{enabled_in, after_in, event_in, vcpu_for as vcpu_for_spec, open_if_left as open_if_left_spec, saved_core, saving_among};
-ghost use Rattle.plain_units.specs.Fits.{RecordsFit};
-ghost use Rattle.plain_pool.specs.Fits.{PoolFits};
+ghost use Rattle.sched_model.specs.Pool.{enabled_in, after_in, event_in, vcpu_for as vcpu_for_spec};
+ghost use Rattle.scheduler_records.specs.Fits.{RecordsFit};
+ghost use Rattle.pool_records.specs.Fits.{PoolFits};
 ghost use Rattle.sched_model.specs.Actions.{IsOfPool};
 
-use crate::cores::any_held;
 use crate::deciding::decide;
-use crate::doing::{change_doing, set_pending, take};
 use crate::pool::guest_of;
 use crate::replenishing::{refill, replenish};
-use crate::runnable::is_runnable;
-use crate::vcpus::{stop_vcpu, vcpu_of};
 use crate::waking::{block, wake};
-use plain_policy::queue::enqueue;
-use sched_base::{Moment, ProcId, ResId, UnitId, VcpuId};
+use plain_schedulers::queue::enqueue;
+use pool_records::changes::{open_if_left, take_saved};
+use pool_records::doing::{change_doing, set_pending, take};
+use pool_records::runnable::is_runnable;
+use pool_records::vcpus::{stop_vcpu, vcpu_of};
+use sched_base::{Moment, ProcId, ResId, VcpuId};
 use sched_model::action::Action;
 use sched_model::event::Event;
 use sched_model::places::item_at;
-use sched_model::row::Row;
-use sched_model::state::{Doing, Pool, Resource, Stage};
+use sched_model::state::{Doing, Pool, Resource};
 
 /// The core's due has come.
 pub fn slice(g: u8, t: Moment, r: ResId, pool: &mut Pool) -> Event
@@ -66,36 +64,6 @@ pub fn vcpu_for(g: u8, pool: &Pool, c: &Resource, i: u8) -> Option<VcpuId>
     let x = vcpu_of(pool.domains.as_slice(), v)?;
     if is_runnable(g, pool.domains.as_slice(), u) && x.asleep_until.is_none() {
         Some(v)
-    } else {
-        None
-    }
-}
-
-/// The stage is open again once nobody is held.
-pub fn open_if_left(r: ResId, cores: &mut Row<Option<Resource>>)
-    ensures { cores.new ≡ change_at r.0 open_if_left_spec cores.old }
-{
-    let place = r.0 as usize;
-    if place < cores.len() {
-        if let Some(c) = cores.item_mut(place) {
-            if !any_held(c.processors.as_slice()) {
-                c.stage = Stage::Open;
-            }
-        }
-    }
-}
-
-/// The unit that the core is saving is taken out.
-pub fn take_saved(r: ResId, cores: &mut Row<Option<Resource>>) -> Option<UnitId>
-    ensures unit { result ≡ saving_among cores.old r.0 }
-    ensures cores { cores.new ≡ change_at r.0 saved_core cores.old }
-{
-    if let Some(place) = cores.get_mut(r.0 as usize)
-        && let Some(c) = place
-    {
-        let unit = c.saving;
-        c.saving = None;
-        unit
     } else {
         None
     }

@@ -1,17 +1,14 @@
-//! One pool: when its events may come, and what they do.
+//! One pool: when its events may come, what they do, which cores are to decide anew, and from when on something of it may come.
 #![tactic(auto)]
 
-pub mod cores;
 pub mod deciding;
-pub mod doing;
 pub mod domains;
 pub mod events;
-pub mod leaving;
+pub mod look;
 pub mod params;
 pub mod pausing;
 pub mod pool;
+pub mod ready;
 pub mod replenishing;
-pub mod runnable;
 pub mod settle;
-pub mod vcpus;
 pub mod waking;

@@ -4,12 +4,12 @@ ghost use Rattle.sched_model.specs.CheckedMachine.{most_span};
 ghost use Rattle.std.specs.Prelude.{◌≡◌, ◌≤◌};
 ghost use Rattle.sched_model.specs.Places.{change_each};
 ghost use Rattle.sched_model.specs.Pool.{set_params as set_params_spec};
-ghost use Rattle.plain_units.specs.Fits.{RecordsFit};
-ghost use Rattle.plain_policy.specs.Parameters.{ChangeFits};
-ghost use Rattle.plain_pool.specs.Marks.{due_now_of, pending_each, marked_cores};
+ghost use Rattle.scheduler_records.specs.Fits.{RecordsFit};
+ghost use Rattle.plain_schedulers.specs.Parameters.{ChangeFits};
+ghost use Rattle.pool_records.specs.Marks.{due_now_of, pending_each, marked_cores};
 
-use plain_policy::params::set_params as set_scheduler;
-use plain_units::units::is_of_domain;
+use plain_schedulers::params::set_params as set_scheduler;
+use pool_records::cores::is_of_domain;
 use sched_base::{DomId, Moment};
 use sched_model::config::ParamChange;
 use sched_model::row::Row;

@@ -1,16 +1,18 @@
 //! Domains that are paused or leave for another pool. g is the number of a core's processors.
 
-ghost use Rattle.std.specs.Prelude.{◌≡◌, ◌<◌, ◌≤◌, Some, length};
-ghost use Rattle.sched_model.specs.declared.state.Domain.{Domain as DomainRecord};
-ghost use Rattle.sched_model.specs.Places.{change_at, change_each};
+ghost use Rattle.std.specs.Prelude.{◌≡◌, ◌<◌, ◌≤◌, length};
+ghost use Rattle.sched_model.specs.Places.{change_each};
 ghost use Rattle.sched_laws.specs.EachPlace.{AllPlaces};
 ghost use Rattle.sched_model.specs.Pool.{withdrawn_pool, pause as pause_spec, unpause as unpause_spec, set_moving as set_moving_spec};
-ghost use Rattle.plain_pool.specs.Fits.{DomainFits, PoolFits};
-ghost use Rattle.plain_pool.specs.Marks.{pending_of, is_paused_at, paused_count};
+ghost use Rattle.pool_records.specs.Fits.{DomainFits, PoolFits};
+ghost use Rattle.pool_records.specs.Marks.{pending_of};
+ghost use Rattle.plain_pool.specs.Pauses.{is_paused_at, paused_count};
 
-use crate::domains::{queue_units, unit_count};
-use plain_policy::queue::dequeue_domain;
-use plain_units::units::is_of_domain;
+use crate::domains::queue_units;
+use plain_schedulers::queue::dequeue_domain;
+use pool_records::cores::is_of_domain;
+use pool_records::pausing::{set_paused, set_target};
+use pool_records::units::unit_count;
 use sched_base::{DomId, PoolId};
 use sched_model::places::item_at;
 use sched_model::row::Row;
@@ -44,18 +46,6 @@ fn is_paused(d: DomId, domains: &[Option<Domain>]) -> bool
     match item_at(domains, d.0 as usize) {
         None => false,
         Some(domain) => domain.paused,
-    }
-}
-
-/// The domain is paused, or no longer.
-pub fn set_paused(d: DomId, paused: bool, domains: &mut Row<Option<Domain>>)
-    ensures { domains.new ≡ change_at d.0 (λ (domain : DomainRecord).
-        record domain { paused = paused }) domains.old }
-{
-    if let Some(place) = domains.get_mut(d.0 as usize)
-        && let Some(domain) = place
-    {
-        domain.paused = paused;
     }
 }
 
@@ -99,18 +89,6 @@ pub fn unpause(g: u8, d: DomId, pool: &mut Pool)
     if let Some(count) = paused_units(g, d, pool.domains.as_slice()) {
         set_paused(d, false, &mut pool.domains);
         queue_units(g, d, count, pool);
-    }
-}
-
-/// The domain has this pool to move to, or none any more.
-pub fn set_target(d: DomId, to: Option<PoolId>, domains: &mut Row<Option<Domain>>)
-    ensures { domains.new ≡ change_at d.0 (λ (domain : DomainRecord).
-        record domain { moving = to }) domains.old }
-{
-    if let Some(place) = domains.get_mut(d.0 as usize)
-        && let Some(domain) = place
-    {
-        domain.moving = to;
     }
 }
 

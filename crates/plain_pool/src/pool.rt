@@ -4,16 +4,16 @@ ghost use Rattle.std.specs.Prelude.{◌≡◌, ◌<◌, ◌≤◌, ◌/◌, ◌%
 ghost use Rattle.std.specs.Option.{option_copied};
 ghost use Rattle.sched_model.specs.Pool.{enabled_in, processor_of as processor_of_spec, guest_of as guest_of_spec, lowest_up as lowest_up_spec};
 ghost use Rattle.sched_model.specs.declared.action.Action.TheVariants.{Moved, DomMoved, Wake, Block, Slice, Repl, Refill, Arrive, Decide, Leave, Save};
-ghost use Rattle.plain_pool.specs.Fits.{PoolFits};
+ghost use Rattle.pool_records.specs.Fits.{PoolFits};
 ghost use Rattle.plain_pool.specs.Rows.{done_among, processor_up};
 
-use crate::cores::{
+use plain_schedulers::queue::has_unit;
+use plain_schedulers::records::{next_refill, replenish_due};
+use pool_records::cores::{
     all_held, any_held, core_of, first_core, first_up, has_come, has_domain, is_held, is_open,
     is_up,
 };
-use crate::vcpus::{done_at, vcpu_of};
-use plain_policy::records::{next_refill, replenish_due};
-use plain_units::units::has_unit;
+use pool_records::vcpus::{done_at, vcpu_of};
 use sched_base::{DomId, Moment, ProcId, ResId, UnitId, VcpuId};
 use sched_model::action::Action;
 use sched_model::places::item_at;

@@ -1,51 +1,25 @@
 //! Replenishments of RTDS units and refills of Credit2 domains. g is the number of a core's processors, t the moment.
 
 ghost use Rattle.sched_model.specs.CheckedMachine.{most_span};
-ghost use Rattle.std.specs.Prelude.{◌≡◌, ◌+◌, ◌≤◌, IsTrue, Some, length, min, true};
-ghost use Rattle.sched_base.specs.Numbers.{moment};
+ghost use Rattle.std.specs.Prelude.{◌≡◌, ◌≤◌, IsTrue, Some, length, true};
 ghost use Rattle.sched_model.specs.declared.action.Action.TheVariants.{Repl, Refill};
 ghost use Rattle.sched_model.specs.declared.state.Resource.{Resource as ResourceRecord};
-ghost use Rattle.sched_model.specs.Places.{change_at, first_place, is_unit};
+ghost use Rattle.sched_model.specs.Places.{first_place, is_unit};
 ghost use Rattle.sched_model.specs.Policy.{replenish as replenish_spec, replenish_due, rtds_record as rtds_record_spec};
-ghost use Rattle.sched_model.specs.Pool.{enabled_in, after_in, event_in, due_within};
-ghost use Rattle.plain_units.specs.Fits.{RecordsFit};
-ghost use Rattle.plain_pool.specs.Fits.{PoolFits};
+ghost use Rattle.sched_model.specs.Pool.{enabled_in, after_in, event_in};
+ghost use Rattle.scheduler_records.specs.Fits.{RecordsFit};
+ghost use Rattle.pool_records.specs.Fits.{PoolFits};
 ghost use Rattle.plain_pool.specs.Records.{budget_at, due_at_core, periods_at};
 
-use crate::cores::core_of;
-use plain_policy::policy::{refill as refill_records, replenish as replenish_records};
-use plain_policy::records::{credit2_record, periods, rtds_record};
+use plain_schedulers::policy::{refill as refill_records, replenish as replenish_records};
+use plain_schedulers::records::{credit2_record, rtds_record};
+use pool_records::changes::bring_due_at;
+use pool_records::cores::core_of;
 use sched_base::{DomId, Moment, Span, UnitId};
 use sched_model::event::Event;
 use sched_model::row::Row;
 use sched_model::state::{Pool, Records, Resource, RtdsUnit};
-
-/// The due, or the moment at which the budget is used up, if that is earlier.
-fn sooner(t: Moment, budget: u64, due: Moment) -> Moment
-    ensures { result ≡ moment (min (t.0 + budget) due.0) }
-{
-    Moment(t.0.saturating_add(budget).min(due.0))
-}
-
-/// The core asks again after the budget at the latest, where it is to ask again at all.
-fn bring_due(t: Moment, budget: u64, c: &mut Resource)
-    ensures { c.new ≡ due_within t.0 budget c.old }
-{
-    if let Some(due) = c.due {
-        c.due = Some(sooner(t, budget, due));
-    }
-}
-
-/// The same of the core at this place.
-pub fn bring_due_at(r: usize, t: Moment, budget: u64, cores: &mut Row<Option<Resource>>)
-    ensures { cores.new ≡ change_at r (due_within t.0 budget) cores.old }
-{
-    if let Some(place) = cores.get_mut(r)
-        && let Some(c) = place
-    {
-        bring_due(t, budget, c);
-    }
-}
+use scheduler_records::credit2_domain::periods;
 
 /// The same of the core that has the unit as its cur, if one has.
 fn bring_due_of(u: UnitId, t: Moment, budget: u64, cores: &mut Row<Option<Resource>>)

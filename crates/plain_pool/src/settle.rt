@@ -1,32 +1,48 @@
-//! The closure: which cores are to decide anew after an event.
+//! The closure: which cores are to decide anew after an event. One scan of the waiting units serves all cores.
 
 ghost use Rattle.sched_model.specs.CheckedMachine.{most_span};
 ghost use Rattle.std.specs.Prelude.{◌≡◌, ◌<◌, ◌≤◌, length};
 ghost use Rattle.sched_model.specs.Places.{change_each};
 ghost use Rattle.sched_model.specs.Pool.{reconsidered_core, settled_pool};
-ghost use Rattle.plain_units.specs.Fits.{RecordsFit};
-ghost use Rattle.plain_pool.specs.Fits.{PoolFits};
+ghost use Rattle.scheduler_records.specs.Fits.{RecordsFit};
+ghost use Rattle.pool_records.specs.Fits.{PoolFits};
+ghost use Rattle.plain_pool.specs.Looks.{Finds};
 
-use crate::cores::home_cores;
-use plain_policy::policy::better_waits;
+use crate::look::{Look, better_waits, look_of};
+use pool_records::cores::home_cores;
 use sched_base::{Cores, Moment, ResId};
 use sched_model::row::Row;
 use sched_model::state::{Pool, Resource, Scheduler};
 
 /// The core is pending where it is not leaving and is to decide anew.
-fn reconsider(scheduler: &Scheduler, home: Cores, core: ResId, t: Moment, c: &mut Resource)
+fn reconsider(
+    scheduler: &Scheduler,
+    look: &Look,
+    home: Cores,
+    core: ResId,
+    t: Moment,
+    c: &mut Resource,
+)
+    requires look { Finds look.now t.0 scheduler.now }
     requires records { RecordsFit t.0 scheduler.now.records }
     requires early { t.0 ≤ most_span }
     requires core { core.0 < 64 }
     ensures { c.new ≡ reconsidered_core t.0 home.0 scheduler.now core.0 c.old }
 {
     if !c.leaving && !c.pending {
-        c.pending = better_waits(c.cur, c.since, t, core, home, scheduler);
+        c.pending = better_waits(look, c.cur, c.since, t, core, home, scheduler);
     }
 }
 
 /// Each core is looked at.
-fn reconsider_all(scheduler: &Scheduler, home: Cores, t: Moment, cores: &mut Row<Option<Resource>>)
+fn reconsider_all(
+    scheduler: &Scheduler,
+    look: &Look,
+    home: Cores,
+    t: Moment,
+    cores: &mut Row<Option<Resource>>,
+)
+    requires look { Finds look.now t.0 scheduler.now }
     requires records { RecordsFit t.0 scheduler.now.records }
     requires early { t.0 ≤ most_span }
     requires few { length cores.old ≤ 64 }
@@ -34,7 +50,7 @@ fn reconsider_all(scheduler: &Scheduler, home: Cores, t: Moment, cores: &mut Row
 {
     for r in 0..cores.len() {
         if let Some(c) = cores.item_mut(r) {
-            reconsider(scheduler, home, ResId(r as u8), t, c);
+            reconsider(scheduler, look, home, ResId(r as u8), t, c);
         }
     }
 }
@@ -47,5 +63,6 @@ pub fn settle(t: Moment, pool: &mut Pool)
     ensures { pool.new ≡ settled_pool t.0 pool.old }
 {
     let home = home_cores(pool.resources.as_slice());
-    reconsider_all(&pool.scheduler, Cores(home), t, &mut pool.resources);
+    let look = look_of(&pool.scheduler, t);
+    reconsider_all(&pool.scheduler, &look, Cores(home), t, &mut pool.resources);
 }

@@ -1,33 +1,22 @@
 //! A vCPU wakes, or sleeps. g is the number of a core's processors, t the moment.
 
 ghost use Rattle.sched_model.specs.CheckedMachine.{most_span};
-ghost use Rattle.std.specs.Prelude.{◌≡◌, ◌+◌, ◌*◌, ◌<◌, ◌≤◌, ◌/◌, ◌%◌, length, IsTrue, true, false, None, Some, if◌then◌else◌};
+ghost use Rattle.std.specs.Prelude.{◌≡◌, ◌<◌, ◌≤◌, length, IsTrue};
 ghost use Rattle.sched_model.specs.declared.action.Action.TheVariants.{Wake, Block};
-ghost use Rattle.sched_model.specs.Pool.{enabled_in, after_in, event_in, unit_of as unit_of_spec, is_off as is_off_spec, joined_siblings};
-ghost use Rattle.plain_pool.specs.Fits.{PoolFits};
+ghost use Rattle.sched_model.specs.Pool.{enabled_in, after_in, event_in, is_off as is_off_spec, joined_siblings};
+ghost use Rattle.pool_records.specs.Fits.{PoolFits};
 ghost use Rattle.plain_pool.specs.Wakes.{idles_at, after_placing};
 
-use crate::cores::{core_of, is_idle, is_on_core};
-use crate::doing::{change_doing, set_pending, take};
 use crate::pool::{guest_of, processor_of};
-use crate::runnable::is_runnable;
-use crate::vcpus::{sleep_vcpu, wake_vcpu};
-use plain_policy::queue::enqueue;
-use plain_units::units::has_unit;
+use plain_schedulers::queue::{enqueue, has_unit};
+use pool_records::cores::{core_of, is_idle, is_on_core};
+use pool_records::doing::{change_doing, set_pending, take};
+use pool_records::runnable::is_runnable;
+use pool_records::units::unit_of;
+use pool_records::vcpus::{sleep_vcpu, wake_vcpu};
 use sched_base::{Moment, ProcId, ResId, UnitId, VcpuId};
 use sched_model::event::Event;
 use sched_model::state::{Doing, Pool};
-
-/// The unit of a vCPU.
-pub fn unit_of(g: u8, v: VcpuId) -> UnitId
-    requires { 0 < g }
-    ensures { result ≡ unit_of_spec g v }
-{
-    UnitId {
-        dom: v.dom,
-        n: v.n / g,
-    }
-}
 
 /// Whether the unit is in no queue, no cur and no saving.
 pub fn is_off(pool: &Pool, u: UnitId) -> bool

@@ -18,7 +18,7 @@ use Rattle.sched_model.specs.Opening.{fresh_core}
 use Rattle.sched_model.specs.Places.{at_place, clear_at, put_at}
 use Rattle.sched_model.specs.Pool.{unit_count}
 use Rattle.sched_laws.proofs.EachPlace.{at_place-clear_at, at_place-clear_at_other, at_place-put_at, at_place-put_at_other, at_place-replicate}
-use Rattle.plain_pool.specs.Cores.{fresh_processor}
+use Rattle.pool_records.specs.Cores.{fresh_processor}
 use Rattle.core_state.specs.Seen.{Seen as CoresSeen, processor_among, stalled_to, vacant_cores as vacant_cores, without_works}
 use Rattle.core_state.proofs.ChangeLemmas.{without_works-other, without_works-own}
 use Rattle.policy_laws.specs.Holds.{Holds}

@@ -14,7 +14,7 @@ use Rattle.sched_model.specs.Policy.{replenish, replenish_due, rtds_record}
 use Rattle.sched_model.specs.Pool.{after_replenish, change_core, core_of, due_within, enabled_in, lowest_up, with_records}
 use Rattle.sched_base.proofs.Bools.{and_left, and_right}
 use Rattle.sched_ops.specs.Conditions.{is_on, may_be_on}
-use Rattle.plain_pool.proofs.Replenished.{replenished-there}
+use Rattle.pool_records.proofs.Replenished.{replenished-there}
 use Rattle.policy_laws.specs.Holds.{Holds}
 use Rattle.policy_laws.proofs.Alike.{found_core}
 

@@ -18,7 +18,7 @@ ghost use Rattle.pool_core.specs.Seen.{pool_of};
 use crate::doing::guest_of;
 use crate::due::first_timer;
 use core_state::CoreState;
-use plain_pool::cores::{all_held, any_held, first_up, has_come, is_held, is_open, is_up};
+use pool_records::cores::{all_held, any_held, first_up, has_come, is_held, is_open, is_up};
 use sched_base::{DomId, Moment, ProcId, ResId, VcpuId};
 use sched_model::action::{Action, Actor};
 use sched_ops::Policy;

@@ -10,7 +10,7 @@ ghost use Rattle.pool_core.specs.Seen.{pool_of};
 ghost use Rattle.sched_ops.specs.Seen.{Seen as SchedulerSeen};
 
 use core_state::CoreState;
-use plain_pool::deciding::lateness_of;
+use pool_records::cores::lateness_of;
 use sched_base::{Cores, Moment, ResId, UnitId};
 use sched_model::ask::Ask;
 use sched_model::event::Event;

@@ -9,7 +9,7 @@ ghost use Rattle.pool_core.specs.Seen.{guest_among, pool_of};
 ghost use Rattle.pool_core.specs.ProcessorEvents.{IsMoved, IsParting, work_of};
 
 use core_state::CoreState;
-use plain_pool::waking::unit_of;
+use pool_records::units::unit_of;
 use sched_base::{Moment, ProcId, ResId, UnitId, VcpuId};
 use sched_model::state::Doing;
 use unit_state::Guests;

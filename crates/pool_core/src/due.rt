@@ -13,7 +13,7 @@ ghost use Rattle.pool_core.specs.Order.{IsFirstEnabled, IsFirstIn, IsNextMoment}
 ghost use Rattle.pool_core.specs.Seen.{pool_of};
 
 use core_state::{CoreState, earlier};
-use plain_pool::cores::has_come;
+use pool_records::cores::has_come;
 use sched_base::Moment;
 use sched_model::action::Action;
 use sched_ops::{Policy, Timer};

@@ -6,15 +6,15 @@ ghost use Rattle.sched_model.specs.Policy.{kind_of, rate_of};
 ghost use Rattle.sched_model.specs.Pool.{set_params as set_params_spec};
 ghost use Rattle.sched_ops.specs.Conditions.{IsChange, IsNow, is_member};
 ghost use Rattle.core_state.specs.Seen.{changed_core};
-ghost use Rattle.plain_pool.specs.Cores.{ends_of};
-ghost use Rattle.plain_pool.specs.Marks.{due_now_of, marked_cores, pending_each};
+ghost use Rattle.pool_records.specs.Cores.{ends_of};
+ghost use Rattle.pool_records.specs.Marks.{due_now_of, marked_cores, pending_each};
 ghost use Rattle.sched_base.specs.Units.{unit_id};
 ghost use Rattle.pool_core.specs.Params.{AreKnown, stored_in, stored_units};
 ghost use Rattle.pool_core.specs.Seen.{pool_of};
 
 use crate::domains::runs_one_of;
 use core_state::CoreState;
-use plain_pool::leaving::stall_ends_of;
+use pool_records::leaving::stall_ends_of;
 use sched_base::{DomId, Moment, ResId, UnitId};
 use sched_model::config::ParamChange;
 use sched_model::facts::{Facts, ResPart, StoredList};

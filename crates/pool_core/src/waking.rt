@@ -12,8 +12,8 @@ ghost use Rattle.pool_core.specs.ProcessorEvents.{IsMoved};
 ghost use Rattle.pool_core.specs.Wakes.{done_started, idles_among, is_held_among, is_queued as is_queued_spec, is_queued_by, joined_works, woken_works, KeepsRoom};
 
 use core_state::CoreState;
-use plain_pool::cores::is_idle;
-use plain_pool::waking::unit_of;
+use pool_records::cores::is_idle;
+use pool_records::units::unit_of;
 use sched_base::{Moment, ProcId, ResId, UnitId, VcpuId};
 use sched_model::event::Event;
 use sched_ops::Policy;

@@ -11,8 +11,8 @@ use Rattle.sched_model.specs.State.{has_core}
 use Rattle.sched_laws.proofs.EachPlace.{EachPlace-empty, EachPlace-put_at}
 use Rattle.sched_laws.proofs.Opened.{length_map_numbers}
 use Rattle.sched_laws.specs.EachPlace.{EachPlace}
-use Rattle.plain_opening.specs.OpeningPool.{opening_core}
-use Rattle.plain_opening.proofs.Growing.{numbers_one_more}
+use Rattle.pool_records.specs.OpeningCores.{opening_core}
+use Rattle.pool_records.proofs.Growing.{numbers_one_more}
 use Rattle.pool_core.specs.Seen.{Seen, seen_at, with_core}
 use Rattle.pool_opening.specs.OpeningPool.{IsPending, IsStill, with_cores}
 use Rattle.pool_opening.proofs.Steady.{stays}

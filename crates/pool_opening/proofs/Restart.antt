@@ -20,7 +20,7 @@ use Rattle.sched_laws.specs.EachPlace.{EachPlace}
 use Rattle.sched_laws.proofs.EachPlace.{EachPlace-empty, is_empty}
 use Rattle.sched_ops.specs.Conditions.{ArePoolParams}
 use Rattle.sched_ops.specs.Seen.{restarted_scheduler, vacant_scheduler}
-use Rattle.plain_opening.specs.OpeningPool.{opening_core}
+use Rattle.pool_records.specs.OpeningCores.{opening_core}
 use Rattle.unit_state.specs.Guests.{units_in, most_units}
 use Rattle.pool_core.specs.Seen.{Seen, vacant_pool as vacant_pool}
 use Rattle.pool_opening.specs.OpeningPool.{IsOpening, IsPending, opening_seen, with_cores}

@@ -2,11 +2,11 @@
 
 ghost use Rattle.std.specs.Prelude.{◌≡◌, ◌≤◌, ◌<◌, true, None, replicate, length, map, slice_set};
 ghost use Rattle.sched_model.specs.Places.{at_place, numbers_from};
-ghost use Rattle.plain_opening.specs.OpeningPool.{opening_core};
+ghost use Rattle.pool_records.specs.OpeningCores.{opening_core};
 ghost use Rattle.pool_opening.specs.OpeningPool.{IsStill, with_cores};
 
-use plain_opening::cores::{has_core, no_stalls};
 use pool_core::pool::PoolState;
+use pool_records::opening::{has_core, no_stalls};
 use sched_base::{Moment, ResId};
 use sched_model::facts::ResPart;
 use sched_ops::Policy;

@@ -8,8 +8,8 @@ ghost use Rattle.sched_ops.specs.Seen.{units_of};
 ghost use Rattle.pool_opening.specs.OpeningPool.{IsOpening, IsStill, configured_pool, configured_if, after_joining, units_at_home, units_if_home, with_all, with_pool};
 ghost use Rattle.sched_model.specs.Actions.{configured_units};
 
-use plain_opening::rows::fresh_vcpus;
 use pool_core::pool::PoolState;
+use pool_records::rows::fresh_vcpus;
 use sched_base::{Cores, DomId, Moment, NoMemory};
 use sched_model::config::{Config, DomConfig, ParamChange, PoolConfig};
 use sched_model::state::Domain;

@@ -13,8 +13,8 @@ ghost use Rattle.pool_opening.specs.OpeningPool.{kinds_of, opening_seen};
 
 use crate::cores::attach_all;
 use crate::domains::join_all;
-use plain_opening::spare::core_count;
 use pool_core::pool::PoolState;
+use pool_records::opening::core_count;
 use sched_base::NoMemory;
 use sched_model::config::{Config, PoolConfig};
 use sched_ops::{Places, Policy};

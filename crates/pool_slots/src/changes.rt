@@ -18,7 +18,7 @@ impl PoolSlot {
     ghost use Rattle.sched_model.specs.Pool.{enabled_in, pause as pause_spec, set_leaving as set_leaving_spec, set_moving as set_moving_spec, set_params as set_params_spec, settled_pool, unit_count, unpause as unpause_spec, with_domain, without_domain};
     ghost use Rattle.sched_ops.specs.Conditions.{AreDomParams, IsChange};
     ghost use Rattle.sched_ranges.specs.Ranges.{DomainInRange};
-    ghost use Rattle.plain_pool.specs.Cores.{ends_of};
+    ghost use Rattle.pool_records.specs.Cores.{ends_of};
     ghost use Rattle.unit_state.specs.Parts.{IsPart};
     ghost use Rattle.unit_state.specs.Seen.{units_at};
     ghost use Rattle.pool_core.specs.Params.{AreGiven};

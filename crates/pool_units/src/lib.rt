@@ -12,15 +12,15 @@ ghost use Rattle.sched_ops.specs.Conditions.{IsApart};
 mod marks;
 
 use marks::Marks;
-use plain_units::eligible::is_allowed;
-use plain_units::pins::pin;
-use plain_units::units::drop_unit;
 use sched_base::{Cores, DomId, NoMemory, ResId, UnitId};
 use sched_model::config::Pins;
 use sched_model::places::{item_at, set_place};
 use sched_model::row::{Row, empty_places};
 use sched_model::short::{Short, copies};
 use sched_model::state::Queue;
+use scheduler_records::eligible::is_allowed;
+use scheduler_records::pins::pin;
+use scheduler_records::queue::drop_unit;
 use std::alloc::Global;
 use std::marker::Model;
 

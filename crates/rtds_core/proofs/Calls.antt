@@ -37,7 +37,7 @@ use Rattle.sched_ops.specs.Seen.{Seen}
 use Rattle.rtds_core.proofs.Steps.{kept_later}
 use Rattle.sched_ops.specs.Conditions.{IsAsked, IsOwn, IsOwnOf, AreDomParams, IsTerm, Keeps, is_on}
 use Rattle.arrival_queue.specs.Filters.{first_that, may_run}
-use Rattle.plain_policy.specs.Parts.{scheduler_of}
+use Rattle.scheduler_records.specs.Parts.{scheduler_of}
 use Rattle.queue_laws.specs.Arrivals.{least_by}
 use Rattle.queue_laws.proofs.Once.{once_ranks}
 use Rattle.rtds_core.specs.RtdsParts.{seen_of}

@@ -18,7 +18,7 @@ use Rattle.sched_base.proofs.Lists.{AllByRecursion-map}
 use Rattle.sched_ranges.specs.Ranges.{RtdsInRange}
 use Rattle.sched_ranges.specs.Fits.{RtdsFits, RtdsFit}
 use Rattle.sched_ranges.proofs.Done.{rtds_in_range}
-use Rattle.plain_units.specs.Fits as plain
+use Rattle.scheduler_records.specs.Fits as shared
 use Rattle.rtds_core.specs.RtdsParts.{IsShaped, size, total}
 use Rattle.std.proofs.lemmas.Option.{slice_get_within}
 
@@ -142,6 +142,6 @@ record_member domains affinity u x is at =
     let s = sets_of domains affinity u x is at in
     ap (λ (o : Option (List Cores)). nat_lt u.n (count_in o)) s.at ∙ (let i = s.inside in grind (arith, nat_tests, i))
 
--- the ranges that the plain machine asks for
-pub plain_fits : (t : ℕ) (domains : List (Option (List RtdsUnit))) → length domains ≤ 64 → RtdsFit t domains → plain.RtdsFits t domains
-plain_fits t domains few fit = record { few_domains = few; domains = λ d units at. All-from_recursion (RtdsInRange t) units (AllByRecursion-map (RtdsFits t) (RtdsInRange t) (rtds_in_range t) units (fit d units at)) }
+-- the ranges that the changes of records ask for
+pub shared_fits : (t : ℕ) (domains : List (Option (List RtdsUnit))) → length domains ≤ 64 → RtdsFit t domains → shared.RtdsFits t domains
+shared_fits t domains few fit = record { few_domains = few; domains = λ d units at. All-from_recursion (RtdsInRange t) units (AllByRecursion-map (RtdsFits t) (RtdsInRange t) (rtds_in_range t) units (fit d units at)) }

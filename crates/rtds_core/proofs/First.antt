@@ -23,7 +23,7 @@ use Rattle.queue_laws.specs.Arrivals.{arrival_order, HasRanks, HasKeys, least_by
 use Rattle.queue_laws.proofs.Arrivals.{ins}
 use Rattle.queue_laws.proofs.Scan.{first_is_least, least_by_own}
 use Rattle.queue_laws.proofs.Keys.{less_trans, less_back}
-use Rattle.plain_policy.specs.Parts.{scheduler_of}
+use Rattle.scheduler_records.specs.Parts.{scheduler_of}
 use Rattle.rtds_core.specs.Best.{queue_of, key_by, IsEligible, IsSpent, AreQueued, AreMasks, list_of, goes_first}
 use Rattle.rtds_core.proofs.Queues.{arrivals_swap}
 use Rattle.std.proofs.Math.Bool.{and-false, or-false}

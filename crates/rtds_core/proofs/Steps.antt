@@ -26,7 +26,7 @@ use Rattle.rtds_core.proofs.Queues.{IsOrdered, waits, queue_put, queue_removed, 
 use Rattle.rtds_core.proofs.Changed.{IsLow, low_unit, shape_changed, total_changed}
 use Rattle.rtds_core.proofs.Units.{same_sym, has_pushed, has_without}
 use Rattle.rtds_core.proofs.Timing.{due_alike, due_of_record, armed_changed, armed_alike}
-use Rattle.plain_policy.proofs.RtdsLemmas.{change_unit-none}
+use Rattle.scheduler_records.proofs.RtdsLemmas.{change_unit-none}
 use Rattle.rtds_core.proofs.Keeping.{low_queued, waiting_known, queued_other, queued_put, queued_removed, queued_renewed, count_put, count_removed, count_renewed, room_left}
 use Rattle.std.proofs.Math.Bool.{or-false, or-true}
 use Rattle.std.proofs.lemmas.Bool.{cases_Bool}

@@ -7,19 +7,19 @@ ghost use Rattle.sched_base.specs.declared.UnitId.{UnitId as UnitName};
 ghost use Rattle.sched_model.specs.declared.state.Records.TheVariants.{RtdsPool};
 ghost use Rattle.sched_model.specs.Rtds.{budget_left as budget_left_spec, foremost_unit, choice, switch_off};
 ghost use Rattle.arrival_queue.specs.Order.{IsInOrder, EachRankOnce, EachUnitOnce};
-ghost use Rattle.plain_policy.specs.Parts.{scheduler_of};
+ghost use Rattle.scheduler_records.specs.Parts.{scheduler_of};
 ghost use Rattle.unit_places.specs.Places.{index_of};
 ghost use Rattle.rtds_core.specs.Best.{queue_of, key_by, AreQueued, AreMasks, list_of, goes_first as goes_first_spec, due_at, deadline_in, run_from, queues_without, dues_with, dues_without};
 ghost use Rattle.rtds_core.specs.RtdsParts.{IsShaped};
 
 use crate::alarms::Alarms;
-use plain_policy::rtds::{budget_left, own_candidate, rtds_unit, set_running, unit_before};
 use rtds_queue::{RtdsKey, RtdsQueues};
 use sched_base::{Cores, Moment, ResId, UnitId};
 use sched_model::ask::Ask;
 use sched_model::config::Pins;
 use sched_model::row::Row;
 use sched_model::state::{RtdsUnit, RtdsUnits};
+use scheduler_records::rtds::{budget_left, own_candidate, rtds_unit, set_running, unit_before};
 use unit_places::Masks;
 
 /// The level and the deadline of a unit.

@@ -7,12 +7,12 @@ ghost use Rattle.sched_model.specs.Policy.{joined_records};
 ghost use Rattle.sched_ops.specs.Conditions.{AreDomParams};
 ghost use Rattle.sched_model.specs.declared.config.SchedKind.{SchedKind};
 
-use plain_policy::rtds::fresh_units;
 use sched_base::{DomId, Moment};
 use sched_model::config::DomParams;
 use sched_model::places::set_place;
 use sched_model::row::Row;
 use sched_model::state::RtdsUnits;
+use scheduler_records::rtds::fresh_units;
 
 /// The records of a domain that joins at t, with so many units.
 pub fn join_records(

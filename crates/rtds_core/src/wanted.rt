@@ -9,11 +9,11 @@ ghost use Rattle.rtds_core.specs.Best.{AreQueued, goes_first as goes_first_spec}
 ghost use Rattle.rtds_core.specs.WantedCores.{IsAhead, decides_anew, first_for, is_barred as is_barred_spec};
 
 use crate::best::goes_first;
-use plain_policy::rtds::unit_before;
 use rtds_queue::RtdsQueues;
 use sched_base::{Cores, ResId, UnitId, has_core, is_allowed};
 use sched_model::state::{Resource, RtdsUnits};
 use sched_ops::wanted_where;
+use scheduler_records::rtds::unit_before;
 use unit_places::Masks;
 
 /// The first unit that waits with budget left, and the cores on which it may be.

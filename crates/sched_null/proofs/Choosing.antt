@@ -19,7 +19,7 @@ use Rattle.sched_laws.proofs.Choices.{same_unit_same}
 use Rattle.sched_laws.proofs.Counts.{same_unit_refl}
 use Rattle.sched_ops.specs.Conditions.{ArePoolParams, is_vacant}
 use Rattle.sched_ops.specs.Seen.{restarted_scheduler}
-use Rattle.plain_policy.specs.Parts.{scheduler_of}
+use Rattle.scheduler_records.specs.Parts.{scheduler_of}
 use Rattle.pool_units.specs.Units.{Units}
 use Rattle.sched_ops.specs.Affinity.{is_member_among}
 use Rattle.pool_units.proofs.Waiting.{first_of_one, any_of_none}

@@ -4,11 +4,11 @@ ghost use Rattle.std.specs.Prelude.{◌≡◌, [], None, replicate, unwrap_or, s
 ghost use Rattle.sched_model.specs.Places.{same_unit};
 ghost use Rattle.sched_model.specs.NullScheduler.{kept_without};
 
-use plain_policy::null::{release_domain, release_unit};
 use sched_base::{DomId, NoMemory, ResId, UnitId};
 use sched_model::places::set_place;
 use sched_model::row::{Row, empty_places};
 use sched_model::units::is_there;
+use scheduler_records::null::{release_domain, release_unit};
 use std::alloc::Global;
 use std::marker::Model;
 

@@ -20,12 +20,10 @@ ghost use Rattle.sched_model.specs.State.{has_core as has_core_spec};
 ghost use Rattle.sched_model.specs.EligibleUnits.{is_allowed_by, is_placed as is_placed_spec, eligible_units};
 ghost use Rattle.sched_model.specs.Policy.{better_waits};
 ghost use Rattle.sched_model.specs.NullScheduler.{earliest_unit, choice as choice_spec, null_decision};
-ghost use Rattle.plain_policy.specs.Parts.{scheduler_of};
+ghost use Rattle.scheduler_records.specs.Parts.{scheduler_of};
 ghost use Rattle.sched_ops.specs.Seen.{Tells};
 
 use crate::kept::Kept;
-use plain_policy::null::passes;
-use plain_units::eligible::is_allowed;
 use pool_units::PoolUnits;
 use sched_base::{Cores, DomId, Moment, NoMemory, ResId, UnitId, has_core};
 use sched_model::ask::Ask;
@@ -35,6 +33,8 @@ use sched_model::facts::Stored;
 use sched_model::state::Resource;
 use sched_model::units::is_there;
 use sched_ops::{Choice, Places, Policy, Timer, wanted_where};
+use scheduler_records::eligible::is_allowed;
+use scheduler_records::null::passes;
 use std::alloc::Global;
 use std::marker::Model;
 
@@ -49,7 +49,7 @@ pub struct Null {
 
 impl Model for Null {
     ghost use Rattle.sched_model.specs.declared.state.Records.TheVariants.{NullPool};
-    ghost use Rattle.plain_policy.specs.Parts.{scheduler_of};
+    ghost use Rattle.scheduler_records.specs.Parts.{scheduler_of};
     ghost use Rattle.sched_ops.specs.Seen.{Seen};
 
     ghost Value = { Seen };

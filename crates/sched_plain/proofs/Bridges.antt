@@ -22,8 +22,8 @@ use Rattle.sched_model.specs.CheckedMachine.{IsChecked, IsCheckedDomain, IsCheck
 use Rattle.sched_laws.proofs.SiblingsLaw.{some_processor}
 use Rattle.sched_laws.proofs.Lists.{item_below}
 use Rattle.sched_ranges.specs.Ranges.{VcpuInRange, DomainInRange, RecordsInRange, PoolInRange, StateInRange}
-use Rattle.plain_units.specs.Fits.{RecordsFit}
-use Rattle.plain_pool.specs.Fits.{PoolFits, DomainFits, VcpuFits}
+use Rattle.scheduler_records.specs.Fits.{RecordsFit}
+use Rattle.pool_records.specs.Fits.{PoolFits, DomainFits, VcpuFits}
 use Rattle.plain_commands.proofs.Planned.{for-some}
 use Rattle.sched_plain.specs.Fits.{FewGuests, MachineFits, PoolFitsAt, StateFits}
 use Rattle.sched_plain.specs.ReachedStates.{Stands}

@@ -22,9 +22,9 @@ use Rattle.sched_model.specs.Pool.{settled_pool, reconsidered_core, home_cores, 
 use Rattle.sched_laws.proofs.EachPlace.{EachPlace-change_at, EachPlace-clear_at, by_cond, length_change_each, length_set}
 use Rattle.sched_laws.proofs.NullKept.{length_released}
 use Rattle.sched_ranges.specs.Ranges.{Credit2InRange, RtdsInRange}
-use Rattle.plain_units.specs.Fits.{RecordsFit}
-use Rattle.plain_pool.specs.Fits.{DomainFits}
-use Rattle.plain_pool.proofs.FitsLemmas.{at_place-fits}
+use Rattle.scheduler_records.specs.Fits.{RecordsFit}
+use Rattle.pool_records.specs.Fits.{DomainFits}
+use Rattle.pool_records.proofs.FitsLemmas.{at_place-fits}
 use Rattle.sched_plain.specs.Fits.{PoolFitsAt}
 use Rattle.sched_plain.specs.Moves.{domain_in, target_in}
 use Rattle.sched_plain.specs.ReachedStates.{Stands}

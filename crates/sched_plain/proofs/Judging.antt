@@ -8,7 +8,7 @@ use Rattle.sched_model.specs.Runs.{Reached}
 use Rattle.sched_laws.specs.EachPlace.{EachPlace, AllPlaces}
 use Rattle.sched_records.specs.Records.{HasRecords}
 use Rattle.sched_records.proofs.Law.{has_records}
-use Rattle.plain_pool.specs.Fits as pools
+use Rattle.pool_records.specs.Fits as pools
 use Rattle.cpupool.specs.Fits.{DomainFits, PoolFits, StateFits}
 use Rattle.sched_plain.specs.ReachedStates.{Stands}
 use Rattle.sched_plain.proofs.Reaching.{reached-in_range}

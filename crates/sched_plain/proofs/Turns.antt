@@ -33,9 +33,9 @@ use Rattle.order_laws.proofs.Home.{pool_is_home}
 use Rattle.pool_laws.specs.ReadyMoments.{moment_if, ready_in}
 use Rattle.pool_laws.proofs.Readiness.{ready}
 use Rattle.run_laws.specs.RunLaws.{IsNextMoment}
-use Rattle.plain_units.specs.Fits.{RecordsFit}
-use Rattle.plain_scans.specs.Ready.{AreFewRecords, AreWhole, IsLeastWith, IsReadyIn, ScanFits, lesser}
-use Rattle.plain_scans.proofs.Leasts.{AtPlace, IsAt, least_both, least_none, least_one, least_places, least_same}
+use Rattle.scheduler_records.specs.Fits.{RecordsFit}
+use Rattle.plain_pool.specs.Ready.{AreFewRecords, AreWhole, IsLeastWith, IsReadyIn, ScanFits, lesser}
+use Rattle.plain_pool.proofs.Leasts.{AtPlace, IsAt, least_both, least_none, least_one, least_places, least_same}
 use Rattle.sched_plain.specs.ReachedStates.{Stands}
 use Rattle.sched_plain.specs.Soonest.{IsNextTurn, IsQuiet, IsReadyAmong, IsReadyAt, IsSoonest, command_ready, first_of, free_end, last_moment, least_of_free, stall_ready}
 use Rattle.sched_plain.proofs.Bridges.{stands-pool}

@@ -4,8 +4,8 @@ use Rattle.sched_model.specs.declared.config.DomConfig.{DomConfig}
 use Rattle.sched_model.specs.declared.machine.Machine.{Machine}
 use Rattle.sched_model.specs.declared.state.State.{State}
 use Rattle.sched_model.specs.declared.state.Pool.{Pool}
-use Rattle.plain_units.specs.Fits.{RecordsFit}
-use Rattle.plain_pool.specs.Fits.{PoolFits}
+use Rattle.scheduler_records.specs.Fits.{RecordsFit}
+use Rattle.pool_records.specs.Fits.{PoolFits}
 use Rattle.sched_laws.specs.EachPlace.{AllPlaces}
 
 -- each domain has at most 32 vCPUs

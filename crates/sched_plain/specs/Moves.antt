@@ -8,7 +8,7 @@ use Rattle.sched_model.specs.declared.state.FreeCore.{FreeCore}
 use Rattle.sched_model.specs.declared.state.Pool.{Pool}
 use Rattle.sched_model.specs.Machine.{without_core}
 use Rattle.sched_model.specs.Places.{at_place, numbered_items}
-use Rattle.plain_pool.specs.Cores.{ends_of}
+use Rattle.pool_records.specs.Cores.{ends_of}
 
 -- whether a core or a domain of the pool is on its way
 abbrev pub is_anything_moving : Pool → Bool

@@ -9,7 +9,7 @@ use Rattle.sched_model.specs.declared.state.State.{State}
 use Rattle.sched_model.specs.Machine.{first_enabled, is_enabled, is_move_under_way, next_in_horizon}
 use Rattle.sched_model.specs.Places.{at_place}
 use Rattle.pool_laws.specs.ReadyMoments.{moment_if}
-use Rattle.plain_scans.specs.Ready.{IsReadyIn, least_each, lesser}
+use Rattle.plain_pool.specs.Ready.{IsReadyIn, least_each, lesser}
 
 -- from when on the next stall may come
 abbrev pub stall_ready : Machine → State → Option Moment

@@ -11,10 +11,10 @@ ghost use Rattle.sched_plain.specs.Moves.{domain_in, target_in as target_in_spec
 ghost use Rattle.sched_plain.specs.ReachedStates.{Stands};
 
 use crate::homes::{home_of_domain, pool_at};
-use plain_policy::params::default_dom_params;
-use plain_policy::records::is_null;
 use plain_pool::domains::{with_domain, without_domain};
 use plain_pool::settle::settle;
+use plain_schedulers::params::default_dom_params;
+use plain_schedulers::records::is_null;
 use sched_base::{DomId, Moment, PoolId};
 use sched_model::event::Event;
 use sched_model::machine::Machine;

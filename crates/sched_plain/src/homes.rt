@@ -12,7 +12,7 @@ ghost use Rattle.sched_laws.specs.EachPlace.{AllPlaces};
 ghost use Rattle.sched_model.specs.Actions.{home_of_core as home_of_core_spec, home_of_domain as home_of_domain_spec, home_of as home_of_spec};
 ghost use Rattle.sched_model.specs.Machine.{is_move_under_way as is_move_under_way_spec};
 ghost use Rattle.sched_plain.specs.Moves.{is_anything_moving};
-ghost use Rattle.plain_pool.specs.Fits.{PoolFits};
+ghost use Rattle.pool_records.specs.Fits.{PoolFits};
 
 use sched_base::{DomId, ResId};
 use sched_model::action::Action;

@@ -5,7 +5,7 @@ ghost use Rattle.std.specs.Prelude.{◌≡◌, ◌<◌, ◌≤◌, length, Some,
 ghost use Rattle.sched_model.specs.declared.action.Action.TheVariants as actions;
 ghost use Rattle.sched_model.specs.Machine.{event_of, after, after_moved as after_moved_spec};
 ghost use Rattle.sched_model.specs.Places.{at_place, change_at};
-ghost use Rattle.plain_pool.specs.Cores.{ends_of};
+ghost use Rattle.pool_records.specs.Cores.{ends_of};
 ghost use Rattle.sched_plain.specs.Fits.{PoolFitsAt};
 ghost use Rattle.sched_model.specs.Machine.{with_core};
 ghost use Rattle.sched_plain.specs.Moves.{target_at as target_at_spec, without_its_core, ends_at};
@@ -13,8 +13,8 @@ ghost use Rattle.sched_plain.specs.ReachedStates.{Stands};
 ghost use Rattle.sched_laws.specs.EachPlace.{EachPlace};
 
 use crate::homes::home_of_core;
-use plain_pool::leaving::{put_core, take_core};
 use plain_pool::settle::settle;
+use pool_records::leaving::{put_core, take_core};
 use sched_base::{Moment, PoolId, ResId};
 use sched_model::event::Event;
 use sched_model::facts::StallEnds;

@@ -17,7 +17,7 @@ use crate::moves::move_core;
 use crate::stall::stall;
 use cpupool::ToolState;
 use plain_pool::events::happen;
-use plain_scans::settle::settle;
+use plain_pool::settle::settle;
 use sched_base::Moment;
 use sched_model::action::Action;
 use sched_model::event::Event;

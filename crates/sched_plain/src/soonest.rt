@@ -4,13 +4,13 @@ ghost use Rattle.std.specs.Prelude.{◌≡◌, ℕ, ◌+◌, ◌<◌, ◌≤◌,
 ghost use Rattle.std.specs.Option.{ForSome};
 ghost use Rattle.sched_model.specs.Places.{numbered_items};
 ghost use Rattle.sched_laws.specs.EachPlace.{EachPlace};
-ghost use Rattle.plain_scans.specs.Ready.{AreWhole, IsLeastWith, ScanFits, lesser as lesser_spec};
+ghost use Rattle.plain_pool.specs.Ready.{AreWhole, IsLeastWith, ScanFits, lesser as lesser_spec};
 ghost use Rattle.sched_plain.specs.Fits.{StateFits};
 ghost use Rattle.sched_plain.specs.ReachedStates.{Stands};
 ghost use Rattle.sched_plain.specs.Soonest.{IsReadyAmong, IsReadyAt, IsSoonest, IsTurn, command_ready, first_of, free_end as free_end_spec, least_of_free, stall_ready as stall_ready_spec};
 
 use crate::homes::is_move_under_way;
-use plain_scans::ready::{end_if, least_ready, lesser};
+use plain_pool::ready::{end_if, least_ready, lesser};
 use run_laws::laws::{law_enabled_stays, law_next_moment};
 use sched_base::Moment;
 use sched_model::machine::Machine;

@@ -6,13 +6,13 @@ ghost use Rattle.sched_model.specs.declared.action.Action.TheVariants as actions
 ghost use Rattle.sched_model.specs.Machine.{is_enabled, event_of, after, stall_end_of as stall_end_of_spec, with_stall_end as stalled_spec};
 ghost use Rattle.sched_model.specs.Places.{at_place, change_at};
 ghost use Rattle.sched_model.specs.Pool.{change_processor};
-ghost use Rattle.plain_pool.specs.Cores.{stalled_to};
+ghost use Rattle.pool_records.specs.Cores.{stalled_to};
 ghost use Rattle.sched_plain.specs.ReachedStates.{Stands};
 ghost use Rattle.sched_plain.specs.Stalls.{end_in_pool as end_in_pool_spec, end_at_home as end_at_home_spec, end_among as end_among_spec, end_in_free as end_in_free_spec, ends_to, free_to};
 
 use crate::homes::{home_of_core, pool_at};
-use plain_pool::leaving::set_stall_end;
 use plain_pool::pool::processor_of;
+use pool_records::leaving::set_stall_end;
 use sched_base::{Moment, ProcId, ResId};
 use sched_model::event::Event;
 use sched_model::machine::Machine;

@@ -26,7 +26,7 @@ use Rattle.sched_laws.proofs.EachPlace.{found_at, is_empty, none_found, place_be
 use Rattle.sched_laws.proofs.Lists.{some_is, none_without}
 use Rattle.sched_laws.proofs.PoolsLaw.{pools_keep_their_own}
 use Rattle.journal_core.specs.Parts.{ToolPart, UnderWay, core_to, under_way_of}
-use Rattle.plain_pool.specs.Cores as plain
+use Rattle.pool_records.specs.Cores as shared
 use Rattle.cpupool.specs.ToolArrival.{EndsTheMove, but_for_free}
 use Rattle.cpupool.specs.Steps.{move_of}
 use Rattle.cpupool.specs.Tool.{Tool, ends_of, tool_of}
@@ -278,15 +278,15 @@ module _ (w : Told) (tool : Tool) (t r : ℕ) (begins : Begins w tool t (Moved (
             (subst (λ (o : Option Seen). ForSome o (SlotSuits m s.now)) (sym made) (suits-seen m s.now t (λ seen. settled_pool t (pools.without_core r seen.pool)) begins.now slot stands.suits))
 
     -- the tool, which has the core
-    module _ (ends : List Moment) (is : ForSome slot (λ seen. option_map plain.ends_of (at_place seen.pool.resources r) ≡ Some ends)) (new : Tool) (done : new ≡ but_for_free (put_at r ends tool.part.free) (tool_of m left)) where
-      ends-going : ends ≡ plain.ends_of going
+    module _ (ends : List Moment) (is : ForSome slot (λ seen. option_map shared.ends_of (at_place seen.pool.resources r) ≡ Some ends)) (new : Tool) (done : new ≡ but_for_free (put_at r ends tool.part.free) (tool_of m left)) where
+      ends-going : ends ≡ shared.ends_of going
       ends-going =
           let known = seen-here in
-          mapped-some plain.ends_of (at_place pool.resources r) going ends core-there.1 (ap (λ (p : Pool). option_map plain.ends_of (at_place p.resources r)) (sym known.2) ∙ is known.0 known.1)
+          mapped-some shared.ends_of (at_place pool.resources r) going ends core-there.1 (ap (λ (p : Pool). option_map shared.ends_of (at_place p.resources r)) (sym known.2) ∙ is known.0 known.1)
 
       pub acted-leaves : (event : Event) → event ≡ event_of m s s.now (Moved (core_number r)) → HasActedOn w i (told_event w t event) new
       acted-leaves event ev =
-          let free : FreeCore = record { target = None; stall_ends = plain.ends_of going } in
+          let free : FreeCore = record { target = None; stall_ends = shared.ends_of going } in
           acted-on w tool t (Moved (core_number r)) begins event ev i (option_map (machine.without_core s.now r)) new leave-steps.own
           (knows-left (put_at r ends tool.part.free) new done
           (ap (map (option_map ends_of)) leave-steps.free ∙ map-set (option_map ends_of) s.free r (Some free)

@@ -7,9 +7,9 @@ ghost use Rattle.pool_slots.specs.Places.{GoesOn, StandsAt, state_of};
 ghost use Rattle.pool_slots.specs.Spares.{IsSpare, shelf_of};
 ghost use Rattle.tool_acts.specs.MadePools.{HasGone, HasMade, MayGo};
 
-use plain_policy::params::default_pool_params;
 use pool_slots::{PoolSlot, Spares, Trail};
 use sched_model::config::SchedKind;
+use scheduler_records::params::default_pool_params;
 
 /// A spare pool of the scheduler comes to the place, which is empty, with default parameters.
 pub(crate) fn create(slot: &mut PoolSlot, spares: &mut Spares, at: &Trail, kind: SchedKind)

@@ -18,7 +18,7 @@ use Rattle.sched_model.specs.Pool.{woken_vcpu, put_to_sleep, stopped_vcpu, done_
 use Rattle.sched_laws.proofs.EachPlace.{EachAt-change_to, EachPlace-change_at, EachPlace-put_at, EachPlace-clear_at, EachPlace-empty, place_below, length_set, vcpu_is}
 use Rattle.sched_laws.proofs.Lists.{length_change_item, has_come-le}
 use Rattle.sched_ranges.proofs.Vcpus.{VcpuFits as VcpuStands, vcpu_fresh, vcpu_woken, vcpu_slept, vcpu_stopped, vcpu_started}
-use Rattle.plain_pool.specs.Fits.{DomainFits, VcpuFits}
+use Rattle.pool_records.specs.Fits.{DomainFits, VcpuFits}
 use Rattle.unit_state.specs.Seen.{Seen, IsNow, vacant_guests, done_among, is_awake_among, is_due_among}
 use Rattle.unit_state.specs.Parts.{IsGuest, HasGuests, IsStill, IsRunPlace, IsSleepPlace}
 use Rattle.unit_state.specs.Guests.{KeepsGuests, units_in}

@@ -6,7 +6,7 @@ ghost use Rattle.unit_state.specs.Seen.{wake_among};
 ghost use Rattle.unit_state.specs.Guests.{vcpu_id};
 
 use due_heap::DueHeap;
-use plain_pool::vcpus::vcpu_of;
+use pool_records::vcpus::vcpu_of;
 use sched_base::{DomId, Moment, VcpuId};
 use sched_model::state::Domain;
 

@@ -5,14 +5,14 @@ use Rattle.sched_model.specs.declared.state.Credit2Records.{Credit2Records}
 use Rattle.sched_model.specs.Places.{at_place}
 use Rattle.sched_model.specs.Credit2.{max_weight}
 use Rattle.sched_laws.proofs.EachPlace.{length_set}
-use Rattle.plain_credit2.specs.Bounds.{PoolFits, own_charged}
-use Rattle.plain_credit2.proofs.Ranges.{pool_in_range}
-use Rattle.plain_credit2.proofs.Steps.{burn_cur_fits, burn_cur-own}
+use Rattle.scheduler_records.specs.Bounds.{PoolFits, own_charged}
+use Rattle.scheduler_records.proofs.Ranges.{pool_in_range}
+use Rattle.scheduler_records.proofs.Steps.{burn_cur_fits, burn_cur-own}
 use Rattle.credit2_core.specs.declared.state.Credit2State.{Credit2State}
 use Rattle.credit2_core.specs.Credit2State.{IsLineOf}
 use Rattle.credit2_core.specs.Whole.{IsReadyBut}
 use Rattle.credit2_core.proofs.Kept.{but_of, but_again, own_weight}
-use Rattle.credit2_core.proofs.Ranges.{plain_fits, range_later}
+use Rattle.credit2_core.proofs.Ranges.{shared_fits, range_later}
 use Rattle.credit2_core.proofs.Lines.{line_burn_cur}
 use Rattle.credit2_core.proofs.decide.charge_own.Goals as goal
 
@@ -20,7 +20,7 @@ pub charge-requires-clause-most : goal.charge-requires-clause-most
 charge-requires-clause-most c = c.requires.ready.most
 
 pub charge-requires-clause-fits : goal.charge-requires-clause-fits
-charge-requires-clause-fits c = plain_fits c.args.ask.now.at.0 c.args.state.now.records (range_later c.args.state.now.latest c.args.ask.now.at.0 c.args.state.now.records c.requires.asked.now.after c.requires.sound.range)
+charge-requires-clause-fits c = shared_fits c.args.ask.now.at.0 c.args.state.now.records (range_later c.args.state.now.latest c.args.ask.now.at.0 c.args.state.now.records c.requires.asked.now.after c.requires.sound.range)
 
 pub follow-requires-clause-few : goal.follow-requires-clause-few
 follow-requires-clause-few c =
@@ -44,7 +44,7 @@ pub returns-in-Some-clause-fits : goal.returns-in-Some-clause-fits
 returns-in-Some-clause-fits c =
     subst (PoolFits c.args.ask.now.at.0) (sym c.charge.ensures)
     (burn_cur_fits (Some c.in-Some.u) c.args.ask.now.at.0 c.args.state.now.records c.requires.asked.now.early
-    (plain_fits c.args.ask.now.at.0 c.args.state.now.records (range_later c.args.state.now.latest c.args.ask.now.at.0 c.args.state.now.records c.requires.asked.now.after c.requires.sound.range)))
+    (shared_fits c.args.ask.now.at.0 c.args.state.now.records (range_later c.args.state.now.latest c.args.ask.now.at.0 c.args.state.now.records c.requires.asked.now.after c.requires.sound.range)))
 
 pub returns-in-Some-clause-line : goal.returns-in-Some-clause-line
 returns-in-Some-clause-line c =
@@ -54,4 +54,4 @@ returns-in-Some-clause-line c =
 pub returns-in_default-clause-fits : goal.returns-in_default-clause-fits
 returns-in_default-clause-fits c =
     pool_in_range c.args.ask.now.at.0 c.args.state.now.records c.requires.asked.now.early
-    (plain_fits c.args.ask.now.at.0 c.args.state.now.records (range_later c.args.state.now.latest c.args.ask.now.at.0 c.args.state.now.records c.requires.asked.now.after c.requires.sound.range))
+    (shared_fits c.args.ask.now.at.0 c.args.state.now.records (range_later c.args.state.now.latest c.args.ask.now.at.0 c.args.state.now.records c.requires.asked.now.after c.requires.sound.range))

@@ -4,7 +4,7 @@ use Rattle.sched_base.specs.declared.UnitId.{UnitId}
 use Rattle.sched_model.specs.declared.ask.Ask.{Ask}
 use Rattle.sched_model.specs.declared.state.Credit2Records.{Credit2Records}
 use Rattle.sched_model.specs.Credit2.{burn_cur, switch_off, resets_for, choice}
-use Rattle.plain_credit2.specs.WaitingUnits.{scheduler_of}
+use Rattle.scheduler_records.specs.Parts.{credit2_scheduler}
 use Rattle.queue_laws.specs.Arrivals.{arrivals}
 use Rattle.credit2_core.specs.declared.state.Credit2State.{Credit2State}
 use Rattle.credit2_core.specs.Choice.{records_after_run}
@@ -52,7 +52,7 @@ returns-in-Some-clause-sound c =
     let same : c.charge_own.new.state.queue ≡ h.queue = ap (λ (x : Credit2State). x.queue) c.charge_own.ensures.rest in
     let room : IsSameRoom h.queue q = subst (λ (old : Queue). IsSameRoom old q) same c.run_unit.ensures.room in
     let chosen : choice ask (scheduler_in c.charge_own.new.state) c.charge_own.new.state.records ≡ Some u = sym c.choice.ensures ∙ c.in-Some.is in
-    let here : choice ask (scheduler_of (arrivals h.queue.units) h.affinity burned) burned ≡ Some u =
+    let here : choice ask (credit2_scheduler (arrivals h.queue.units) h.affinity burned) burned ≡ Some u =
     subst (λ (x : Credit2State). choice ask (scheduler_in x) x.records ≡ Some u) (c.charge_own.ensures.rest ∙ ap (λ (r : Credit2Records). record h { records = r }) c.charge_own.ensures.records) chosen
     in
     subst IsSound (sym is) (sound_ran h ask u k q c.requires.sound c.requires.asked.now.after c.requires.asked.own here line room)

@@ -7,8 +7,8 @@ use Rattle.sched_model.specs.declared.ask.Ask.{Ask}
 use Rattle.sched_model.specs.declared.state.Credit2Records.{Credit2Records}
 use Rattle.sched_model.specs.Places.{has_unit, without_unit, is_unit}
 use Rattle.sched_model.specs.Credit2.{reset, change_domain, take_budget, resets_for, slice_of, best_other}
-use Rattle.plain_credit2.specs.Bounds.{PoolParamsFit}
-use Rattle.plain_credit2.proofs.Steps.{reset_params, taken_params}
+use Rattle.scheduler_records.specs.Bounds.{PoolParamsFit}
+use Rattle.scheduler_records.proofs.Steps.{reset_params, taken_params}
 use Rattle.queue_laws.specs.Arrivals.{arrivals}
 use Rattle.arrival_queue.specs.Filters.{first_that, has_domain}
 use Rattle.credit2_core.specs.declared.line.Ready.{Ready}

@@ -9,11 +9,11 @@ use Rattle.credit2_core.specs.declared.state.Credit2State.{Credit2State}
 use Rattle.credit2_core.specs.Places.{refill_of}
 use Rattle.credit2_core.specs.Credit2State.{IsSound}
 use Rattle.credit2_core.proofs.Keeping.{sound_set_domain}
-use Rattle.credit2_core.proofs.Ranges.{plain_fits, range_later}
+use Rattle.credit2_core.proofs.Ranges.{shared_fits, range_later}
 use Rattle.credit2_core.proofs.params.set_domain.Goals as goal
 
 pub set_domain-requires-clause-fits : goal.set_domain-requires-clause-fits
-set_domain-requires-clause-fits c = plain_fits c.args.t.0 c.args.state.now.records (range_later c.args.state.now.latest c.args.t.0 c.args.state.now.records c.requires.now.after c.requires.sound.range)
+set_domain-requires-clause-fits c = shared_fits c.args.t.0 c.args.state.now.records (range_later c.args.state.now.latest c.args.t.0 c.args.state.now.records c.requires.now.after c.requires.sound.range)
 
 pub returns-clause-sound : goal.returns-clause-sound
 returns-clause-sound c =

@@ -6,7 +6,7 @@ use Rattle.sched_base.specs.declared.UnitId.{UnitId}
 use Rattle.sched_model.specs.declared.state.Credit2Records.{Credit2Records}
 use Rattle.sched_model.specs.Credit2.{credit_of, domain_has_budget, greatest_unit}
 use Rattle.sched_ops.specs.Seen.{Seen}
-use Rattle.plain_credit2.specs.WaitingUnits.{scheduler_of}
+use Rattle.scheduler_records.specs.Parts.{credit2_scheduler}
 use Rattle.runq.specs.Queue.{Queue, after_insert, plain}
 use Rattle.arrival_queue.specs.Queues.{Queued}
 use Rattle.queue_laws.specs.Arrivals.{arrivals}
@@ -51,7 +51,7 @@ sound_is c =
 pub returns-clause-seen : goal.returns-clause-seen
 returns-clause-seen c =
     let h : Credit2State = c.args.state.now in
-    ap (λ (units : List UnitId). let seen : Seen = record { scheduler = scheduler_of units h.affinity h.records; spare = h.spare; latest = h.latest } in seen) (order_is c)
+    ap (λ (units : List UnitId). let seen : Seen = record { scheduler = credit2_scheduler units h.affinity h.records; spare = h.spare; latest = h.latest } in seen) (order_is c)
 
 pub returns-clause-sound : goal.returns-clause-sound
 returns-clause-sound c = sound_is c

@@ -1,6 +1,6 @@
 use Rattle.std.proofs.Common.{sym, subst}
 use Rattle.sched_model.specs.declared.state.Credit2Records.{Credit2Records}
-use Rattle.plain_credit2.specs.Bounds.{PoolParamsFit}
+use Rattle.scheduler_records.specs.Bounds.{PoolParamsFit}
 use Rattle.sched_model.specs.Credit2.{take_budget}
 use Rattle.credit2_core.specs.Credit2State.{IsLineOf}
 use Rattle.credit2_core.specs.Whole.{IsReadyBut}

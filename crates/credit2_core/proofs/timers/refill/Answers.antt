@@ -13,11 +13,11 @@ use Rattle.std.proofs.Common.{true, refl}
 use Rattle.credit2_core.specs.Whole.{IsReadyBut}
 use Rattle.credit2_core.proofs.Kept.{but_of, but_again}
 use Rattle.credit2_core.proofs.Keeping.{sound_refilled}
-use Rattle.credit2_core.proofs.Ranges.{plain_fits, range_later}
+use Rattle.credit2_core.proofs.Ranges.{shared_fits, range_later}
 use Rattle.credit2_core.proofs.timers.refill.Goals as goal
 
 pub refill-requires-clause-fits : goal.refill-requires-clause-fits
-refill-requires-clause-fits c = plain_fits c.args.t.0 c.args.state.now.records (range_later c.args.state.now.latest c.args.t.0 c.args.state.now.records c.requires.now.after c.requires.sound.range)
+refill-requires-clause-fits c = shared_fits c.args.t.0 c.args.state.now.records (range_later c.args.state.now.latest c.args.t.0 c.args.state.now.records c.requires.now.after c.requires.sound.range)
 
 pub returns-clause-sound : goal.returns-clause-sound
 returns-clause-sound c =

@@ -1,7 +1,7 @@
 use Rattle.std.proofs.Common.{◌∙◌, sym, ap}
 use Rattle.sched_model.specs.Places.{at_place}
-use Rattle.plain_pool.specs.Fits.{DomainFits}
-use Rattle.plain_pool.proofs.FitsLemmas.{at_place-fits}
+use Rattle.pool_records.specs.Fits.{DomainFits}
+use Rattle.pool_records.proofs.FitsLemmas.{at_place-fits}
 use Rattle.plain_commands.proofs.facts.push_stored_in.Goals as goal
 
 pub unit_count-count-requires-clause-vcpus : goal.unit_count-count-requires-clause-vcpus

@@ -1,6 +1,6 @@
 use Rattle.std.proofs.Common.{refl}
 use Rattle.sched_model.specs.Pool.{unpause}
-use Rattle.plain_pool.specs.Fits.{PoolFits}
+use Rattle.pool_records.specs.Fits.{PoolFits}
 use Rattle.plain_opening.specs.OpeningPool.{FewWait}
 use Rattle.plain_commands.proofs.Items.{changed-item}
 use Rattle.sched_laws.proofs.EachPlace.{place_fits}

@@ -1,6 +1,6 @@
 use Rattle.std.proofs.Common.{◌∙◌}
 use Rattle.sched_model.specs.Opening.{opening_free}
-use Rattle.plain_opening.proofs.Growing.{numbers_one_more}
+use Rattle.pool_records.proofs.Growing.{numbers_one_more}
 use Rattle.plain_opening.proofs.cores.free_cores.Goals as goal
 
 pub loop-r-preserved : goal.loop-r-preserved

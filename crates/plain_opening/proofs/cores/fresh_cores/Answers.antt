@@ -1,6 +1,6 @@
 use Rattle.std.proofs.Common.{◌∙◌}
-use Rattle.plain_opening.specs.OpeningPool.{opening_core}
-use Rattle.plain_opening.proofs.Growing.{numbers_one_more}
+use Rattle.pool_records.specs.OpeningCores.{opening_core}
+use Rattle.pool_records.proofs.Growing.{numbers_one_more}
 use Rattle.plain_opening.proofs.cores.fresh_cores.Goals as goal
 
 pub loop-r-preserved : goal.loop-r-preserved

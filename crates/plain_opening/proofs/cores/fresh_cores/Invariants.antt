@@ -1,7 +1,7 @@
 use Rattle.std.proofs.Common.{◌≡◌}
 use Rattle.std.specs.Prelude.{map}
 use Rattle.sched_model.specs.Places.{numbers_from}
-use Rattle.plain_opening.specs.OpeningPool.{opening_core}
+use Rattle.pool_records.specs.OpeningCores.{opening_core}
 use Rattle.plain_opening.proofs.cores.fresh_cores.Given as goal
 
 abbrev pub invariant-loop-r : goal.invariant-loop-r

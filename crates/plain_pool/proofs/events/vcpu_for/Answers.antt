@@ -1,5 +1,5 @@
 use Rattle.std.proofs.Common.{arith}
-use Rattle.plain_pool.proofs.FitsLemmas.{vcpu_for-past}
+use Rattle.pool_records.proofs.FitsLemmas.{vcpu_for-past}
 use Rattle.plain_pool.proofs.events.vcpu_for.Goals as goal
 
 pub returns-then-n-ge32 : goal.returns-then-n-ge32

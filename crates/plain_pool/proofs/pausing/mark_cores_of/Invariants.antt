@@ -1,6 +1,6 @@
 use Rattle.std.proofs.Common.{◌≡◌, ◌++◌, take, drop, length}
 use Rattle.sched_model.specs.Places.{change_each}
-use Rattle.plain_pool.specs.Marks.{pending_of}
+use Rattle.pool_records.specs.Marks.{pending_of}
 use Rattle.plain_pool.proofs.pausing.mark_cores_of.Given as goal
 
 abbrev pub invariant-loop-r : goal.invariant-loop-r

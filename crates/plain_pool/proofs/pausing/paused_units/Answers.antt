@@ -1,7 +1,7 @@
 use Rattle.std.proofs.Common.{◌∙◌, sym, ap}
 use Rattle.std.specs.Option.{option_copied}
-use Rattle.plain_pool.specs.Fits.{DomainFits}
-use Rattle.plain_pool.proofs.FitsLemmas.{at_place-fits}
+use Rattle.pool_records.specs.Fits.{DomainFits}
+use Rattle.pool_records.proofs.FitsLemmas.{at_place-fits}
 use Rattle.plain_pool.proofs.pausing.paused_units.Goals as goal
 
 pub unit_count-requires-clause-vcpus : goal.unit_count-requires-clause-vcpus

@@ -1,5 +1,5 @@
 use Rattle.std.proofs.Common.{sym}
-use Rattle.plain_pool.proofs.FitsLemmas.{vcpu_among-fits}
+use Rattle.pool_records.proofs.FitsLemmas.{vcpu_among-fits}
 use Rattle.plain_pool.proofs.pool.is_done.Goals as goal
 
 pub done_at-requires : goal.done_at-requires

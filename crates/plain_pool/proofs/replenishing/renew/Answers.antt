@@ -1,7 +1,7 @@
 use Rattle.std.proofs.Common.{sym, ap, ◌∙◌}
 use Rattle.std.specs.Option.{option_copied}
 use Rattle.sched_model.specs.Policy.{rtds_record}
-use Rattle.plain_pool.proofs.Replenished.{replenished-there}
+use Rattle.pool_records.proofs.Replenished.{replenished-there}
 use Rattle.plain_pool.proofs.replenishing.renew.Goals as goal
 
 pub unreachable-requires : goal.unreachable-requires

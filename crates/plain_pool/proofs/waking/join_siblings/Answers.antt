@@ -1,6 +1,6 @@
 use Rattle.std.proofs.Common.{◌<◌, ◌≤◌, ◌*◌, ◌%◌, arith, sym, ◌∙◌, length}
 use Rattle.std.proofs.Math.Nat.{mul-le-mul, mod-lt}
-use Rattle.plain_pool.proofs.FitsLemmas.{core_of-inside}
+use Rattle.pool_records.proofs.FitsLemmas.{core_of-inside}
 use Rattle.plain_pool.proofs.waking.join_siblings.Goals as goal
 
 pub overflow_cast-p : goal.overflow_cast-p

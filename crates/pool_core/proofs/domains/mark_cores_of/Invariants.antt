@@ -1,5 +1,5 @@
 use Rattle.std.proofs.Common.{◌≡◌}
-use Rattle.plain_pool.specs.Marks.{pending_of}
+use Rattle.pool_records.specs.Marks.{pending_of}
 use Rattle.pool_core.specs.CoreLooks.{change_first}
 use Rattle.pool_core.proofs.domains.mark_cores_of.Given as goal
 

@@ -1,5 +1,5 @@
 use Rattle.std.proofs.Common.{◌≡◌}
-use Rattle.plain_pool.specs.Marks.{due_now_of}
+use Rattle.pool_records.specs.Marks.{due_now_of}
 use Rattle.pool_core.specs.CoreLooks.{change_first}
 use Rattle.pool_core.proofs.params.make_cores_due.Given as goal
 

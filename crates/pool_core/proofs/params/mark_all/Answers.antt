@@ -2,7 +2,7 @@ use Rattle.std.proofs.Common.{List, refl, ap, ◌∙◌, arith}
 use Rattle.std.specs.Prelude.{Option}
 use Rattle.sched_model.specs.declared.state.Resource.{Resource}
 use Rattle.core_state.specs.Seen.{Seen, changed_core}
-use Rattle.plain_pool.specs.Marks.{pending_each}
+use Rattle.pool_records.specs.Marks.{pending_each}
 use Rattle.pool_core.proofs.Settled.{first-all, first-next}
 use Rattle.pool_core.proofs.params.mark_all.Goals as goal
 

@@ -1,5 +1,5 @@
 use Rattle.std.proofs.Common.{◌≡◌, ◌-◌}
-use Rattle.plain_opening.specs.OpeningPool.{opening_core}
+use Rattle.pool_records.specs.OpeningCores.{opening_core}
 use Rattle.pool_opening.specs.OpeningPool.{with_cores}
 use Rattle.pool_opening.proofs.Attaching.{places_to}
 use Rattle.pool_opening.proofs.cores.attach_all.Given as goal

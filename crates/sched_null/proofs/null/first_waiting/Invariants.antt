@@ -3,7 +3,7 @@ use Rattle.std.specs.Prelude.{filter}
 use Rattle.sched_model.specs.declared.state.Records.TheVariants.{NullPool}
 use Rattle.sched_model.specs.EligibleUnits.{is_eligible}
 use Rattle.sched_model.specs.NullScheduler.{earliest_unit}
-use Rattle.plain_policy.specs.Parts.{scheduler_of}
+use Rattle.scheduler_records.specs.Parts.{scheduler_of}
 use Rattle.sched_null.proofs.null.first_waiting.Given as goal
 
 abbrev pub invariant-loop-u : goal.invariant-loop-u

@@ -2,7 +2,7 @@ use Rattle.std.proofs.Common.{sym, ◌∙◌, ap}
 use Rattle.std.specs.Prelude.{is_some, not}
 use Rattle.sched_model.specs.declared.state.Records.TheVariants.{NullPool}
 use Rattle.sched_model.specs.EligibleUnits.{is_eligible, is_allowed_by}
-use Rattle.plain_policy.specs.Parts.{scheduler_of}
+use Rattle.scheduler_records.specs.Parts.{scheduler_of}
 use Rattle.sched_null.proofs.Choosing.{any_is_first, only_where_barred}
 use Rattle.sched_null.proofs.null.is_wanted.Goals as goal
 

@@ -1,7 +1,7 @@
 use Rattle.std.proofs.Common.{subst, sym}
-use Rattle.plain_pool.specs.Fits.{PoolFits}
+use Rattle.pool_records.specs.Fits.{PoolFits}
 use Rattle.sched_model.specs.declared.state.Pool.{Pool}
-use Rattle.plain_units.specs.Fits.{RecordsFit}
+use Rattle.scheduler_records.specs.Fits.{RecordsFit}
 use Rattle.sched_plain.proofs.DomMoving.{without-fits}
 use Rattle.sched_plain.proofs.dom_moves.leave.Goals as goal
 

@@ -1,5 +1,5 @@
 use Rattle.std.proofs.Common.{sym}
-use Rattle.plain_pool.proofs.FitsLemmas.{at_place-fits}
+use Rattle.pool_records.proofs.FitsLemmas.{at_place-fits}
 use Rattle.sched_plain.proofs.enabled.is_enabled_at.Goals as goal
 
 pub is_enabled_in-requires-clause-fits : goal.is_enabled_in-requires-clause-fits

@@ -3,7 +3,7 @@ use Rattle.sched_model.specs.Opening.{fresh_core}
 use Rattle.sched_model.specs.Places.{put_at}
 use Rattle.sched_laws.proofs.EachPlace.{length_set}
 use Rattle.std.specs.Prelude.{Some}
-use Rattle.plain_pool.specs.Fits.{PoolFits}
+use Rattle.pool_records.specs.Fits.{PoolFits}
 use Rattle.sched_plain.proofs.Moving.{resources-fit}
 use Rattle.sched_plain.proofs.moves.join_core.Goals as goal
 

@@ -1,5 +1,5 @@
 use Rattle.std.proofs.Common.{◌∙◌, arith}
-use Rattle.plain_pool.proofs.FitsLemmas.{at_place-item, at_place-past}
+use Rattle.pool_records.proofs.FitsLemmas.{at_place-item, at_place-past}
 use Rattle.sched_plain.proofs.Bridges.{stands-early, stands-machine}
 use Rattle.sched_plain.proofs.Performing.{pool-here, enabled-here, fits-here, fits-after, event-here, state-here}
 use Rattle.sched_plain.proofs.perform.perform_at.Goals as goal

@@ -1,5 +1,5 @@
 use Rattle.std.proofs.Common.{rules}
-use Rattle.plain_scans.specs.Ready.{AreWhole, ScanFits}
+use Rattle.plain_pool.specs.Ready.{AreWhole, ScanFits}
 use Rattle.sched_plain.proofs.Turns.{first_place-has, others-have, pools_more, pools_none}
 use Rattle.sched_plain.proofs.soonest.+of_pools.Goals as goal
 

@@ -1,8 +1,8 @@
 use Rattle.std.proofs.Common.{sym, subst}
 use Rattle.std.specs.Prelude.{Option}
 use Rattle.sched_model.specs.declared.state.Pool.{Pool}
-use Rattle.plain_scans.specs.Ready.{IsLeastWith}
-use Rattle.plain_scans.proofs.Leasts.{least_none}
+use Rattle.plain_pool.specs.Ready.{IsLeastWith}
+use Rattle.plain_pool.proofs.Leasts.{least_none}
 use Rattle.sched_plain.specs.Soonest.{IsReadyAt}
 use Rattle.sched_plain.proofs.soonest.of_pool.Goals as goal
 

@@ -6,7 +6,7 @@ use Rattle.sched_model.specs.declared.state.Pool.{Pool}
 use Rattle.sched_model.specs.declared.state.State.{State}
 use Rattle.sched_model.specs.Places.{numbered_items}
 use Rattle.sched_laws.specs.EachPlace.{EachPlace}
-use Rattle.plain_scans.specs.Ready.{AreWhole, IsLeastWith, ScanFits, lesser}
+use Rattle.plain_pool.specs.Ready.{AreWhole, IsLeastWith, ScanFits, lesser}
 use Rattle.sched_plain.specs.Soonest.{IsReadyAmong, command_ready, last_moment, least_of_free, stall_ready}
 use Rattle.sched_plain.proofs.Bridges.{stands-state}
 use Rattle.sched_plain.proofs.Turns.{are_whole, scans_fit, soonest_is}

@@ -8,11 +8,11 @@ use Rattle.sched_model.specs.declared.state.Records.TheVariants.{RtdsPool}
 use Rattle.sched_model.specs.Rtds.{burn_cur, switch_off, choice, budget_left}
 use Rattle.sched_model.specs.Policy.{decision_of, after_decision}
 use Rattle.sched_ops.specs.Seen.{Seen, seen_at}
-use Rattle.plain_policy.specs.Parts.{scheduler_of}
+use Rattle.scheduler_records.specs.Parts.{scheduler_of}
 use Rattle.rtds_queue.specs.Lists.{Lists}
 use Rattle.rtds_core.specs.Best.{queue_of, AreQueued, queues_without, dues_with, dues_without, run_from}
 use Rattle.rtds_core.specs.RtdsParts.{IsShaped, seen_of}
-use Rattle.rtds_core.proofs.Changed.{plain_fits}
+use Rattle.rtds_core.proofs.Changed.{shared_fits}
 use Rattle.rtds_core.proofs.Queues.{IsOrdered}
 use Rattle.rtds_core.proofs.First.{IsKnown}
 use Rattle.rtds_core.proofs.Chosen.{kept_charged, kept_chosen, seen_chosen}
@@ -26,7 +26,7 @@ burn_cur-requires-clause-fits c =
     let later = kept_asked i.domains i.affinity i.queues i.masks i.alarms i.spare i.latest ask c.args.self.now c.self.view_is c.requires.asked c.self.invariant in
     let places = c.self.invariant.shape.places in
     let most = c.self.invariant.shape.few in
-    plain_fits ask.at.0 i.domains (omega (arith, places, most)) later.fits
+    shared_fits ask.at.0 i.domains (omega (arith, places, most)) later.fits
 
 pub pick-chosen-requires-clause-queues : goal.pick-chosen-requires-clause-queues
 pick-chosen-requires-clause-queues c =

@@ -10,7 +10,7 @@ use Rattle.sched_ops.specs.declared.timer.Timer.TheVariants.{Repl}
 use Rattle.rtds_queue.specs.Lists.{holds}
 use Rattle.rtds_core.specs.Best.{queue_of}
 use Rattle.rtds_core.specs.RtdsParts.{seen_of, renewed_if, rearmed_dues}
-use Rattle.rtds_core.proofs.Changed.{plain_fits, low_unit}
+use Rattle.rtds_core.proofs.Changed.{shared_fits, low_unit}
 use Rattle.rtds_core.proofs.Queues.{IsOrdered}
 use Rattle.rtds_core.proofs.Steps.{kept_later, tells_waiting}
 use Rattle.rtds_core.proofs.Chosen.{replenished_holds, kept_replenished, queue_replenished}
@@ -26,7 +26,7 @@ replenish-requires-clause-fits c =
     let later = kept_later i.domains i.affinity i.queues i.masks i.alarms i.spare i.latest t past c.requires.now.early c.self.invariant in
     let places = c.self.invariant.shape.places in
     let most = c.self.invariant.shape.few in
-    plain_fits t i.domains (omega (arith, places, most)) later.fits
+    shared_fits t i.domains (omega (arith, places, most)) later.fits
 
 pub renew-requires-clause-id : goal.renew-requires-clause-id
 renew-requires-clause-id c =

@@ -1,7 +1,7 @@
 use Rattle.std.proofs.Common.{sym, ap, ◌∙◌}
 use Rattle.std.specs.Option.{option_copied}
 use Rattle.sched_model.specs.Pool.{vcpu_among}
-use Rattle.plain_pool.proofs.FitsLemmas.{vcpu_among-fits}
+use Rattle.pool_records.proofs.FitsLemmas.{vcpu_among-fits}
 use Rattle.unit_state.proofs.GuestLemmas.{all_fit}
 use Rattle.unit_state.proofs.domains.Guests.done_at.Goals as goal
 

@@ -1,8 +1,0 @@
-use Rattle.std.proofs.Common.{sym, subst}
-use Rattle.plain_credit2.specs.Bounds.{PoolFits}
-use Rattle.plain_credit2.proofs.Steps.{burn_cur_fits}
-use Rattle.plain_credit2.proofs.credit2.choose.Goals as goal
-
-pub run_unit-requires-clause-fits : goal.run_unit-requires-clause-fits
-run_unit-requires-clause-fits c =
-    subst (PoolFits c.args.ask.now.at.0) (sym c.burn_cur.ensures) (burn_cur_fits c.args.ask.now.cur c.args.ask.now.at.0 c.args.records.now c.requires.early c.requires.fits)

@@ -1,5 +1,0 @@
-use Rattle.std.proofs.Common.{length}
-use Rattle.plain_policy.proofs.null.+has_place_from.Given as goal
-
-abbrev pub decreases-has_place_from : goal.decreases-has_place_from
-decreases-has_place_from l = length l.places.now

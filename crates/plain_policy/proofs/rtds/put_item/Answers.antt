@@ -1,5 +1,0 @@
-use Rattle.sched_model.proofs.PlaceLemmas.{slice_set-changed}
-use Rattle.plain_policy.proofs.rtds.put_item.Goals as goal
-
-pub returns-in-Some : goal.returns-in-Some
-returns-in-Some c = slice_set-changed c.args.n (λ x. c.args.unit) c.args.units.now c.in-Some.there.now c.in-Some.ensures.value

@@ -1,7 +1,0 @@
--- Windows of ARINC 653, as the plain machine keeps them.
-use Rattle.sched_model.specs.Arinc as arinc
-use Rattle.plain_policy.specs.declared.arinc.Window.{Window}
-
--- the definition's window
-abbrev pub window_of : Window → arinc.Window
-window_of w = record { unit = w.unit; until = w.until }

@@ -1,4 +1,0 @@
-pub mod Frames
-pub mod Parts
-pub mod Parameters
-pub mod Replenishments

@@ -1,5 +1,0 @@
-use Rattle.std.proofs.Common.{length}
-use Rattle.plain_pool.proofs.cores.+core_from.Given as goal
-
-abbrev pub decreases-core_from : goal.decreases-core_from
-decreases-core_from l = length l.cores.now

@@ -1,7 +1,0 @@
-use Rattle.std.proofs.Common.{refl}
-use Rattle.plain_pool.specs.Fits.{DomainFits}
-use Rattle.plain_pool.proofs.FitsLemmas.{place-fits}
-use Rattle.plain_pool.proofs.vcpus.wake_vcpu.Goals as goal
-
-pub wake_at-requires : goal.wake_at-requires
-wake_at-requires c = place-fits DomainFits c.args.domains.now c.args.v.dom.0 c.in-Some-place.domain c.requires (c.in-Some.ensures.some.0 refl) (rw c.in-Some-place.is at c.in-Some.ensures.value)

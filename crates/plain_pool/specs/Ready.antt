@@ -1,0 +1,169 @@
+-- The least moment from which on something of a pool may come, and what it is the least of, part by part. g is the number of a core's processors.
+use Rattle.sched_base.specs.Numbers.{domain, moment}
+use Rattle.std.specs.Prelude.{ℕ, suc, ◌≡◌, ◌≤◌, ◌⊎◌, ◌&&◌, ◌||◌, Bool, not, min, List, [], ◌∷◌, Option, Some, None, is_some, option_map, length, if◌then◌else◌}
+use Rattle.std.specs.List.{list_any, list_all}
+use Rattle.sched_base.specs.declared.Moment.{Moment}
+use Rattle.sched_base.specs.declared.UnitId.{UnitId}
+use Rattle.sched_base.specs.declared.VcpuId.{VcpuId}
+use Rattle.sched_model.specs.declared.action.Action.{Action}
+use Rattle.sched_model.specs.declared.state.Credit2Domain.{Credit2Domain}
+use Rattle.sched_model.specs.declared.state.Doing.TheVariants.{Guest, Idle, Held}
+use Rattle.sched_model.specs.declared.state.Domain.{Domain}
+use Rattle.sched_model.specs.declared.state.Pool.{Pool}
+use Rattle.sched_model.specs.declared.state.Processor.{Processor}
+use Rattle.sched_model.specs.declared.state.Records.{Records}
+use Rattle.sched_model.specs.declared.state.Records.TheVariants.{Credit2Pool, RtdsPool, ArincPool, NullPool}
+use Rattle.sched_model.specs.declared.state.Resource.{Resource}
+use Rattle.sched_model.specs.declared.state.RtdsUnit.{RtdsUnit}
+use Rattle.sched_model.specs.declared.state.Vcpu.{Vcpu}
+use Rattle.sched_model.specs.Places.{has_unit, numbered_items}
+use Rattle.sched_model.specs.Pool.{core_of, done_at, is_held, is_of_domain, is_open, vcpu_of}
+use Rattle.sched_laws.specs.EachPlace.{EachPlace}
+use Rattle.pool_laws.specs.ReadyMoments.{first_end, gathers, later_moment, lowest_end, may_move, moment_if, ready_in}
+use Rattle.pool_records.specs.Fits.{PoolFits}
+
+-- the least of a number and of those that have a property
+pub record IsLeastWith (best : ℕ) (IsOne : ℕ → Type 0) (least : ℕ) : Type 0 where
+  pub no_more : least ≤ best
+  pub no_later : (at : ℕ) → IsOne at → least ≤ at
+  pub one : (least ≡ best) ⊎ IsOne least
+
+-- it is the moment from which on some action may come in the pool
+pub record IsReadyIn (g : ℕ) (pool : Pool) (at : ℕ) : Type 0 where
+  pub action : Action
+  pub ready : ready_in g pool action ≡ Some (moment at)
+
+-- each core of the pool has g processors
+abbrev pub AreWhole : ℕ → Pool → Type 0
+AreWhole g pool = EachPlace (λ (c : Resource). length c.processors ≡ g) pool.resources
+
+-- records that go by domain are of at most 64 domains
+abbrev pub AreFewRecords : Records → Type 0
+AreFewRecords (Credit2Pool records) = length records.domains ≤ 64
+AreFewRecords (RtdsPool domains) = length domains ≤ 64
+AreFewRecords (ArincPool records) = Unit {0}
+AreFewRecords (NullPool kept) = Unit {0}
+
+-- the numbers of the pool are in range
+pub record ScanFits (pool : Pool) : Type 0 where
+  pub fits : PoolFits pool
+  pub few_records : AreFewRecords pool.scheduler.records
+
+-- the lesser of a number and a moment, where there is one
+abbrev pub lesser : ℕ → Option Moment → ℕ
+lesser best None = best
+lesser best (Some at) = min best at.0
+
+-- the least so far, after f has looked at each item in turn
+abbrev pub least_each : {X : Type 0} → (ℕ → X → ℕ) → ℕ → List X → ℕ
+least_each f best [] = best
+least_each f best (x ∷ xs) = least_each f (f best x) xs
+
+-- the vCPU that the processor runs
+abbrev pub guest_on : Processor → Option VcpuId
+guest_on q = elim q.doing [ Guest v ↦ Some v | Idle ↦ None | Held ↦ None ]
+
+-- when the work of the vCPU is done
+unfoldable pub done_of : Pool → VcpuId → Option Moment
+done_of pool v = elim (vcpu_of pool v) [ None ↦ None | Some x ↦ done_at x ]
+
+-- when the work of the vCPU that the processor runs is done
+unfoldable pub work_on : Pool → Processor → Option Moment
+work_on pool q = elim (guest_on q) [ None ↦ None | Some v ↦ done_of pool v ]
+
+-- from when on the processor of the core may arrive or leave
+unfoldable pub move_end : Resource → Processor → Option Moment
+move_end c q = (if is_held q then moment_if (not (is_open c)) (Some q.stall_end) else moment_if (gathers c) (Some q.stall_end))
+
+-- from when on the vCPU that it runs may block
+unfoldable pub block_end : Pool → Processor → Option Moment
+block_end pool q = later_moment (work_on pool q) (Some q.stall_end)
+
+-- the least so far, and of the processor of the core
+abbrev pub least_of_processor : Pool → Resource → ℕ → Processor → ℕ
+least_of_processor pool c best q = lesser (lesser best (move_end c q)) (block_end pool q)
+
+-- from when on the core's due has come, where it is not pending
+unfoldable pub due_end : Resource → Option Moment
+due_end c = moment_if (not c.pending) (later_moment c.due (first_end c))
+
+-- from when on the core may decide
+abbrev pub decides : Resource → Bool
+decides c = list_all is_held c.processors && is_open c
+
+unfoldable pub decide_end : Resource → Option Moment
+decide_end c = moment_if (decides c) (first_end c)
+
+-- from when on the core may save
+abbrev pub saves : Resource → Bool
+saves c = is_some c.saving && not (list_any is_held c.processors)
+
+unfoldable pub save_end : Resource → Option Moment
+save_end c = moment_if (saves c) (first_end c)
+
+-- from when on the core may leave the pool
+unfoldable pub moved_end : Resource → Option Moment
+moved_end c = moment_if (may_move c) (first_end c)
+
+-- the least so far, and of the core
+unfoldable pub least_of_core : Pool → ℕ → Resource → ℕ
+least_of_core pool best c =
+    lesser (lesser (lesser (lesser (least_each (least_of_processor pool c) best c.processors) (due_end c)) (decide_end c)) (save_end c)) (moved_end c)
+
+-- and of each core
+abbrev pub least_of_cores : Pool → ℕ → List (ℕ × Resource) → ℕ
+least_of_cores pool best cores = least_each (λ so_far (e : ℕ × Resource). least_of_core pool so_far e.1) best cores
+
+-- and of the wakes of vCPUs
+abbrev pub least_of_vcpus : ℕ → List Vcpu → ℕ
+least_of_vcpus best vcpus = least_each (λ so_far (x : Vcpu). lesser so_far x.asleep_until) best vcpus
+
+-- from when on the domain may move
+abbrev pub may_dom_move : Pool → ℕ → Domain → Bool
+may_dom_move pool d x = is_some x.moving && not (list_any (λ e. is_of_domain d e.1.cur || is_of_domain d e.1.saving) (numbered_items 0 pool.resources))
+
+unfoldable pub dom_moved_end : Pool → ℕ → Domain → Option Moment
+dom_moved_end pool d x = moment_if (may_dom_move pool d x) (Some (moment 0))
+
+-- the least so far, and of the domain
+unfoldable pub least_of_domain : Pool → ℕ → ℕ → Domain → ℕ
+least_of_domain pool d best x = lesser (least_of_vcpus best x.vcpus) (dom_moved_end pool d x)
+
+-- and of each domain
+abbrev pub least_of_domains : Pool → ℕ → List (ℕ × Domain) → ℕ
+least_of_domains pool best domains = least_each (λ so_far (e : ℕ × Domain). least_of_domain pool e.0 so_far e.1) best domains
+
+-- from when on a domain of this record may be refilled, which is not before an end
+unfoldable pub refill_end : Moment → Credit2Domain → Option Moment
+refill_end end x = later_moment (option_map moment x.refill) (Some end)
+
+-- the least so far, and of the refills
+abbrev pub least_of_refills : Moment → ℕ → List (ℕ × Credit2Domain) → ℕ
+least_of_refills end best domains = least_each (λ so_far (e : ℕ × Credit2Domain). lesser so_far (refill_end end e.1)) best domains
+
+-- whether the unit waits or is on a core
+abbrev pub is_about : Pool → UnitId → Bool
+is_about pool u = has_unit pool.scheduler.queue u || is_some (core_of pool u)
+
+-- from when on the unit of this deadline may be replenished, which is not before an end
+unfoldable pub repl_end : Pool → Moment → UnitId → ℕ → Option Moment
+repl_end pool end u deadline = later_moment (moment_if (is_about pool u) (Some (moment deadline))) (Some end)
+
+-- the least so far, and of these units of the domain d, of which the first has the index n
+abbrev pub least_of_units : Pool → Moment → ℕ → ℕ → ℕ → List RtdsUnit → ℕ
+least_of_units pool end d n best [] = best
+least_of_units pool end d n best (x ∷ units) = least_of_units pool end d (suc n) (lesser best (repl_end pool end (record { dom = domain d; n = n }) x.deadline)) units
+
+-- and of each unit of these domains
+abbrev pub least_of_all_units : Pool → Moment → ℕ → List (ℕ × List RtdsUnit) → ℕ
+least_of_all_units pool end best domains = least_each (λ so_far (e : ℕ × List RtdsUnit). least_of_units pool end e.0 0 so_far e.1) best domains
+
+-- and of the scheduler's timers, which do not come before an end
+unfoldable pub least_of_timers : Pool → Moment → ℕ → Records → ℕ
+least_of_timers pool end best (Credit2Pool records) = least_of_refills end best (numbered_items 0 records.domains)
+least_of_timers pool end best (RtdsPool domains) = least_of_all_units pool end best (numbered_items 0 domains)
+least_of_timers pool end best (ArincPool records) = best
+least_of_timers pool end best (NullPool kept) = best
+
+unfoldable pub least_of_scheduler : Pool → ℕ → ℕ
+least_of_scheduler pool best = elim (lowest_end pool) [ None ↦ best | Some end ↦ least_of_timers pool end best pool.scheduler.records ]

@@ -1,0 +1,240 @@
+//! A look at the cores of a pool: the best of the waiting units is found once, and each core is compared with it. Moments are in nanoseconds.
+
+ghost use Rattle.sched_model.specs.CheckedMachine.{most_span};
+ghost use Rattle.std.specs.Prelude.{◌≡◌, ◌<◌, ◌≤◌, ◌&&◌, is_some, not};
+ghost use Rattle.std.specs.Option.{ForSome};
+ghost use Rattle.sched_model.specs.declared.state.Records.TheVariants.{ArincPool};
+ghost use Rattle.sched_model.specs.Credit2.{domain_has_budget as domain_has_budget_spec};
+ghost use Rattle.sched_model.specs.Rtds.{unit_before as unit_before_spec};
+ghost use Rattle.sched_model.specs.Policy.{is_better as is_better_spec, better_waits as better_waits_spec};
+ghost use Rattle.scheduler_records.specs.Fits.{IsFrame, RecordsFit};
+ghost use Rattle.plain_pool.specs.Looks.{Finds, HasCredit, IsOwnAllowed, best_from, best_waiting, better, credit_where, has_left, is_better_than, is_more_than, is_null, is_richer, most_of};
+
+use plain_schedulers::policy;
+use plain_schedulers::queue::has_unit;
+use sched_base::{Cores, Moment, ResId, UnitId};
+use sched_model::state::{ArincRecords, Credit2Records, Records, RtdsUnits, Scheduler};
+use sched_model::units::is_same;
+use scheduler_records::arinc::present_window;
+use scheduler_records::credit2_running::{burned_credit_by, credit_of, max_weight};
+use scheduler_records::credit2_slice::{domain_has_budget, is_within_limit};
+use scheduler_records::eligible::is_allowed;
+use scheduler_records::rtds::{budget_left, unit_before};
+
+/// What a look finds once: the best of the waiting units that may run, and the greatest weight of a Credit2 pool.
+#[derive(Clone, Copy)]
+pub struct Look {
+    pub best: Option<UnitId>,
+    pub most: u32,
+}
+
+/// The unit's credit, where its domain may run.
+fn credit_if(records: &Credit2Records, u: UnitId) -> Option<i64>
+    ensures { result ≡ credit_where records.now (domain_has_budget_spec records.now u) u }
+{
+    if domain_has_budget(records, u) {
+        Some(credit_of(records, u))
+    } else {
+        None
+    }
+}
+
+/// Whether the credit is more than that of the best so far, which is any where there is none.
+fn is_more(best: Option<UnitId>, most: i64, credit: i64) -> bool
+    ensures { result ≡ is_more_than best most credit }
+{
+    match best {
+        None => true,
+        Some(_) => most < credit,
+    }
+}
+
+/// The one of greatest credit, of the best so far, which has this credit, and the units whose domains may run; the first where they have as much.
+fn richest(
+    records: &Credit2Records,
+    best: Option<UnitId>,
+    most: i64,
+    units: &[UnitId],
+) -> Option<UnitId>
+    requires { HasCredit records.now best most }
+    ensures { result ≡ best_from (domain_has_budget_spec records.now) (is_richer records.now) best
+        units.now }
+{
+    match units {
+        [] => best,
+        [u, rest @ ..] => match credit_if(records, *u) {
+            Some(credit) if is_more(best, most, credit) => {
+                richest(records, Some(*u), credit, rest)
+            }
+            _ => richest(records, best, most, rest),
+        },
+    }
+}
+
+/// The one that runs first, of the best so far and a unit with budget left.
+fn earlier(domains: &[Option<RtdsUnits>], best: Option<UnitId>, u: UnitId) -> Option<UnitId>
+    ensures { result ≡ better (has_left domains.now) (unit_before_spec domains.now) best u }
+{
+    let is_better = 0 < budget_left(domains, u)
+        && match best {
+            None => true,
+            Some(b) => unit_before(domains, u, b),
+        };
+    if is_better { Some(u) } else { best }
+}
+
+/// The one that runs first, of the best so far and the units with budget left.
+fn earliest(domains: &[Option<RtdsUnits>], best: Option<UnitId>, units: &[UnitId]) -> Option<UnitId>
+    ensures { result ≡ best_from (has_left domains.now) (unit_before_spec domains.now) best
+        units.now }
+{
+    match units {
+        [] => best,
+        [u, rest @ ..] => earliest(domains, earlier(domains, best, *u), rest),
+    }
+}
+
+/// The unit of the present window, where it waits.
+fn window_unit(records: &ArincRecords, t: Moment, queue: &[UnitId]) -> Option<UnitId>
+    requires frame { ForSome records.now.frame IsFrame }
+    requires early { t.0 ≤ most_span }
+    ensures { result ≡ best_waiting (ArincPool records.now) t.0 queue.now }
+{
+    let window = present_window(records, t)?;
+    let u = window.unit?;
+    if has_unit(queue, u) { Some(u) } else { None }
+}
+
+/// What a look at t finds once.
+pub fn look_of(scheduler: &Scheduler, t: Moment) -> Look
+    requires records { RecordsFit t.0 scheduler.now.records }
+    requires early { t.0 ≤ most_span }
+    ensures { Finds result t.0 scheduler.now }
+{
+    let queue = scheduler.queue.as_slice();
+    match &scheduler.records {
+        Records::Credit2Pool(records) => Look {
+            best: richest(records, None, 0, queue),
+            most: max_weight(records),
+        },
+        Records::RtdsPool(domains) => Look {
+            best: earliest(domains.as_slice(), None, queue),
+            most: 0,
+        },
+        Records::ArincPool(records) => Look {
+            best: window_unit(records, t, queue),
+            most: 0,
+        },
+        Records::NullPool(_) => Look {
+            best: None,
+            most: 0,
+        },
+    }
+}
+
+/// Whether the unit is better than the core's own. The greatest weight of a Credit2 pool is most.
+fn is_better(
+    scheduler: &Scheduler,
+    most: u32,
+    cur: UnitId,
+    since: Moment,
+    t: Moment,
+    u: UnitId,
+) -> bool
+    requires records { RecordsFit t.0 scheduler.now.records }
+    requires early { t.0 ≤ most_span }
+    requires most { most ≡ most_of scheduler.now.records }
+    ensures { result ≡ is_better_spec scheduler.now.records cur since.0 t.0 u }
+{
+    match &scheduler.records {
+        Records::Credit2Pool(records) => {
+            !is_within_limit(records, since, t)
+                && burned_credit_by(most, records, t, cur) < credit_of(records, u)
+        }
+        Records::RtdsPool(domains) => unit_before(domains.as_slice(), u, cur),
+        Records::ArincPool(_) => !is_same(u, cur),
+        Records::NullPool(_) => false,
+    }
+}
+
+/// Whether the best unit is better than the core's own, which is any where it has none.
+fn is_best_better(
+    scheduler: &Scheduler,
+    most: u32,
+    cur: Option<UnitId>,
+    since: Moment,
+    t: Moment,
+    best: UnitId,
+) -> bool
+    requires records { RecordsFit t.0 scheduler.now.records }
+    requires early { t.0 ≤ most_span }
+    requires most { most ≡ most_of scheduler.now.records }
+    ensures { result ≡ is_better_than scheduler.now.records cur since.0 t.0 best }
+{
+    match cur {
+        None => true,
+        Some(own) => is_better(scheduler, most, own, since, t, best),
+    }
+}
+
+/// Whether it hangs on the core which of the waiting units may run: it has none, in a null pool.
+fn hangs_on_core(scheduler: &Scheduler, cur: Option<UnitId>) -> bool
+    ensures { result ≡ (is_null scheduler.now.records && not (is_some cur)) }
+{
+    match &scheduler.records {
+        Records::NullPool(_) => cur.is_none(),
+        _ => false,
+    }
+}
+
+/// Whether the core, on which its own unit may be, is to decide anew: for the best of the waiting units, or for another one.
+fn waits_for_core(
+    look: &Look,
+    cur: Option<UnitId>,
+    since: Moment,
+    t: Moment,
+    core: ResId,
+    home: Cores,
+    scheduler: &Scheduler,
+) -> bool
+    requires look { Finds look.now t.0 scheduler.now }
+    requires records { RecordsFit t.0 scheduler.now.records }
+    requires early { t.0 ≤ most_span }
+    requires core { core.0 < 64 }
+    requires own { IsOwnAllowed scheduler.now home.0 core.0 cur }
+    ensures { result ≡ better_waits_spec cur since.0 t.0 core.0 home.0 scheduler.now }
+{
+    match look.best {
+        None => {
+            hangs_on_core(scheduler, cur)
+                && policy::better_waits(cur, since, t, core, home, scheduler)
+        }
+        Some(best) => {
+            is_best_better(scheduler, look.most, cur, since, t, best)
+                && (is_allowed(scheduler.affinity.as_slice(), home, core, best)
+                    || policy::better_waits(cur, since, t, core, home, scheduler))
+        }
+    }
+}
+
+/// Whether the core is to decide anew: a unit waits for it while it has none, or its own is not allowed, or a better one waits.
+pub fn better_waits(
+    look: &Look,
+    cur: Option<UnitId>,
+    since: Moment,
+    t: Moment,
+    core: ResId,
+    home: Cores,
+    scheduler: &Scheduler,
+) -> bool
+    requires look { Finds look.now t.0 scheduler.now }
+    requires records { RecordsFit t.0 scheduler.now.records }
+    requires early { t.0 ≤ most_span }
+    requires core { core.0 < 64 }
+    ensures { result ≡ better_waits_spec cur since.0 t.0 core.0 home.0 scheduler.now }
+{
+    match cur {
+        Some(own) if !is_allowed(scheduler.affinity.as_slice(), home, core, own) => true,
+        _ => waits_for_core(look, cur, since, t, core, home, scheduler),
+    }
+}

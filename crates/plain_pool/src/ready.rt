@@ -1,0 +1,382 @@
+//! From when on something of a pool may come: the least moment, by one scan of its cores, its domains and its records.
+
+ghost use Rattle.std.specs.Prelude.{◌≡◌, ℕ, ◌+◌, ◌<◌, ◌≤◌, ◌^◌, length};
+ghost use Rattle.sched_model.specs.Places.{numbered_items};
+ghost use Rattle.pool_laws.specs.ReadyMoments.{moment_if, later_moment, gathers as gathers_spec, may_move as may_move_spec, first_end as first_end_spec, lowest_end as lowest_end_spec};
+ghost use Rattle.pool_records.specs.Fits.{PoolFits};
+ghost use Rattle.plain_pool.specs.Ready.{AreFewRecords, AreWhole, IsLeastWith, IsReadyIn, ScanFits, lesser as lesser_spec, least_each, done_of as done_of_spec, work_on as work_on_spec, move_end as move_end_spec, block_end as block_end_spec, least_of_processor, due_end as due_end_spec, decides as decides_spec, decide_end as decide_end_spec, saves as saves_spec, save_end as save_end_spec, moved_end as moved_end_spec, least_of_core, least_of_cores, least_of_vcpus, may_dom_move as may_dom_move_spec, dom_moved_end as dom_moved_end_spec, least_of_domain, least_of_domains, least_of_refills, refill_end, is_about as is_about_spec, repl_end, least_of_units, least_of_all_units, least_of_timers, least_of_scheduler};
+
+use plain_schedulers::queue::has_unit;
+use pool_records::cores::{all_held, any_held, core_of, first_core, has_domain, is_held, is_open};
+use pool_records::vcpus::{done_at, vcpu_of};
+use sched_base::{DomId, Moment, UnitId, VcpuId};
+use sched_model::places::item_at;
+use sched_model::state::{
+    Credit2Domain, Doing, Domain, Pool, Processor, Records, Resource, RtdsUnit, RtdsUnits, Vcpu,
+};
+
+/// The lesser of the least so far and a moment, where there is one.
+pub fn lesser(best: u64, at: Option<Moment>) -> u64
+    ensures { result ≡ lesser_spec best at }
+{
+    match at {
+        None => best,
+        Some(m) => best.min(m.0),
+    }
+}
+
+/// The moment, where the condition holds.
+pub fn end_if(condition: bool, at: Option<Moment>) -> Option<Moment>
+    ensures { result ≡ moment_if condition at }
+{
+    if condition { at } else { None }
+}
+
+/// The later of two moments, where both are there.
+fn later(a: Option<Moment>, b: Option<Moment>) -> Option<Moment>
+    ensures { result ≡ later_moment a b }
+{
+    match a {
+        None => None,
+        Some(m) => match b {
+            None => None,
+            Some(n) => Some(Moment(m.0.max(n.0))),
+        },
+    }
+}
+
+/// The end of the stall of the core's first processor.
+fn first_end(c: &Resource) -> Option<Moment>
+    ensures { result ≡ first_end_spec c.now }
+{
+    match c.processors.as_slice() {
+        [] => None,
+        [p, ..] => Some(p.stall_end),
+    }
+}
+
+/// The end of the stall of the pool's lowest processor.
+fn lowest_end(pool: &Pool) -> Option<Moment>
+    ensures { result ≡ lowest_end_spec pool.now }
+{
+    let cores = pool.resources.as_slice();
+    match first_core(cores) {
+        None => None,
+        Some(r) => match item_at(cores, r) {
+            None => None,
+            Some(c) => first_end(c),
+        },
+    }
+}
+
+/// When the work of the vCPU is done.
+#[tactic(auto, unfolding(crate::specs::Ready::done_of))]
+fn done_of(pool: &Pool, v: VcpuId) -> Option<Moment>
+    requires { PoolFits pool.now }
+    ensures { result ≡ done_of_spec pool.now v }
+{
+    match vcpu_of(pool.domains.as_slice(), v) {
+        None => None,
+        Some(x) => done_at(x),
+    }
+}
+
+/// When the work of the vCPU that the processor runs is done.
+#[tactic(auto, unfolding(crate::specs::Ready::work_on))]
+fn work_on(pool: &Pool, q: &Processor) -> Option<Moment>
+    requires { PoolFits pool.now }
+    ensures { result ≡ work_on_spec pool.now q.now }
+{
+    match q.doing {
+        Doing::Guest(v) => done_of(pool, v),
+        _ => None,
+    }
+}
+
+/// Whether the core's processors may arrive.
+fn gathers(c: &Resource) -> bool
+    ensures { result ≡ gathers_spec c.now }
+{
+    c.pending && is_open(c) && c.saving.is_none()
+}
+
+/// From when on the processor of the core may arrive, or leave.
+#[tactic(auto, unfolding(crate::specs::Ready::move_end))]
+fn move_end(c: &Resource, q: &Processor) -> Option<Moment>
+    ensures { result ≡ move_end_spec c.now q.now }
+{
+    if is_held(q) {
+        end_if(!is_open(c), Some(q.stall_end))
+    } else {
+        end_if(gathers(c), Some(q.stall_end))
+    }
+}
+
+/// From when on the vCPU that the processor runs may block.
+#[tactic(auto, unfolding(crate::specs::Ready::block_end))]
+fn block_end(pool: &Pool, q: &Processor) -> Option<Moment>
+    requires { PoolFits pool.now }
+    ensures { result ≡ block_end_spec pool.now q.now }
+{
+    later(work_on(pool, q), Some(q.stall_end))
+}
+
+/// The least so far, or from when on the processor of the core may arrive, leave or block.
+fn of_processor(best: u64, pool: &Pool, c: &Resource, q: &Processor) -> u64
+    requires { PoolFits pool.now }
+    ensures { result ≡ least_of_processor pool.now c.now best q.now }
+{
+    lesser(lesser(best, move_end(c, q)), block_end(pool, q))
+}
+
+/// The same of each of these processors of the core.
+fn of_processors(best: u64, pool: &Pool, c: &Resource, processors: &[Processor]) -> u64
+    requires { PoolFits pool.now }
+    ensures { result ≡ least_each (least_of_processor pool.now c.now) best processors.now }
+{
+    match processors {
+        [] => best,
+        [q, rest @ ..] => of_processors(of_processor(best, pool, c, q), pool, c, rest),
+    }
+}
+
+/// From when on the core's due has come.
+#[tactic(auto, unfolding(crate::specs::Ready::due_end))]
+fn due_end(c: &Resource) -> Option<Moment>
+    ensures { result ≡ due_end_spec c.now }
+{
+    end_if(!c.pending, later(c.due, first_end(c)))
+}
+
+/// Whether the core's processors are all held, and its stage is open.
+fn decides(c: &Resource) -> bool
+    ensures { result ≡ decides_spec c.now }
+{
+    all_held(c.processors.as_slice()) && is_open(c)
+}
+
+/// From when on the core may decide.
+#[tactic(auto, unfolding(crate::specs::Ready::decide_end))]
+fn decide_end(c: &Resource) -> Option<Moment>
+    ensures { result ≡ decide_end_spec c.now }
+{
+    end_if(decides(c), first_end(c))
+}
+
+/// Whether the core saves a unit, and none of its processors is held.
+fn saves(c: &Resource) -> bool
+    ensures { result ≡ saves_spec c.now }
+{
+    c.saving.is_some() && !any_held(c.processors.as_slice())
+}
+
+/// From when on the core may save.
+#[tactic(auto, unfolding(crate::specs::Ready::save_end))]
+fn save_end(c: &Resource) -> Option<Moment>
+    ensures { result ≡ save_end_spec c.now }
+{
+    end_if(saves(c), first_end(c))
+}
+
+/// Whether the core is leaving the pool, and nothing is on it.
+fn may_move(c: &Resource) -> bool
+    ensures { result ≡ may_move_spec c.now }
+{
+    c.leaving && c.cur.is_none() && c.saving.is_none() && !c.pending && is_open(c)
+}
+
+/// From when on the core may leave the pool.
+#[tactic(auto, unfolding(crate::specs::Ready::moved_end))]
+fn moved_end(c: &Resource) -> Option<Moment>
+    ensures { result ≡ moved_end_spec c.now }
+{
+    end_if(may_move(c), first_end(c))
+}
+
+/// The least so far, or from when on something of the core may come.
+#[tactic(auto, unfolding(crate::specs::Ready::least_of_core))]
+fn of_core(best: u64, pool: &Pool, c: &Resource) -> u64
+    requires { PoolFits pool.now }
+    ensures { result ≡ least_of_core pool.now best c.now }
+{
+    let siblings = of_processors(best, pool, c, c.processors.as_slice());
+    let due = lesser(siblings, due_end(c));
+    let decides = lesser(due, decide_end(c));
+    let saves = lesser(decides, save_end(c));
+    lesser(saves, moved_end(c))
+}
+
+/// The same of each of these cores, of which the first has the number r.
+fn of_cores(r: usize, best: u64, pool: &Pool, cores: &[Option<Resource>]) -> u64
+    requires few { r + length cores.now < 2 ^ 64 }
+    requires fits { PoolFits pool.now }
+    ensures { result ≡ least_of_cores pool.now best (numbered_items r cores.now) }
+{
+    match cores {
+        [] => best,
+        [None, rest @ ..] => of_cores(r + 1, best, pool, rest),
+        [Some(c), rest @ ..] => of_cores(r + 1, of_core(best, pool, c), pool, rest),
+    }
+}
+
+/// The least so far, or from when on one of the vCPUs may wake.
+fn of_vcpus(best: u64, vcpus: &[Vcpu]) -> u64
+    ensures { result ≡ least_of_vcpus best vcpus.now }
+{
+    match vcpus {
+        [] => best,
+        [x, rest @ ..] => of_vcpus(lesser(best, x.asleep_until), rest),
+    }
+}
+
+/// Whether the domain is moving, and no unit of it is on a core.
+fn may_dom_move(pool: &Pool, d: DomId, x: &Domain) -> bool
+    requires { length pool.now.resources ≤ 64 }
+    ensures { result ≡ may_dom_move_spec pool.now d.0 x.now }
+{
+    x.moving.is_some() && !has_domain(0, pool.resources.as_slice(), d)
+}
+
+/// From when on the domain may move.
+#[tactic(auto, unfolding(crate::specs::Ready::dom_moved_end))]
+fn dom_moved_end(pool: &Pool, d: DomId, x: &Domain) -> Option<Moment>
+    requires { length pool.now.resources ≤ 64 }
+    ensures { result ≡ dom_moved_end_spec pool.now d.0 x.now }
+{
+    end_if(may_dom_move(pool, d, x), Some(Moment(0)))
+}
+
+/// The least so far, or from when on something of the domain may come.
+#[tactic(auto, unfolding(crate::specs::Ready::least_of_domain))]
+fn of_domain(best: u64, pool: &Pool, d: DomId, x: &Domain) -> u64
+    requires { length pool.now.resources ≤ 64 }
+    ensures { result ≡ least_of_domain pool.now d.0 best x.now }
+{
+    lesser(
+        of_vcpus(best, x.vcpus.as_slice()),
+        dom_moved_end(pool, d, x),
+    )
+}
+
+/// The same of each of these domains, of which the first has the number d.
+fn of_domains(d: u8, best: u64, pool: &Pool, domains: &[Option<Domain>]) -> u64
+    requires few { d + length domains.now ≤ 64 }
+    requires cores { length pool.now.resources ≤ 64 }
+    ensures { result ≡ least_of_domains pool.now best (numbered_items d domains.now) }
+{
+    match domains {
+        [] => best,
+        [None, rest @ ..] => of_domains(d + 1, best, pool, rest),
+        [Some(x), rest @ ..] => {
+            of_domains(d + 1, of_domain(best, pool, DomId(d), x), pool, rest)
+        }
+    }
+}
+
+/// The least so far, or from when on the domain may be refilled, which is not before this end.
+#[tactic(auto, unfolding(crate::specs::Ready::refill_end))]
+fn of_refill(best: u64, end: Moment, x: &Credit2Domain) -> u64
+    ensures { result ≡ lesser_spec best (refill_end end x.now) }
+{
+    lesser(best, later(x.refill.map(Moment), Some(end)))
+}
+
+/// The same of each of these domains, of which the first has the number d.
+fn of_refills(d: u8, best: u64, end: Moment, domains: &[Option<Credit2Domain>]) -> u64
+    requires { d + length domains.now ≤ 64 }
+    ensures { result ≡ least_of_refills end best (numbered_items d domains.now) }
+{
+    match domains {
+        [] => best,
+        [None, rest @ ..] => of_refills(d + 1, best, end, rest),
+        [Some(x), rest @ ..] => of_refills(d + 1, of_refill(best, end, x), end, rest),
+    }
+}
+
+/// Whether the unit waits or is on a core.
+fn is_about(pool: &Pool, u: UnitId) -> bool
+    requires { length pool.now.resources ≤ 64 }
+    ensures { result ≡ is_about_spec pool.now u }
+{
+    has_unit(pool.scheduler.queue.as_slice(), u) || core_of(pool.resources.as_slice(), u).is_some()
+}
+
+/// The least so far, or from when on the unit of this deadline may be replenished, which is not before this end. Where the unit stands is
+/// asked only where its deadline comes before the least so far.
+fn of_unit(best: u64, end: Moment, pool: &Pool, u: UnitId, deadline: u64) -> u64
+    requires { length pool.now.resources ≤ 64 }
+    ensures { result ≡ lesser_spec best (repl_end pool.now end u deadline) }
+{
+    let at = deadline.max(end.0);
+    if best <= at {
+        return best;
+    }
+    lesser(best, end_if(is_about(pool, u), Some(Moment(at))))
+}
+
+/// The same of each of these units of the domain d, of which the first has the index n.
+fn of_units(n: u8, best: u64, end: Moment, pool: &Pool, d: DomId, units: &[RtdsUnit]) -> u64
+    requires few { n + length units.now ≤ 32 }
+    requires cores { length pool.now.resources ≤ 64 }
+    ensures { result ≡ least_of_units pool.now end d.0 n best units.now }
+{
+    match units {
+        [] => best,
+        [x, rest @ ..] => {
+            let next = of_unit(best, end, pool, UnitId { dom: d, n }, x.deadline);
+            of_units(n + 1, next, end, pool, d, rest)
+        }
+    }
+}
+
+/// The same of each unit of these domains, of which the first has the number d.
+fn of_all_units(d: u8, best: u64, end: Moment, pool: &Pool, domains: &[Option<RtdsUnits>]) -> u64
+    requires few { d + length domains.now ≤ 64 }
+    requires cores { length pool.now.resources ≤ 64 }
+    ensures { result ≡ least_of_all_units pool.now end best (numbered_items d domains.now) }
+{
+    match domains {
+        [] => best,
+        [None, rest @ ..] => of_all_units(d + 1, best, end, pool, rest),
+        [Some(units), rest @ ..] => {
+            let next = of_units(0, best, end, pool, DomId(d), units.as_slice());
+            of_all_units(d + 1, next, end, pool, rest)
+        }
+    }
+}
+
+/// The least so far, or from when on one of the scheduler's timers may come, which is not before this end.
+#[tactic(auto, unfolding(crate::specs::Ready::least_of_timers))]
+fn of_timers(best: u64, end: Moment, pool: &Pool, records: &Records) -> u64
+    requires records { AreFewRecords records.now }
+    requires cores { length pool.now.resources ≤ 64 }
+    ensures { result ≡ least_of_timers pool.now end best records.now }
+{
+    match records {
+        Records::Credit2Pool(own) => of_refills(0, best, end, own.domains.as_slice()),
+        Records::RtdsPool(domains) => of_all_units(0, best, end, pool, domains.as_slice()),
+        _ => best,
+    }
+}
+
+/// The same, where no timer comes before the end of the stall of the pool's lowest processor.
+#[tactic(auto, unfolding(crate::specs::Ready::least_of_scheduler))]
+fn of_scheduler(best: u64, pool: &Pool) -> u64
+    requires { ScanFits pool.now }
+    ensures { result ≡ least_of_scheduler pool.now best }
+{
+    match lowest_end(pool) {
+        None => best,
+        Some(end) => of_timers(best, end, pool, &pool.scheduler.records),
+    }
+}
+
+/// The least of the moment so far and of those from which on the events of the pool may come, moves included, while nothing else happens.
+pub fn least_ready(best: u64, pool: &Pool) -> u64
+    requires { ScanFits pool.now }
+    ensures { (g : ℕ) → AreWhole g pool.now → IsLeastWith best (IsReadyIn g pool.now) result }
+{
+    let cores = of_cores(0, best, pool, pool.resources.as_slice());
+    let domains = of_domains(0, cores, pool, pool.domains.as_slice());
+    of_scheduler(domains, pool)
+}

@@ -1,5 +1,0 @@
-use Rattle.std.proofs.Common.{length}
-use Rattle.plain_scans.proofs.ready.+of_cores.Given as goal
-
-abbrev pub decreases-of_cores : goal.decreases-of_cores
-decreases-of_cores l = length l.cores.now

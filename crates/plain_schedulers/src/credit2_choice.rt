@@ -1,0 +1,154 @@
+//! Credit2: which unit a core is to run, and for how long. Moments and spans are in nanoseconds.
+
+ghost use Rattle.std.specs.Prelude.{◌≡◌, ◌<◌, ◌≤◌, [], filter};
+ghost use Rattle.sched_model.specs.Credit2.{greatest_unit as greatest_spec, own_candidate as own_candidate_spec, choice as choice_spec, best_other as best_other_spec, slice_of as slice_of_spec};
+ghost use Rattle.scheduler_records.specs.Bounds.{PoolParamsFit};
+ghost use Rattle.scheduler_records.specs.Parts.{credit2_scheduler};
+ghost use Rattle.plain_schedulers.specs.WaitingUnits.{contends as contends_spec, richer_unit as richer_spec};
+
+use sched_base::UnitId;
+use sched_model::ask::Ask;
+use sched_model::config::Pins;
+use sched_model::places::item_at;
+use sched_model::state::Credit2Records;
+use sched_model::units::is_there;
+use scheduler_records::credit2_running::{credit_of, max_weight};
+use scheduler_records::credit2_slice::{domain_has_budget, is_within_limit, slice_in};
+use scheduler_records::eligible::is_allowed;
+
+/// The one of greater credit; the first where they have as much.
+fn richer(records: &Credit2Records, best: Option<UnitId>, u: UnitId) -> UnitId
+    ensures { result ≡ richer_spec records.now best u }
+{
+    match best {
+        None => u,
+        Some(best) => {
+            if credit_of(records, best) < credit_of(records, u) {
+                u
+            } else {
+                best
+            }
+        }
+    }
+}
+
+/// Whether the asking core may take the waiting unit, which is not the one to be passed over.
+fn contends(
+    affinity: &[Option<Pins>],
+    ask: &Ask,
+    records: &Credit2Records,
+    over: Option<UnitId>,
+    u: UnitId,
+) -> bool
+    requires { ask.now.core.0 < 64 }
+    ensures { result ≡ contends_spec affinity.now ask.now records.now over u }
+{
+    !is_there(over, u)
+        && is_allowed(affinity, ask.home, ask.core, u)
+        && domain_has_budget(records, u)
+}
+
+/// The unit of greatest credit: the best so far, or one of those that wait and contend; among equals the earlier.
+fn greatest(
+    records: &Credit2Records,
+    best: Option<UnitId>,
+    waiting: &[UnitId],
+    affinity: &[Option<Pins>],
+    ask: &Ask,
+    over: Option<UnitId>,
+) -> Option<UnitId>
+    requires { ask.now.core.0 < 64 }
+    ensures { result ≡ greatest_spec records.now best
+        (filter (contends_spec affinity.now ask.now records.now over) waiting.now) }
+{
+    match waiting {
+        [] => best,
+        [u, rest @ ..] => {
+            let next = if contends(affinity, ask, records, over, *u) {
+                Some(richer(records, best, *u))
+            } else {
+                best
+            };
+            greatest(records, next, rest, affinity, ask, over)
+        }
+    }
+}
+
+/// The core's own unit, where it may go on.
+fn own_candidate(ask: &Ask, affinity: &[Option<Pins>], records: &Credit2Records) -> Option<UnitId>
+    requires { ask.now.core.0 < 64 }
+    ensures { result ≡ own_candidate_spec ask.now (credit2_scheduler [] affinity.now records.now)
+        records.now }
+{
+    let u = ask.cur?;
+    if ask.runnable
+        && is_allowed(affinity, ask.home, ask.core, u)
+        && domain_has_budget(records, u)
+    {
+        Some(u)
+    } else {
+        None
+    }
+}
+
+/// The choice, after the core's own unit was charged.
+pub fn choice(
+    ask: &Ask,
+    queue: &[UnitId],
+    affinity: &[Option<Pins>],
+    records: &Credit2Records,
+) -> Option<UnitId>
+    requires { ask.now.core.0 < 64 }
+    ensures { result ≡ choice_spec ask.now (credit2_scheduler queue.now affinity.now records.now)
+        records.now }
+{
+    if ask.leaving {
+        return None;
+    }
+    let own = own_candidate(ask, affinity, records);
+    if own.is_some() && is_within_limit(records, ask.since, ask.at) {
+        return own;
+    }
+    greatest(records, own, queue, affinity, ask, None)
+}
+
+/// The greatest credit of the others that contend, or 0.
+fn best_other(
+    ask: &Ask,
+    queue: &[UnitId],
+    affinity: &[Option<Pins>],
+    records: &Credit2Records,
+    u: UnitId,
+) -> i64
+    requires { ask.now.core.0 < 64 }
+    ensures { result ≡ best_other_spec ask.now (credit2_scheduler queue.now affinity.now records.now)
+        records.now u }
+{
+    match greatest(records, None, queue, affinity, ask, Some(u)) {
+        None => 0,
+        Some(w) => credit_of(records, w),
+    }
+}
+
+/// How long the chosen unit runs.
+pub fn slice_of(
+    ask: &Ask,
+    queue: &[UnitId],
+    affinity: &[Option<Pins>],
+    records: &Credit2Records,
+    u: UnitId,
+) -> u64
+    requires core { ask.now.core.0 < 64 }
+    requires params { PoolParamsFit records.now }
+    requires limit { records.now.limit ≤ 500000 }
+    ensures exact { result ≡ slice_of_spec ask.now (credit2_scheduler queue.now affinity.now records.now)
+        records.now u }
+    ensures few { result ≤ 500000000 }
+{
+    let other = best_other(ask, queue, affinity, records, u);
+    let most = max_weight(records);
+    match item_at(records.domains.as_slice(), u.dom.0 as usize) {
+        None => 0,
+        Some(d) => slice_in(d, u.n, other, most, records.limit as u64 * 1000),
+    }
+}

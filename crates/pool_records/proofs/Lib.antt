@@ -1,0 +1,3 @@
+pub mod FitsLemmas
+pub mod Growing
+pub mod Replenished

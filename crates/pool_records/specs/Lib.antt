@@ -1,0 +1,4 @@
+pub mod Cores
+pub mod Fits
+pub mod Marks
+pub mod OpeningCores

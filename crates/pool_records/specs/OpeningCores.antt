@@ -1,0 +1,10 @@
+-- The cores of a pool at the opening.
+use Rattle.std.specs.Prelude.{ℕ, Option, Some, None, replicate, if◌then◌else◌}
+use Rattle.sched_base.specs.Numbers.{moment}
+use Rattle.sched_model.specs.declared.state.Resource.{Resource}
+use Rattle.sched_model.specs.Opening.{fresh_core}
+use Rattle.sched_model.specs.State.{has_core}
+
+-- the core r of g processors, where it is in the set
+abbrev pub opening_core : ℕ → ℕ → ℕ → Option Resource
+opening_core g cores r = (if has_core cores r then Some (fresh_core (replicate g (moment 0))) else None)

@@ -1,0 +1,40 @@
+//! The cores of a pool at the opening.
+
+ghost use Rattle.std.specs.Prelude.{◌≡◌, ◌≤◌, ◌<◌, replicate};
+ghost use Rattle.sched_base.specs.Numbers.{moment};
+ghost use Rattle.sched_model.specs.State.{has_core as has_core_spec};
+ghost use Rattle.sched_model.specs.Opening.{core_count as core_count_spec};
+
+use sched_base::{Moment, ResId};
+use sched_model::config::Config;
+use sched_model::facts::StallEnds;
+use sched_model::short::Short;
+
+/// Whether the core is in the set.
+pub fn has_core(cores: u64, r: ResId) -> bool
+    requires { r.0 < 64 }
+    ensures { result ≡ has_core_spec cores r.0 }
+{
+    cores / (1u64 << r.0) % 2 == 1
+}
+
+/// The ends of the stalls of g processors that were never stalled.
+#[tactic(auto, using(sched_model::proofs::Replicate::replicate_one_more))]
+pub fn no_stalls(g: u8) -> StallEnds
+    requires { g ≤ 4 }
+    ensures { result ≡ replicate g (moment 0) }
+{
+    let mut ends = Short::new();
+    for i in 0..g {
+        ends.push(Moment(0));
+    }
+    ends
+}
+
+/// How many cores the machine has.
+pub fn core_count(config: &Config) -> u8
+    requires { 0 < config.now.granularity }
+    ensures { result ≡ core_count_spec config.now }
+{
+    config.processors / config.granularity
+}
