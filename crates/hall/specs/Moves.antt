@@ -7,7 +7,7 @@ use Rattle.journal_core.specs.Parts.{tool_lock}
 use Rattle.tool_laws.specs.ListedNames.{HandsOver, ListsAsBefore}
 use Rattle.lock_moves.specs.Sets.{HasName}
 use Rattle.lock_moves.specs.SeatSight.{Holds, Seen, moved_name}
-use Rattle.lock_moves.specs.Words.{has_name, name_number}
+use Rattle.lock_moves.specs.Words.{has_name, name_number, tool_lock, book_lock}
 use Rattle.pool_slots.specs.Places.{state_of}
 use Rattle.pool_slots.specs.Told.{Told}
 use Rattle.hall.specs.declared.whole.NameMove.{NameMove}
@@ -20,8 +20,8 @@ lock_or_tool (Some i) = i.0
 -- the action hands over the name of the input from the one lock to the other
 pub record HandsNameOver (w : Told) (action : Action) (move : NameMove) : Type 0 where
   pub name : has_name w.input move.name ≡ true
-  pub from : move.from.0 < 17
-  pub to : move.to.0 < 17
+  pub from : move.from.0 < book_lock
+  pub to : move.to.0 < book_lock
   pub over : HandsOver (state_of w) (after w.input (state_of w) (state_of w).now action) (name_number move.name) move.from.0 move.to.0
 
 -- the same where there is a move; where there is none every part lists the names that it listed
@@ -33,7 +33,7 @@ HandsName w action (Some move) = HandsNameOver w action move
 pub record MayHand (v : Seen) (move : NameMove) : Type 0 where
   pub name : has_name v.input move.name ≡ true
   pub from : HasName move.from.0 (name_number move.name) v
-  pub number : move.to.0 < 17
+  pub number : move.to.0 < book_lock
   pub to : Holds move.to.0 v
 
 -- what a seat has seen, once the name was moved, if one moves

@@ -9,7 +9,7 @@ use Rattle.journal_core.specs.Histories.{part_at}
 use Rattle.lock_moves.specs.Decisions.{who_decides}
 use Rattle.lock_moves.specs.Sets.{HasName, LockTable}
 use Rattle.lock_moves.specs.SeatSight.{Holds, Known, Seen, Sitting, find_lock, known_part}
-use Rattle.lock_moves.specs.Words.{has_core}
+use Rattle.lock_moves.specs.Words.{has_core, book_lock}
 
 -- the seat has seen and done no more: it took locks of parts or gave them back
 pub record KeepsSight (old new : Sitting) : Type 0 where
@@ -24,7 +24,7 @@ pub record KeepsSight (old new : Sitting) : Type 0 where
 -- the seat of the set has the book b, whose history is its front
 pub record HasBook (set : LockTable) (b : Chronicle) (s : Sitting) : Type 0 where
   pub table : s.table ≡ set.table
-  pub holds : Holds 17 s.view
+  pub holds : Holds book_lock s.view
   pub input : b.input ≡ s.view.input
   pub limit : b.limit ≡ s.view.limit
   pub front : s.view.front ≡ b.history
@@ -54,9 +54,9 @@ pub record HasEntered (b : Chronicle) (entry : Entry) (old new : Sitting) : Type
 
 -- of each lock of a part the seat knows what it knew; it has this moment
 pub record KeepsLocksAt (now : ℕ) (old new : Seen) : Type 0 where
-  pub locks : (k : ℕ) → k < 17 → find_lock k new.held ≡ find_lock k old.held
-  pub others : (k : ℕ) → 17 < k → find_lock k old.held ≡ None → find_lock k new.held ≡ None
-  pub book : find_lock 17 new.held ≡ None
+  pub locks : (k : ℕ) → k < book_lock → find_lock k new.held ≡ find_lock k old.held
+  pub others : (k : ℕ) → book_lock < k → find_lock k old.held ≡ None → find_lock k new.held ≡ None
+  pub book : find_lock book_lock new.held ≡ None
   pub moment : new.now ≡ now
 
 -- the same at the moment that it had
@@ -65,16 +65,16 @@ KeepsLocks old new = KeepsLocksAt old.now old new
 
 -- of each lock of a part that it holds the seat knows the part of the state to which h leads, and has the names that it had for the lock
 pub record KnowsAfter (h : List Entry) (old new : Seen) : Type 0 where
-  pub some : (k : ℕ) (x : Known) → k < 17 → find_lock k old.held ≡ Some x → find_lock k new.held ≡ Some (known_part (part_at old.input h k) x.names)
+  pub some : (k : ℕ) (x : Known) → k < book_lock → find_lock k old.held ≡ Some x → find_lock k new.held ≡ Some (known_part (part_at old.input h k) x.names)
   pub none : (k : ℕ) → find_lock k old.held ≡ None → find_lock k new.held ≡ None
-  pub book : find_lock 17 new.held ≡ None
+  pub book : find_lock book_lock new.held ≡ None
   pub now : new.now ≡ old.now
 
 -- of each lock of a part but i the seat knows what it knew, at the same moment
 pub record KeepsOthers (i : ℕ) (old new : Seen) : Type 0 where
-  pub locks : (k : ℕ) → k < 17 → k ≢ i → find_lock k new.held ≡ find_lock k old.held
-  pub others : (k : ℕ) → 17 < k → find_lock k old.held ≡ None → find_lock k new.held ≡ None
-  pub book : find_lock 17 new.held ≡ None
+  pub locks : (k : ℕ) → k < book_lock → k ≢ i → find_lock k new.held ≡ find_lock k old.held
+  pub others : (k : ℕ) → book_lock < k → find_lock k old.held ≡ None → find_lock k new.held ≡ None
+  pub book : find_lock book_lock new.held ≡ None
   pub moment : new.now ≡ old.now
 
 -- the input has the core, and the seat has its name for a lock that it holds

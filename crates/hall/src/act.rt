@@ -18,6 +18,7 @@ ghost use Rattle.hall.specs.Seats.{IsCountBefore, IsOf, IsSeatOf, SeatStays, Sta
 ghost use Rattle.hall.specs.BookTurns.{DoneIn, HoldsOnly, IsNamed, Settles, SettlesFull};
 ghost use Rattle.hall.specs.Steps.{HasBook, KeepsOthers};
 ghost use Rattle.hall.specs.Turns.{ActsFull, IsDone, is_actor};
+ghost use Rattle.lock_moves.specs.Words.{tool_lock, book_lock};
 
 use crate::all::{AllParts, put_all, take_all};
 use crate::book::{put_book, take_book};
@@ -152,7 +153,7 @@ impl Hall {
         gate: &G,
     ) -> Result<(Done, u32), Full>
         requires of { IsSeatOf self.now seat.old }
-        requires number { lock.0 < 16 }
+        requires number { lock.0 < tool_lock }
         requires only { HoldsOnly lock.0 seat.old.view }
         requires knows { KnowsPool lock.0 slot seat.old.view }
         requires some { IsSome slot }
@@ -183,7 +184,7 @@ impl Hall {
         gate: &G,
     ) -> Result<(Done, u32), Full>
         requires of { IsSeatOf self.now seat.old }
-        requires number { lock.0 < 16 }
+        requires number { lock.0 < tool_lock }
         requires only { HoldsOnly lock.0 seat.old.view }
         requires knows { KnowsPool lock.0 slot.old seat.old.view }
         requires some { IsSome slot.old }
@@ -231,7 +232,7 @@ impl Hall {
         requires has { HasBook self.now book seat.old }
         requires current { Current seat.old.view }
         requires input { book.input ≡ self.now.opened.input }
-        requires number { i < 16 }
+        requires number { i < tool_lock }
         requires knows { KnowsPool i slot.old seat.old.view }
         requires some { IsSome slot.old }
         requires now { t.0 ≡ seat.old.view.now }
@@ -296,7 +297,7 @@ impl Hall {
         requires input { book.input ≡ self.now.opened.input }
         requires knows { KnowsAll all.old seat.old.view }
         ensures knows { KnowsAll all.new seat.new.view }
-        ensures book { find_lock 17 seat.new.view.held ≡ None }
+        ensures book { find_lock book_lock seat.new.view.held ≡ None }
         ensures done { IfOk result (λ r. Settles Tool r.0 r.1 book seat.old seat.new) }
         ensures full { IfErr result (λ full. SettlesFull Tool full book seat.old seat.new) }
     {

@@ -4,18 +4,17 @@ ghost use Rattle.std.specs.Prelude.{◌≡◌, ◌+◌, ◌<◌, None, []};
 ghost use Rattle.lock_moves.specs.SeatSight.{HoldsBelow, find_lock};
 ghost use Rattle.hall.specs.SeatKnowledge.{KnowsAll, KnowsPool, KnowsStill, KnowsTool};
 ghost use Rattle.hall.specs.Steps.{KeepsSight};
+ghost use Rattle.lock_moves.specs.Words.{tool_lock, book_lock};
 
 use crate::value::{PartState, ToolKept};
 use arrayvec::ArrayVec;
-use lock_moves::{Held, LockId, LockSeat, LockSet};
+use lock_moves::{Held, LockId, LockSeat, LockSet, TOOL};
 use pool_slots::PoolSlot;
 use sched_model::machine::MOST_POOLS;
 use std::boxed::Box;
 use std::sync::Wait;
 
 /// The lock of what the tool keeps.
-const TOOL: LockId = LockId(16);
-
 /// The places of the 16 pools, in the order of their numbers, and what the tool keeps.
 #[derive(Drop)]
 pub struct AllParts {
@@ -26,7 +25,7 @@ pub struct AllParts {
 /// Takes the lock of the pool i, 0 to 15, after those of the pools before it, and waits until it is free.
 fn take_pool<R: Wait>(rt: &R, set: &LockSet<PartState>, seat: &mut LockSeat, i: u8) -> PoolSlot
     requires set { seat.old.table ≡ set.now.table }
-    requires number { i < 16 }
+    requires number { i < tool_lock }
     requires below { HoldsBelow i seat.old.view }
     ensures keeps { KeepsSight seat.old seat.new }
     ensures below { HoldsBelow (i + 1) seat.new.view }
@@ -43,10 +42,10 @@ fn take_pool<R: Wait>(rt: &R, set: &LockSet<PartState>, seat: &mut LockSeat, i: 
 /// Takes the tool's lock after those of all pools, and waits until it is free.
 fn take_tool<R: Wait>(rt: &R, set: &LockSet<PartState>, seat: &mut LockSeat) -> Box<ToolKept>
     requires set { seat.old.table ≡ set.now.table }
-    requires below { HoldsBelow 16 seat.old.view }
+    requires below { HoldsBelow tool_lock seat.old.view }
     ensures keeps { KeepsSight seat.old seat.new }
-    ensures below { HoldsBelow 17 seat.new.view }
-    ensures still { KnowsStill 16 seat.old.view seat.new.view }
+    ensures below { HoldsBelow book_lock seat.new.view }
+    ensures still { KnowsStill tool_lock seat.old.view seat.new.view }
     ensures knows { KnowsTool result.value.tool result.value.spares seat.new.view }
 {
     let held = set.lock(rt, seat, TOOL);
@@ -59,7 +58,7 @@ fn take_tool<R: Wait>(rt: &R, set: &LockSet<PartState>, seat: &mut LockSeat) -> 
 /// Puts the place of the pool i, 0 to 15, back under its lock, which is the last that is held.
 fn put_pool(set: &LockSet<PartState>, seat: &mut LockSeat, i: u8, slot: PoolSlot)
     requires set { seat.old.table ≡ set.now.table }
-    requires number { i < 16 }
+    requires number { i < tool_lock }
     requires below { HoldsBelow (i + 1) seat.old.view }
     requires knows { KnowsPool i slot seat.old.view }
     ensures keeps { KeepsSight seat.old seat.new }
@@ -72,11 +71,11 @@ fn put_pool(set: &LockSet<PartState>, seat: &mut LockSeat, i: u8, slot: PoolSlot
 /// Puts what the tool keeps back under its lock, which is the last that is held.
 fn put_tool(set: &LockSet<PartState>, seat: &mut LockSeat, tool: Box<ToolKept>)
     requires set { seat.old.table ≡ set.now.table }
-    requires below { HoldsBelow 17 seat.old.view }
+    requires below { HoldsBelow book_lock seat.old.view }
     requires knows { KnowsTool tool.value.tool tool.value.spares seat.old.view }
     ensures keeps { KeepsSight seat.old seat.new }
-    ensures below { HoldsBelow 16 seat.new.view }
-    ensures still { KnowsStill 16 seat.old.view seat.new.view }
+    ensures below { HoldsBelow tool_lock seat.new.view }
+    ensures still { KnowsStill tool_lock seat.old.view seat.new.view }
 {
     set.unlock(seat, Held::new(TOOL, PartState::Tool(tool)));
 }
@@ -87,7 +86,7 @@ pub(crate) fn take_all<R: Wait>(rt: &R, set: &LockSet<PartState>, seat: &mut Loc
     requires nothing { seat.old.view.held ≡ [] }
     ensures keeps { KeepsSight seat.old seat.new }
     ensures knows { KnowsAll result seat.new.view }
-    ensures book { find_lock 17 seat.new.view.held ≡ None }
+    ensures book { find_lock book_lock seat.new.view.held ≡ None }
 {
     let mut slots = ArrayVec::new();
     for i in 0..MOST_POOLS {
@@ -101,7 +100,7 @@ pub(crate) fn take_all<R: Wait>(rt: &R, set: &LockSet<PartState>, seat: &mut Loc
 pub(crate) fn put_all(set: &LockSet<PartState>, seat: &mut LockSeat, all: AllParts)
     requires set { seat.old.table ≡ set.now.table }
     requires knows { KnowsAll all seat.old.view }
-    requires book { find_lock 17 seat.old.view.held ≡ None }
+    requires book { find_lock book_lock seat.old.view.held ≡ None }
     ensures keeps { KeepsSight seat.old seat.new }
     ensures nothing { seat.new.view.held ≡ [] }
 {

@@ -10,6 +10,7 @@ ghost use Rattle.lock_moves.specs.Plays.{Current, Kept, Placed};
 ghost use Rattle.lock_moves.specs.SeatSight.{AllBelow, Known, find_lock};
 ghost use Rattle.lock_moves.specs.Sets.{sitting_with};
 ghost use Rattle.hall.specs.Steps.{HasBook, HasCore, HasEntered, KeepsLocks, KeepsSight, KnowsAfter, SeesBook, deciding_view};
+ghost use Rattle.lock_moves.specs.Words.{book_lock};
 
 use crate::value::PartState;
 use lock_moves::laws::law_decided;
@@ -21,11 +22,11 @@ use std::sync::Wait;
 /// Takes the book, and waits until it is free. Of the locks that the seat holds it knows what it knew, at the same moment, where it holds one.
 pub(crate) fn take_book<R: Wait>(rt: &R, set: &LockSet<PartState>, seat: &mut LockSeat) -> HeldBook
     requires set { seat.old.table ≡ set.now.table }
-    requires order { AllBelow 17 seat.old.view.held }
+    requires order { AllBelow book_lock seat.old.view.held }
     ensures has { HasBook set.now result seat.new }
     ensures current { Current seat.new.view }
     ensures sees { SeesBook result seat.old seat.new }
-    ensures locks { (k : ℕ) → k ≢ 17 → find_lock k seat.new.view.held
+    ensures locks { (k : ℕ) → k ≢ book_lock → find_lock k seat.new.view.held
         ≡ find_lock k seat.old.view.held }
     ensures still { (k : ℕ) (x : Known) → find_lock k seat.old.view.held ≡ Some x →
         seat.new.view.now ≡ seat.old.view.now }

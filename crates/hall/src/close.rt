@@ -11,6 +11,7 @@ ghost use Rattle.hall.specs.Seats.{IsOf, Stays};
 ghost use Rattle.hall.specs.BookTurns.{FullWhole, Turns};
 ghost use Rattle.hall.specs.Steps.{HasBook};
 ghost use Rattle.hall.specs.Turns.{IsTurn, TurnsFull};
+ghost use Rattle.lock_moves.specs.Words.{book_lock};
 
 use crate::act::is_over;
 use crate::all::{AllParts, put_all, take_all};
@@ -104,7 +105,7 @@ impl Hall {
         requires input { book.input ≡ self.now.opened.input }
         requires knows { KnowsAll all.old seat.old.view }
         ensures knows { KnowsAll all.new seat.new.view }
-        ensures book { find_lock 17 seat.new.view.held ≡ None }
+        ensures book { find_lock book_lock seat.new.view.held ≡ None }
         ensures turn { IfOk result (λ r. Turns r.0 r.1 book seat.old seat.new) }
         ensures full { IfErr result (λ full. FullWhole full book seat.old seat.new) }
     {
@@ -148,7 +149,7 @@ impl Hall {
         requires first { first_enabled book.input (state_of (told_of book))
             (state_of (told_of book)).now ≡ Some action }
         ensures knows { KnowsAll all.new seat.new.view }
-        ensures book { find_lock 17 seat.new.view.held ≡ None }
+        ensures book { find_lock book_lock seat.new.view.held ≡ None }
         ensures turn { Turns result.0 result.1 book seat.old seat.new }
     {
         let place = book.get().len();
@@ -169,7 +170,7 @@ impl Hall {
         requires quiet { first_enabled book.input (state_of (told_of book))
             (state_of (told_of book)).now ≡ None }
         ensures knows { KnowsAll all.now seat.new.view }
-        ensures book { find_lock 17 seat.new.view.held ≡ None }
+        ensures book { find_lock book_lock seat.new.view.held ≡ None }
         ensures turn { Turns result 0 book seat.old seat.new }
     {
         let place = book.get().len();

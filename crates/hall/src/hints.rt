@@ -2,6 +2,7 @@
 
 ghost use Rattle.hall.specs.Seats.{IsOf};
 ghost use Rattle.hall.specs.Holds.{IsAsBefore};
+ghost use Rattle.lock_moves.specs.Words.{tool_lock};
 
 use crate::all::{put_all, take_all};
 use crate::hall::Hall;
@@ -30,7 +31,7 @@ impl Hints {
 
     /// Whose event comes first in the pool i.
     pub fn first(&self, i: usize) -> Option<Actor>
-        requires { i < 16 }
+        requires { i < tool_lock }
     {
         self.first[i]
     }

@@ -4,7 +4,7 @@ ghost use Rattle.std.specs.Prelude.{◌≡◌, ◌<◌, [], true, IfOk, IfErr, �
 ghost use Rattle.hall.specs.Holds.{ActsOrLooks, HasActedAll, HasFilled, InHold, IsArrivalOf, IsHolder, IsOfSomePool, last_of, seated};
 ghost use Rattle.hall.specs.Seats.{IsOf, IsSeatOf, SeatStays, Stays};
 ghost use Rattle.hall.specs.Turns.{ActsFull, is_actor};
-ghost use Rattle.lock_moves.specs.Words.{name_number};
+ghost use Rattle.lock_moves.specs.Words.{name_number, tool_lock};
 
 use crate::book::{put_book, take_book};
 use crate::hall::Hall;
@@ -167,7 +167,7 @@ impl Hall {
         holder: Holder,
         gate: &G,
     ) -> Result<Acted, Full>
-        requires number { lock.0 < 16 }
+        requires number { lock.0 < tool_lock }
         requires hold { InHold self.now lock.0 (name_number holder.name) t.0 slot.old
             (seated seat.old arrived.old) }
         requires holder { IsHolder self.now.opened.input holder }
@@ -205,7 +205,7 @@ impl Hall {
         holder: Holder,
         gate: &G,
     ) -> Result<Option<u32>, Full>
-        requires number { lock.0 < 16 }
+        requires number { lock.0 < tool_lock }
         requires hold { InHold self.now lock.0 (name_number holder.name) t.0 slot.old
             (seated seat.old arrived.old) }
         requires holder { IsHolder self.now.opened.input holder }

@@ -9,6 +9,7 @@ ghost use Rattle.lock_moves.specs.Plays.{Current};
 ghost use Rattle.lock_moves.specs.Sets.{HasName};
 ghost use Rattle.hall.specs.SeatKnowledge.{KnowsPool};
 ghost use Rattle.hall.specs.Steps.{HasBook, HasEntered, KeepsOthers};
+ghost use Rattle.lock_moves.specs.Words.{tool_lock};
 
 use crate::book::enter;
 use crate::value::PartState;
@@ -34,7 +35,7 @@ pub(crate) fn perform_at(
     requires goes { GoesOn (told_of book) }
     requires room { length book.history < book.limit }
     requires now { t.0 ≡ seat.old.view.now }
-    requires number { i < 16 }
+    requires number { i < tool_lock }
     requires knows { KnowsPool i slot.old seat.old.view }
     requires own { IsOfPool action }
     requires enabled { is_enabled book.input (state_of (told_of book)) (state_of (told_of book)).now

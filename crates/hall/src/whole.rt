@@ -15,13 +15,14 @@ ghost use Rattle.cpupool.specs.Tool.{tool_of};
 ghost use Rattle.hall.specs.SeatKnowledge.{KnowsAll};
 ghost use Rattle.hall.specs.Moves.{HandsName, HandsNameOver, MayHand, after_handing, lock_or_tool};
 ghost use Rattle.hall.specs.Steps.{HasBook, HasEntered, KeepsLocks, KeepsLocksAt};
+ghost use Rattle.lock_moves.specs.Words.{book_lock};
 
 use crate::all::AllParts;
 use crate::book::enter;
 use crate::pools::perform_at;
 use crate::value::PartState;
 use cpupool::{Move, ToolState};
-use lock_moves::{HeldBook, LockId, LockSeat, LockSet, NameId};
+use lock_moves::{HeldBook, LockId, LockSeat, LockSet, NameId, TOOL};
 use machine_parts::pool_of_event;
 use pool_slots::Trail;
 use sched_base::{DomId, Moment, PoolId, ResId};
@@ -43,7 +44,7 @@ fn lock_of(pool: Option<PoolId>) -> LockId
 {
     match pool {
         Some(i) => LockId(i.0),
-        None => LockId(16),
+        None => TOOL,
     }
 }
 
@@ -104,7 +105,7 @@ fn name_move(tool: &ToolState, at: &Trail, action: Action) -> Option<NameMove>
 /// Moves the name, if one moves. The values that have it are the caller's.
 fn hand_over(set: &LockSet<PartState>, seat: &mut LockSeat, moved: Option<NameMove>)
     requires set { seat.old.table ≡ set.now.table }
-    requires book { Holds 17 seat.old.view }
+    requires book { Holds book_lock seat.old.view }
     requires may { ForSome moved (MayHand seat.old.view) }
     ensures { seat.new ≡ sitting_with seat.old (after_handing moved seat.old.view) }
 {
@@ -141,7 +142,7 @@ fn act_as_tool(
         (state_of (told_of book)).now action }
     ensures entered { HasEntered book (record { at = t; event = result }) seat.old seat.new }
     ensures knows { KnowsAll all.new seat.new.view }
-    ensures book { find_lock 17 seat.new.view.held ≡ None }
+    ensures book { find_lock book_lock seat.new.view.held ≡ None }
 {
     let trail = Trail::of(book.get());
     let moved = name_move(&all.tool.tool, &trail, action);
@@ -186,7 +187,7 @@ pub(crate) fn perform(
         (state_of (told_of book)).now action }
     ensures entered { HasEntered book (record { at = t; event = result }) seat.old seat.new }
     ensures knows { KnowsAll all.new seat.new.view }
-    ensures book { find_lock 17 seat.new.view.held ≡ None }
+    ensures book { find_lock book_lock seat.new.view.held ≡ None }
 {
     match pool_of_event(&all.tool.tool, granularity, action) {
         Some(i) => perform_at(
@@ -216,7 +217,7 @@ pub(crate) fn end_moment(
     requires goes { GoesOn (told_of book) }
     requires room { length book.history < book.limit }
     requires now { t.0 ≡ seat.old.view.now }
-    requires all { (k : ℕ) → k < 17 → Holds k seat.old.view }
+    requires all { (k : ℕ) → k < book_lock → Holds k seat.old.view }
     requires nothing { first_enabled book.input (state_of (told_of book))
         (state_of (told_of book)).now ≡ None }
     requires next { next_in_horizon book.input (state_of (told_of book)) ≡ Some next.0 }

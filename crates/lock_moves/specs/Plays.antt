@@ -10,11 +10,11 @@ use Rattle.journal_core.specs.Books.{Chronicle}
 use Rattle.lock_moves.specs.declared.content.Content.{Content}
 use Rattle.lock_moves.specs.declared.content.Content.TheVariants.{Out, Value, Ledger}
 use Rattle.lock_moves.specs.SeatSight.{Known, Seen, View, find_lock, has_place, view_took, view_took_book, view_turned_away, with_out, view_gave, view_committed, view_moved_name, view_with_now, raise, view_naming, view_has_loaded}
-use Rattle.lock_moves.specs.Words.{name_word, moment_word, stage_word}
+use Rattle.lock_moves.specs.Words.{name_word, moment_word, stage_word, book_lock}
 
 -- the parts, the names and the moment that the view knows are those of the state to which its front leads
 abbrev pub Current : Seen → Type 0
-Current v = ((k : ℕ) (x : Known) → k < 17 → find_lock k v.held ≡ Some x → (x.part ≡ part_at v.input v.front k) × ((n : ℕ) → n < 128 → has_place n x.names ≡ eqb (home_at v.input v.front n) k))
+Current v = ((k : ℕ) (x : Known) → k < book_lock → find_lock k v.held ≡ Some x → (x.part ≡ part_at v.input v.front k) × ((n : ℕ) → n < 128 → has_place n x.names ≡ eqb (home_at v.input v.front n) k))
     × (v.now ≡ now_at v.input v.front) × (v.named ≡ 0) × IsSound v.input v.front
 
 -- the part is that of the lock k in the state to which some history leads that begins with the front and is a run's beginning
@@ -23,7 +23,7 @@ IsPartOfSome k part v = (h : List Entry) × IsPrefix v.front h × (part ≡ part
 
 -- the names and the moment of the view are those of the state to which h leads
 abbrev pub Placed : Seen → List Entry → Type 0
-Placed v h = ((k : ℕ) (x : Known) (n : ℕ) → k < 17 → find_lock k v.held ≡ Some x → n < 128 → has_place n x.names ≡ eqb (home_at v.input h n) k) × (v.now ≡ now_at v.input h)
+Placed v h = ((k : ℕ) (x : Known) (n : ℕ) → k < book_lock → find_lock k v.held ≡ Some x → n < 128 → has_place n x.names ≡ eqb (home_at v.input h n) k) × (v.now ≡ now_at v.input h)
 
 -- the entry is a decision of the core that the view names, or of none where the view names none
 abbrev pub Decided : Seen → List Entry → Type 0
@@ -39,7 +39,7 @@ Next f h = (h ≡ f) ⊎ ((e : Entry) × (h ≡ f ++ e ∷ []))
 
 -- the parts whose locks the seat does not hold are as before
 abbrev pub Kept : Seen → List Entry → Type 0
-Kept v h = (k : ℕ) → k < 17 → find_lock k v.held ≡ None → part_at v.input h k ≡ part_at v.input v.front k
+Kept v h = (k : ℕ) → k < book_lock → find_lock k v.held ≡ None → part_at v.input h k ≡ part_at v.input v.front k
 
 -- what the word i, which was found to be r, tells a seat under the locks that it holds: a held lock's word is 1, a name's word is the held lock that has it
 -- and no other held lock, the moment is the seat's, and under the book a stage word is the number of decisions, and one more for the core that is named
@@ -47,7 +47,7 @@ abbrev pub Tells : ℕ → ℕ → Seen → Type 0
 Tells i r v = ((k : ℕ) (x : Known) → i ≡ k → find_lock k v.held ≡ Some x → r ≡ 1)
     × ((k : ℕ) (x : Known) (n : ℕ) → i ≡ name_word n → find_lock k v.held ≡ Some x → n < 128 → has_place n x.names ≡ eqb r k)
     × ((k : ℕ) (x : Known) → i ≡ moment_word → find_lock k v.held ≡ Some x → v.now ≡ r)
-    × ((q : ℕ) (x : Known) → i ≡ stage_word q → find_lock 17 v.held ≡ Some x → q < 64 → r ≡ decides_at v.front q + raise q v)
+    × ((q : ℕ) (x : Known) → i ≡ stage_word q → find_lock book_lock v.held ≡ Some x → q < 64 → r ≡ decides_at v.front q + raise q v)
 
 -- a seat in the midst of a call: what the table keeps of it, and the slots that are out with it
 abbrev Sat : Type 0 → Type 0
@@ -60,9 +60,9 @@ module _ {V : Type 0} where
 
   -- the same of the book, whose history begins with the front
   abbrev pub tried_book : Step (Content V) → Sat V → ℕ → Sat V → Type 0
-  tried_book st m r m' = (r ≡ 0 → (b : Chronicle) × (t : ℕ) × (m' ≡ (view_took_book b.history t m.0, (17, Ledger b) ∷ m.1)) × (b.input ≡ m.0.seen.input) × (b.limit ≡ m.0.seen.limit) × IsPrefix m.0.seen.front b.history × Current m'.0.seen
+  tried_book st m r m' = (r ≡ 0 → (b : Chronicle) × (t : ℕ) × (m' ≡ (view_took_book b.history t m.0, (book_lock, Ledger b) ∷ m.1)) × (b.input ≡ m.0.seen.input) × (b.limit ≡ m.0.seen.limit) × IsPrefix m.0.seen.front b.history × Current m'.0.seen
       × ((k : ℕ) (x : Known) → find_lock k m.0.seen.held ≡ Some x → t ≡ m.0.seen.now) × (m.0.seen.shares ≡ 1024 → b.history ≡ m.0.seen.front))
-      × (r ≢ 0 → m' ≡ (view_turned_away 17 m.0, m.1))
+      × (r ≢ 0 → m' ≡ (view_turned_away book_lock m.0, m.1))
 
   -- the slot goes home empty
   abbrev pub settled : Step (Content V) → Sat V → ℕ → Sat V → Type 0
@@ -78,7 +78,7 @@ module _ {V : Type 0} where
 
   -- the book went home, and its lock is free
   abbrev pub committed : Step (Content V) → Sat V → ℕ → Sat V → Type 0
-  committed st m r m' = (b : Chronicle) → m.1 ≡ (17, Ledger b) ∷ [] → m' ≡ (view_committed b.history m.0, [])
+  committed st m r m' = (b : Chronicle) → m.1 ≡ (book_lock, Ledger b) ∷ [] → m' ≡ (view_committed b.history m.0, [])
 
   -- the word was read
   abbrev pub looked : Step (Content V) → Sat V → ℕ → Sat V → Type 0

@@ -7,6 +7,7 @@ use Rattle.sched_model.specs.declared.machine.Machine.{Machine}
 use Rattle.journal_core.specs.Parts.{StatePart, no_part}
 use Rattle.journal_core.specs.Histories.{part_at, home_at}
 use Rattle.journal_core.specs.Books.{Chronicle}
+use Rattle.lock_moves.specs.Words.{book_lock}
 
 -- what is known of a lock that is held: the part that it guards, and the names whose word is this lock
 pub record Known : Type 0 where
@@ -113,7 +114,7 @@ after_take k part names t v = record v { held = (k, known_part part names) ∷ v
 
 -- the book was taken, whose history is h
 abbrev pub took_book : List Entry → ℕ → Seen → Seen
-took_book h t v = record v { front = h; takes = suc v.takes; held = (17, book_known) ∷ v.held; now = t }
+took_book h t v = record v { front = h; takes = suc v.takes; held = (book_lock, book_known) ∷ v.held; now = t }
 
 -- the names without n
 abbrev pub without_name : ℕ → List ℕ → List ℕ
@@ -167,7 +168,7 @@ places_after v h = cond (eqb (length h) (length v.front)) v.own (v.own ++ length
 
 -- the book was put back, with the history h
 abbrev pub committed_view : List Entry → Seen → Seen
-committed_view h v = record v { front = h; own = places_after v h; held = refreshed_locks v.input h (locks_without 17 v.held); named = 0 }
+committed_view h v = record v { front = h; own = places_after v h; held = refreshed_locks v.input h (locks_without book_lock v.held); named = 0 }
 
 -- a seat that has done nothing yet
 abbrev pub fresh_view : Machine → ℕ → List Entry → ℕ → Seen

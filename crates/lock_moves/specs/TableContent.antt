@@ -9,7 +9,7 @@ use Rattle.journal_core.specs.Histories.{part_at, home_at, now_at, decides_at}
 use Rattle.journal_core.specs.Books.{Chronicle}
 use Rattle.lock_moves.specs.declared.content.Content.{Content}
 use Rattle.lock_moves.specs.declared.content.Content.TheVariants.{Value}
-use Rattle.lock_moves.specs.Words.{lock_count, word_count, name_word, moment_word, stage_word}
+use Rattle.lock_moves.specs.Words.{lock_count, word_count, name_word, moment_word, stage_word, book_lock}
 
 -- the values are the 17 parts of the book's state, in the order of their locks
 pub record AreParts {V : Type 0} (part : V → StatePart) (suits : Machine → ℕ → V → Type 0) (b : Chronicle) (values : List V) : Type 0 where
@@ -27,11 +27,11 @@ pub record IsOpening (b : Chronicle) (words : List ℕ) : Type 0 where
 
 -- at the end the slots of the locks but the book's have the parts of the state of the history h, in the order of the locks
 abbrev pub HaveParts : {V : Type 0} → (V → StatePart) → (Machine → ℕ → V → Type 0) → Machine → List Entry → List (Content V) → Type 0
-HaveParts {V} part suits m h contents = (k : ℕ) → k < 17 → (x : V) × (get_elem? contents k ≡ some (Value x)) × (part x ≡ part_at m h k) × suits m (now_at m h) x
+HaveParts {V} part suits m h contents = (k : ℕ) → k < book_lock → (x : V) × (get_elem? contents k ≡ some (Value x)) × (part x ≡ part_at m h k) × suits m (now_at m h) x
 
 -- the first 17 slots have a value each
 abbrev pub HaveValues : {V : Type 0} → List (Content V) → Type 0
-HaveValues {V} contents = (k : ℕ) → k < 17 → (x : V) × (get_elem? contents k ≡ some (Value x))
+HaveValues {V} contents = (k : ℕ) → k < book_lock → (x : V) × (get_elem? contents k ≡ some (Value x))
 
 -- the values are those of the first n slots, in their order
 abbrev pub AreFirst : {V : Type 0} → ℕ → List (Content V) → List V → Type 0
@@ -39,4 +39,4 @@ AreFirst {V} n contents values = (length values ≡ n) × ((k : ℕ) (x : V) →
 
 -- the slots but the book's are full
 abbrev pub HasFirst : List Bool → Type 0
-HasFirst filled = ((k : ℕ) → k < 17 → slice_index_or filled k false ≡ true) × (slice_index_or filled 17 false ≡ false)
+HasFirst filled = ((k : ℕ) → k < book_lock → slice_index_or filled k false ≡ true) × (slice_index_or filled 17 false ≡ false)

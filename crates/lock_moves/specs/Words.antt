@@ -21,6 +21,13 @@ abbrev pub has_name : Machine → NameId → Bool
 has_name m (Res r) = has_core m r.0
 has_name m (Dom d) = nat_lt d.0 64 && is_name m.config (64 + d.0)
 
+-- the lock of the tool, which comes after those of the pools, and the lock of the book, which is the last
+abbrev pub tool_lock : ℕ
+tool_lock = 16
+
+abbrev pub book_lock : ℕ
+book_lock = 17
+
 -- how many locks there are, and how many words
 abbrev pub lock_count : ℕ
 lock_count = 18
@@ -45,7 +52,7 @@ word_index (Name n) = name_word (name_number n)
 word_index Now = moment_word
 word_index (Stage r) = stage_word r.0
 
--- whether there is such a word: a lock's number is at most 17, and a name or a core is one of the input
+-- whether there is such a word: a lock's number is at most the book's, and a name or a core is one of the input
 abbrev pub has_word : Machine → WordId → Bool
 has_word m (Lock k) = nat_lt k.0 lock_count
 has_word m (Name n) = has_name m n

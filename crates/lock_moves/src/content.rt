@@ -10,6 +10,12 @@ use journal_core::Book;
 use sched_base::{DomId, ResId};
 use std::marker::Model;
 
+/// The tool's lock, after those of the pools.
+pub const TOOL: LockId = LockId(16);
+
+/// The number of the book's lock, the last one. The locks below guard the parts of the state.
+pub(crate) const BOOK: usize = 17;
+
 /// How many locks there are.
 pub(crate) const LOCKS: usize = 18;
 
@@ -22,7 +28,7 @@ pub(crate) const STAGES: usize = 147;
 /// How many words there are.
 pub(crate) const WORDS: usize = 211;
 
-/// The number of a lock: a pool's from 0 to 15, 16 for the tool's, 17 for the book's.
+/// The number of a lock: a pool's from 0 to 15, then the tool's (`TOOL`), and then the book's.
 #[derive(Clone, Copy)]
 pub struct LockId(pub u8);
 

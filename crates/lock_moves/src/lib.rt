@@ -10,7 +10,7 @@ mod seat;
 mod set;
 mod view;
 
-pub use content::{Held, HeldBook, LockId, NameId, Part, WordId};
+pub use content::{Held, HeldBook, LockId, NameId, Part, TOOL, WordId};
 pub use names::Names;
 pub use seat::LockSeat;
 pub use set::LockSet;

@@ -8,7 +8,7 @@ ghost use Rattle.lock_moves.specs.SeatSight.{opening_view, has_place};
 ghost use Rattle.lock_moves.specs.Words.{lock_count};
 ghost use Rattle.lock_moves.specs.TableContent.{AreParts, IsOpening, HaveParts, HaveValues, HasFirst, AreFirst};
 
-use crate::content::{Content, LOCKS, NOW, Part, STAGES, WORDS};
+use crate::content::{BOOK, Content, LOCKS, NOW, Part, STAGES, WORDS};
 use crate::seat::LockSeat;
 use crate::set::LockSet;
 use atomic_table::{Closed, Table};
@@ -24,7 +24,7 @@ fn lock_listing<V: Part>(values: &[V], book: &Book, name: usize) -> u64
     requires name { name < 128 }
     ensures { result ≡ home_at book.now.input book.now.history name }
 {
-    for k in 0..17 {
+    for k in 0..BOOK {
         if values[k].names().has(name) {
             return k as u64;
         }
@@ -72,7 +72,7 @@ fn take_out<V: Drop>(closed: &mut Closed<Content<V>, Global>, values: &mut Vec<V
     ensures first { AreFirst 17 (slots_items closed.old.slots) values.new.items }
     ensures capacity { vec_capacity values.new ≡ vec_capacity values.old }
 {
-    for k in 0..17 {
+    for k in 0..BOOK {
         let Content::Value(value) = closed.take(k) else {
             unreachable!()
         };
@@ -123,7 +123,7 @@ impl<V: Part> LockSet<V> {
         let LockSet { table } = self;
         let LockSeat { badge } = seat;
         let mut closed = table.close_with(badge.into_seat());
-        let content = closed.take(17);
+        let content = closed.take(BOOK);
         let Content::Ledger(book) = content else {
             unreachable!()
         };
@@ -143,7 +143,7 @@ impl<V: Part> LockSet<V> {
             has_place p seat.view.own ≡ true }
     {
         let (mut closed, book) = self.ended(seat);
-        for k in 0..17 {
+        for k in 0..BOOK {
             drop(closed.take(k));
         }
         closed.free();

@@ -29,9 +29,9 @@ ghost use Rattle.journal_core.specs.Histories.{decides_at, NamesStandOnce};
 ghost use Rattle.lock_moves.specs.SeatSight.{Known, find_lock, Holds, AllBelow, took_book, turned_away, after_give, committed_view, after_sharing, newcomer, after_join, moved_name, with_now, tried_again, after_search, after_naming, has_loaded};
 ghost use Rattle.lock_moves.specs.Plays.{Current, IsPartOfSome, Next, Kept, Placed, Decided, Tells};
 ghost use Rattle.lock_moves.specs.Sets.{sitting_with, HasTaken, IsAsKnown, HasName};
-ghost use Rattle.lock_moves.specs.Words.{name_number, has_name, has_core, has_word, lock_count, word_index};
+ghost use Rattle.lock_moves.specs.Words.{name_number, has_name, has_core, has_word, lock_count, word_index, book_lock};
 
-use crate::content::{Content, Held, HeldBook, LockId, NOW, NameId, Part, WordId};
+use crate::content::{BOOK, Content, Held, HeldBook, LockId, NOW, NameId, Part, WordId};
 use crate::rule::{
     Agreement, Clock, Commit, Cut, Fetch, Glue, Load, Look, Name, Put, Raise, Settle, Take,
     TakeBook,
@@ -74,7 +74,7 @@ impl<V: Part> LockSet<V> {
     /// Takes the lock if it is free.
     pub fn try_lock(&self, seat: &mut LockSeat, lock: LockId) -> Option<Held<V>>
         requires set { seat.old.table ≡ self.now.table }
-        requires number { lock.0 < 17 }
+        requires number { lock.0 < book_lock }
         requires order { AllBelow lock.0 seat.old.view.held }
         ensures { MatchOption result
             (seat.new ≡ sitting_with seat.old (turned_away lock.0 seat.old.view))
@@ -105,7 +105,7 @@ impl<V: Part> LockSet<V> {
     /// Puts the lock back, with the value that is its part as the seat knows it.
     pub fn unlock(&self, seat: &mut LockSeat, h: Held<V>)
         requires set { seat.old.table ≡ self.now.table }
-        requires number { h.lock < 17 }
+        requires number { h.lock < book_lock }
         requires known { IsAsKnown h.lock (V.part h.value) seat.old.view }
         requires suits { V.suits seat.old.view.input seat.old.view.now h.value }
         ensures { seat.new ≡ sitting_with seat.old (after_give h.lock seat.old.view) }
@@ -126,9 +126,9 @@ impl<V: Part> LockSet<V> {
     // Takes the book if its lock is free.
     fn try_book(&self, seat: &mut LockSeat) -> Option<HeldBook>
         requires set { seat.old.table ≡ self.now.table }
-        requires order { AllBelow 17 seat.old.view.held }
+        requires order { AllBelow book_lock seat.old.view.held }
         ensures { MatchOption result
-            (seat.new ≡ sitting_with seat.old (turned_away 17 seat.old.view))
+            (seat.new ≡ sitting_with seat.old (turned_away book_lock seat.old.view))
             (λ b. ((now : ℕ)
             × (seat.new ≡ sitting_with seat.old (took_book b.history now seat.old.view)))
             × (b.input ≡ seat.old.view.input) × (b.limit ≡ seat.old.view.limit)
@@ -141,13 +141,13 @@ impl<V: Part> LockSet<V> {
         let found = self
             .table
             .shared
-            .compare_exchange::<TakeBook>(&mut me, 17, 0, 1);
+            .compare_exchange::<TakeBook>(&mut me, BOOK, 0, 1);
         if found != 0 {
             seat.badge = me.into_badge();
             return None;
         }
-        let content = self.table.shared.exchange(&mut me, 17, Content::Out);
-        self.table.shared.load::<Settle>(&mut me, 17);
+        let content = self.table.shared.exchange(&mut me, BOOK, Content::Out);
+        self.table.shared.load::<Settle>(&mut me, BOOK);
         seat.badge = me.into_badge();
         let Content::Ledger(book) = content else {
             unreachable!()
@@ -158,7 +158,7 @@ impl<V: Part> LockSet<V> {
     /// Puts the book back, with one entry more or none. The front is then its history.
     pub fn commit(&self, seat: &mut LockSeat, b: HeldBook)
         requires set { seat.old.table ≡ self.now.table }
-        requires held { Holds 17 seat.old.view }
+        requires held { Holds book_lock seat.old.view }
         requires input { b.input ≡ seat.old.view.input }
         requires limit { b.limit ≡ seat.old.view.limit }
         requires next { Next seat.old.view.front b.history }
@@ -171,12 +171,12 @@ impl<V: Part> LockSet<V> {
         let HeldBook { book } = b;
         book.tell();
         let mut me = seated::<V>(&mut seat.badge);
-        self.table.shared.load::<Fetch>(&mut me, 17);
+        self.table.shared.load::<Fetch>(&mut me, BOOK);
         let empty = self
             .table
             .shared
-            .exchange(&mut me, 17, Content::Ledger(book));
-        self.table.shared.store::<Commit>(&mut me, 17, 0);
+            .exchange(&mut me, BOOK, Content::Ledger(book));
+        self.table.shared.store::<Commit>(&mut me, BOOK, 0);
         seat.badge = me.into_badge();
         drop(empty);
     }
@@ -228,9 +228,9 @@ impl<V: Part> LockSet<V> {
     pub fn move_name(&self, seat: &mut LockSeat, name: NameId, from: &mut Held<V>, to: &mut Held<V>)
         requires set { seat.old.table ≡ self.now.table }
         requires name { has_name seat.old.view.input name ≡ true }
-        requires book { Holds 17 seat.old.view }
+        requires book { Holds book_lock seat.old.view }
         requires from { HasName from.old.lock (name_number name) seat.old.view }
-        requires number { to.old.lock < 17 }
+        requires number { to.old.lock < book_lock }
         requires to { Holds to.old.lock seat.old.view }
         ensures view { seat.new ≡ sitting_with seat.old
             (moved_name (name_number name) to.old.lock seat.old.view) }
@@ -244,9 +244,9 @@ impl<V: Part> LockSet<V> {
     pub fn rename(&self, seat: &mut LockSeat, name: NameId, from: LockId, to: LockId)
         requires set { seat.old.table ≡ self.now.table }
         requires name { has_name seat.old.view.input name ≡ true }
-        requires book { Holds 17 seat.old.view }
+        requires book { Holds book_lock seat.old.view }
         requires from { HasName from.0 (name_number name) seat.old.view }
-        requires number { to.0 < 17 }
+        requires number { to.0 < book_lock }
         requires to { Holds to.0 seat.old.view }
         ensures { seat.new
             ≡ sitting_with seat.old (moved_name (name_number name) to.0 seat.old.view) }
@@ -272,7 +272,7 @@ impl<V: Part> LockSet<V> {
     /// Takes the lock, and waits until it is free.
     pub fn lock<R: Wait>(&self, rt: &R, seat: &mut LockSeat, lock: LockId) -> Held<V>
         requires set { seat.old.table ≡ self.now.table }
-        requires number { lock.0 < 17 }
+        requires number { lock.0 < book_lock }
         requires order { AllBelow lock.0 seat.old.view.held }
         ensures lock { result.lock ≡ lock.0 }
         ensures taken { (n : ℕ) × HasTaken lock.0 (V.part result.value)
@@ -294,10 +294,10 @@ impl<V: Part> LockSet<V> {
     /// Takes the book, and waits until it is free.
     pub fn take_book<R: Wait>(&self, rt: &R, seat: &mut LockSeat) -> HeldBook
         requires set { seat.old.table ≡ self.now.table }
-        requires order { AllBelow 17 seat.old.view.held }
+        requires order { AllBelow book_lock seat.old.view.held }
         ensures taken { (n : ℕ) × (now : ℕ)
             × (seat.new ≡ sitting_with seat.old (took_book result.history now
-            (tried_again n 17 seat.old.view))) }
+            (tried_again n book_lock seat.old.view))) }
         ensures input { result.input ≡ seat.old.view.input }
         ensures limit { result.limit ≡ seat.old.view.limit }
         ensures begins { IsPrefix seat.old.view.front result.history }
@@ -325,14 +325,14 @@ impl<V: Part> LockSet<V> {
             (after_search refused t seat.old.view) seat.old
             seat.new }
         ensures suits { V.suits seat.old.view.input seat.new.view.now result.value }
-        ensures number { result.lock < 17 }
+        ensures number { result.lock < book_lock }
         ensures lists { lists (V.part result.value) (name_number name) ≡ true }
         ensures has { HasName result.lock (name_number name) seat.new.view }
         ensures state { IsPartOfSome result.lock (V.part result.value) seat.old.view }
     {
         let mut word = self.read_word(seat, WordId::Name(name));
         for _ in rt.forever() {
-            if word < 17 {
+            if word < BOOK as u64 {
                 let held = self.lock(rt, seat, LockId(word as u8));
                 let found = self.read_word(seat, WordId::Name(name));
                 if found == word {
@@ -352,7 +352,7 @@ impl<V: Part> LockSet<V> {
     pub fn set_stage(&self, seat: &mut LockSeat, r: ResId, b: &HeldBook)
         requires set { seat.old.table ≡ self.now.table }
         requires core { has_core seat.old.view.input r.0 ≡ true }
-        requires book { Holds 17 seat.old.view }
+        requires book { Holds book_lock seat.old.view }
         requires held { Next seat.old.view.front b.now.history }
         requires home { (k : ℕ) × HasName k r.0 seat.old.view }
         requires nobody { seat.old.view.named ≡ 0 }
