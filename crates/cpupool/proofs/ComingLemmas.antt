@@ -13,7 +13,7 @@ use Rattle.journal_core.specs.Parts.{UnderWay, core_to, domain_to, under_way_of}
 use Rattle.cpupool.specs.Tool.{tool_of, ends_of}
 use Rattle.cpupool.specs.Steps.{stall_comes, joining_ready, first_end_up}
 use Rattle.cpupool.specs.Dues.{is_anything_due}
-use Rattle.cpupool.specs.ToolActions.{joins_at, may_join, tool_may_act}
+use Rattle.journal_core.specs.ToolActions.{joins_at, may_join, tool_may_act}
 use Rattle.cpupool.proofs.WayLemmas.{command-seen}
 use Rattle.cpupool.proofs.ArrivedLemmas.{core_joins}
 

@@ -9,7 +9,8 @@ use Rattle.sched_model.specs.Places.{at_place}
 use Rattle.journal_core.specs.Parts.{ToolPart, UnderWay, core_to, domain_to}
 use Rattle.cpupool.specs.Tool.{Tool}
 use Rattle.cpupool.specs.Steps.{stall_comes, command_comes, joining_ready, first_end_up}
-use Rattle.cpupool.specs.Dues.{is_anything_due, IsLeastLater, has_come, sooner_moment, later_than, stall_at, command_at, joining_at, first_end, soonest_moment}
+use Rattle.cpupool.specs.Dues.{is_anything_due, has_come, sooner_moment, later_than, stall_at, command_at, joining_at, first_end, soonest_moment}
+use Rattle.journal_core.specs.ToolActions.{IsLeastLater}
 
 -- a moment after which something is due
 later_least : (t : ℕ) (at : Option Moment) → IsLeastLater t (has_come at) (later_than t at)

@@ -27,7 +27,7 @@ use Rattle.sched_model.specs.Pool.{unit_count}
 use Rattle.sched_model.specs.Commands.{pool_of, domain_of, in_range, rtds_fault, rtds_units}
 use Rattle.sched_laws.specs.EachPlace.{EachPlace}
 use Rattle.sched_laws.proofs.Lists.{item_below}
-use Rattle.sched_records.specs.Records.{HasRecords, IsRecorded}
+use Rattle.state_ranges.specs.Records.{HasRecords, IsRecorded}
 use Rattle.cpupool.specs.Facts.{KeepsFacts, pool_subject, domain_subject, no_subject, stored_from, stored_in, rate_at, stored_at}
 use Rattle.sched_model.specs.Policy.{stored_of}
 use Rattle.cpupool.specs.Verdicts.{weight_reply, stored_fault, rtds_reply}

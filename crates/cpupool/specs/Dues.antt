@@ -1,6 +1,6 @@
 -- When the tool has something to do, and the stalls of the cores that no pool has.
 use Rattle.sched_base.specs.Numbers.{moment}
-use Rattle.std.specs.Prelude.{◌≡◌, ◌<◌, ◌+◌, ℕ, ◌||◌, Bool, true, false, Option, Some, None, List, [], ◌∷◌, is_none, option_map, slice_get, min, max, nat_le, if◌then◌else◌}
+use Rattle.std.specs.Prelude.{◌+◌, ℕ, ◌||◌, Bool, false, Option, Some, None, List, [], ◌∷◌, is_none, option_map, slice_get, min, max, nat_le, if◌then◌else◌}
 use Rattle.sched_base.specs.declared.Moment.{Moment}
 use Rattle.sched_model.specs.Places.{at_place, change_at, change_item}
 use Rattle.sched_model.specs.declared.work.StallLine.{StallLine}
@@ -12,11 +12,6 @@ use Rattle.cpupool.specs.Steps.{stall_comes, command_comes, joining_ready}
 -- whether a stall, a command or the move of a core of no pool may come at t
 abbrev pub is_anything_due : Tool → ℕ → Bool
 is_anything_due tool t = stall_comes tool t || command_comes tool t || joining_ready tool.part t tool.part.under_way
-
--- the answer is the least moment after t at which the test passes, or none where it passes at no later moment
-abbrev pub IsLeastLater : ℕ → (ℕ → Bool) → Option Moment → Type 0
-IsLeastLater t test None = (later : ℕ) → t < later → test later ≡ false
-IsLeastLater t test (Some least) = (t < least.0) × (test least.0 ≡ true) × ((later : ℕ) → t < later → later < least.0 → test later ≡ false)
 
 -- the later of the two ends of a stall of the processor at place i of the core r, which no pool has
 abbrev pub free_stall_end : ToolPart → ℕ → ℕ → ℕ → ℕ

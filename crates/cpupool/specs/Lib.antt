@@ -9,4 +9,3 @@ pub mod Steps
 pub mod ToolAdvance
 pub mod Dues
 pub mod ToolArrival
-pub mod ToolActions

@@ -50,8 +50,8 @@ impl ToolState {
     ghost use Rattle.sched_model.specs.declared.machine.Machine.{Machine};
     ghost use Rattle.sched_model.specs.declared.state.State.{State};
     ghost use Rattle.cpupool.specs.Tool.{tool_of};
-    ghost use Rattle.cpupool.specs.ToolActions.{tool_may_act};
-    ghost use Rattle.cpupool.specs.Dues.{IsLeastLater, is_anything_due, stall_at as stall_at_spec, command_at as command_at_spec, joining_at as joining_at_spec, soonest_moment, later_than as later_than_spec};
+    ghost use Rattle.journal_core.specs.ToolActions.{tool_may_act, IsLeastLater};
+    ghost use Rattle.cpupool.specs.Dues.{is_anything_due, stall_at as stall_at_spec, command_at as command_at_spec, joining_at as joining_at_spec, soonest_moment, later_than as later_than_spec};
 
     /// The least moment after t at which a stall or a command may come, or a core of no pool may join one; `None` where
     /// none of them may at any later moment.

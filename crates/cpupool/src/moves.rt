@@ -68,7 +68,7 @@ impl ToolState {
     ghost use Rattle.sched_model.specs.Machine.{is_move_under_way};
     ghost use Rattle.cpupool.specs.Tool.{tool_of};
     ghost use Rattle.cpupool.specs.Steps.{kind_at as kind_at_spec, move_of, joining_ready};
-    ghost use Rattle.cpupool.specs.ToolActions.{may_join};
+    ghost use Rattle.journal_core.specs.ToolActions.{may_join};
 
     /// The scheduler of the pool i.
     fn kind_at(&self, i: PoolId) -> SchedKind

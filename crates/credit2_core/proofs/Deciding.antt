@@ -14,7 +14,7 @@ use Rattle.scheduler_records.specs.Parts.{credit2_scheduler}
 use Rattle.sched_laws.proofs.EachPlace.{length_change_each}
 use Rattle.sched_laws.proofs.Choices.{decision_has, at_unit}
 use Rattle.sched_laws.specs.PoolFacts.{IfUnit}
-use Rattle.sched_ranges.proofs.Decided.{choice_pays, unit_rec}
+use Rattle.state_ranges.proofs.Decided.{choice_pays, unit_rec}
 use Rattle.sched_ops.specs.Conditions.{IsOwnOf}
 use Rattle.runq.specs.Queue.{Queue}
 use Rattle.queue_laws.specs.Arrivals.{arrivals}

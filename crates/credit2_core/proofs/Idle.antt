@@ -11,9 +11,9 @@ use Rattle.sched_model.specs.Places.{at_place, change_at, change_item}
 use Rattle.sched_model.specs.Credit2.{max_weight, burn_unit, burn_units, change_domain, give_back, burn_cur, take_budget, set_running, switch_off, refill_domain, refilled_pool, set_weight, set_cap, set_domain, credit_of}
 use Rattle.sched_laws.proofs.EachPlace.{by_option, by_cond, at_place-change_at}
 use Rattle.sched_laws.proofs.Sound.{change_at-twice}
-use Rattle.sched_ranges.proofs.Budget.{get_map}
-use Rattle.sched_ranges.proofs.Decided.{unit_rec}
-use Rattle.sched_ranges.specs.Budgets.{AllRunOnly}
+use Rattle.state_ranges.proofs.Budget.{get_map}
+use Rattle.state_ranges.proofs.Decided.{unit_rec}
+use Rattle.state_ranges.specs.Budgets.{AllRunOnly}
 use Rattle.scheduler_records.specs.Bounds.{own_charged, credit_at}
 use Rattle.scheduler_records.proofs.Steps.{burn_cur-own}
 use Rattle.arrival_queue.specs.Queues.{Queued}

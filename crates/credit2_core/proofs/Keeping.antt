@@ -24,11 +24,12 @@ use Rattle.sched_base.proofs.Bools.{clash}
 use Rattle.sched_laws.proofs.Choices.{at_unit}
 use Rattle.sched_laws.proofs.EachPlace.{at_place-put_at, at_place-put_at_other, at_place-clear_at_other, at_place-clear_at, EachAt-put_at, EachAt-clear_at, EachPlace-empty, by_option, at_place-change_at}
 use Rattle.sched_laws.proofs.Lists.{length_change_item, if_some}
-use Rattle.sched_ranges.specs.Budgets.{BudgetFits, Nobody}
-use Rattle.sched_ranges.specs.Fits.{Credit2DomainFits}
-use Rattle.sched_ranges.proofs.Decided.{unit_rec, r_set_domain}
-use Rattle.sched_ranges.specs.Budgets.{AllRunOnly, RunsOnly}
-use Rattle.sched_ops.specs.Conditions.{is_on, is_vacant, IsAway, HasNoneBusy, Keeps, IsWeight, IsCap}
+use Rattle.state_ranges.specs.Budgets.{BudgetFits, Nobody}
+use Rattle.state_ranges.specs.Fits.{Credit2DomainFits}
+use Rattle.state_ranges.proofs.Decided.{unit_rec, r_set_domain}
+use Rattle.state_ranges.specs.Budgets.{AllRunOnly, RunsOnly}
+use Rattle.sched_ops.specs.Conditions.{is_on, is_vacant, IsAway, HasNoneBusy, Keeps}
+use Rattle.sched_laws.specs.RecordRanges.{IsWeight, IsCap}
 use Rattle.sched_ops.specs.Seen.{Seen, with_scheduler, restarted_scheduler}
 use Rattle.sched_model.specs.declared.config.PoolParams.TheVariants as pool_params
 use Rattle.sched_model.proofs.PlaceLemmas.{at_place-change_at_other}

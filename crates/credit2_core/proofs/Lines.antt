@@ -12,8 +12,8 @@ use Rattle.sched_model.specs.Credit2.{burn_cur, reset, take_budget, change_domai
 use Rattle.sched_base.proofs.Lists.{AllByRecursion-push, AllByRecursion-filter}
 use Rattle.sched_laws.proofs.Choices.{same_unit_same}
 use Rattle.sched_laws.proofs.Counts.{without_absent}
-use Rattle.sched_ranges.proofs.Decided.{IsCur, r_burn_cur, r_reset, r_take, r_refilled, r_switch_off, r_set_running, unit_rec}
-use Rattle.sched_ranges.specs.Budgets.{AllRunOnly}
+use Rattle.state_ranges.proofs.Decided.{IsCur, r_burn_cur, r_reset, r_take, r_refilled, r_switch_off, r_set_running, unit_rec}
+use Rattle.state_ranges.specs.Budgets.{AllRunOnly}
 use Rattle.sched_ops.specs.Conditions.{IsApart}
 use Rattle.arrival_queue.specs.Queues as queues
 use Rattle.arrival_queue.specs.Queues.{Queued, queued_unit, list_with, list_without, closed_up, rank_in}

@@ -12,8 +12,8 @@ use Rattle.sched_model.specs.declared.state.Credit2Records.{Credit2Records}
 use Rattle.sched_model.specs.Places.{at_place, has_unit}
 use Rattle.sched_base.proofs.Bools.{clash}
 use Rattle.sched_laws.proofs.EachPlace.{place_below}
-use Rattle.sched_ranges.proofs.Decided.{unit_rec}
-use Rattle.sched_ranges.specs.Budgets.{AllRunOnly}
+use Rattle.state_ranges.proofs.Decided.{unit_rec}
+use Rattle.state_ranges.specs.Budgets.{AllRunOnly}
 use Rattle.credit2_core.specs.Places.{set_counts, unit_counts}
 use Rattle.sched_ops.specs.Affinity.{count_at, is_member_among}
 use Rattle.credit2_core.specs.Credit2State.{InRange}

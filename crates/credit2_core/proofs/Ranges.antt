@@ -12,14 +12,14 @@ use Rattle.sched_model.specs.Places.{at_place, put_at, clear_at}
 use Rattle.sched_model.specs.CheckedMachine.{IsWithin}
 use Rattle.sched_model.specs.Credit2.{burn_cur, switch_off, set_domain, refilled_pool, fresh_domain, domain_has_budget}
 use Rattle.sched_laws.proofs.EachPlace.{EachPlace-put_at, EachPlace-clear_at, EachAt-put_at, EachAt-clear_at, length_set}
-use Rattle.sched_ranges.proofs.Credit2.{c_burn_cur, c_reset, c_take, c_switch_off, c_set_running, c_fresh, c_set_domain, c_later}
-use Rattle.sched_ranges.specs.Fits.{Credit2DomainFits, Credit2Fits}
-use Rattle.sched_ranges.specs.Budgets.{BudgetFits, Nobody}
-use Rattle.sched_ranges.proofs.Budgets.{b_later, b_fresh}
-use Rattle.sched_ranges.proofs.Decided.{s_refilled, s_set_domain, decides_unit, decides_idle, unit_rec}
-use Rattle.sched_ranges.specs.Budgets.{Budgets, None2}
-use Rattle.sched_ranges.proofs.Records.{refill_fits}
-use Rattle.sched_ranges.proofs.Done.{credit2_in_range}
+use Rattle.state_ranges.proofs.Credit2.{c_burn_cur, c_reset, c_take, c_switch_off, c_set_running, c_fresh, c_set_domain, c_later}
+use Rattle.state_ranges.specs.Fits.{Credit2DomainFits, Credit2Fits}
+use Rattle.state_ranges.specs.Budgets.{BudgetFits, Nobody}
+use Rattle.state_ranges.proofs.Budgets.{b_later, b_fresh}
+use Rattle.state_ranges.proofs.Decided.{s_refilled, s_set_domain, decides_unit, decides_idle, unit_rec}
+use Rattle.state_ranges.specs.Budgets.{Budgets, None2}
+use Rattle.state_ranges.proofs.RecordRanges.{refill_fits}
+use Rattle.state_ranges.proofs.Done.{credit2_in_range}
 use Rattle.sched_base.specs.Numbers.{has_come}
 use Rattle.sched_model.specs.Policy.{next_refill}
 use Rattle.sched_model.specs.declared.state.Records.TheVariants.{Credit2Pool}

@@ -9,8 +9,8 @@ use Rattle.sched_model.specs.declared.state.Credit2Records.{Credit2Records}
 use Rattle.sched_model.specs.declared.state.Scheduler.{Scheduler}
 use Rattle.sched_model.specs.Places.{has_unit}
 use Rattle.sched_model.specs.EligibleUnits.{cores_of}
-use Rattle.sched_ranges.specs.Fits.{Credit2Fits}
-use Rattle.sched_ranges.specs.Budgets.{Budgets, None2, AllRunOnly}
+use Rattle.state_ranges.specs.Fits.{Credit2Fits}
+use Rattle.state_ranges.specs.Budgets.{Budgets, None2, AllRunOnly}
 use Rattle.scheduler_records.specs.Parts.{credit2_scheduler}
 use Rattle.arrival_queue.specs.Queues.{Queued}
 use Rattle.runq.specs.Queue.{Queue}

@@ -10,7 +10,8 @@ ghost use Rattle.sched_model.specs.declared.config.ParamChange.TheVariants as ch
 ghost use Rattle.sched_model.specs.Places.{at_place};
 ghost use Rattle.sched_model.specs.Policy.{join as join_spec, part as part_spec, set_params as set_params_spec};
 ghost use Rattle.sched_ops.specs.Seen.{seen_at, units_of};
-ghost use Rattle.sched_ops.specs.Conditions.{IsNow, IsWeight, IsCap, HasNoneBusy, IsChange, has_joined as joined_spec};
+ghost use Rattle.sched_ops.specs.Conditions.{IsNow, HasNoneBusy, IsChange, has_joined as joined_spec};
+ghost use Rattle.sched_laws.specs.RecordRanges.{IsWeight, IsCap};
 ghost use Rattle.credit2_core.specs.Credit2State.{IsSound, scheduler_in, seen_in};
 ghost use Rattle.arrival_queue.specs.Filters.{first_that, has_domain};
 ghost use Rattle.credit2_core.specs.Domains.{AreRunnableBut, refreshed_cores};

@@ -10,11 +10,11 @@ use Rattle.sched_model.specs.Opening.{opening}
 use Rattle.journal_core.specs.Parts.{tool_of as part_of_tool}
 use Rattle.cpupool.specs.Tool.{Tool, tool_of}
 use Rattle.pool_core.specs.Seen.{Seen}
-use Rattle.pool_slots.specs.Counts.{AreSpares}
-use Rattle.pool_slots.specs.Places.{AllStand, GoesOn, state_of}
-use Rattle.pool_slots.specs.Spares.{Shelves}
-use Rattle.pool_slots.specs.Told.{Told, told_new}
-use Rattle.parts_opening.proofs.Placing.{state_new}
+use Rattle.machine_parts.specs.Counts.{AreSpares}
+use Rattle.machine_parts.specs.Places.{AllStand, GoesOn, state_of}
+use Rattle.machine_parts.specs.Spares.{Shelves}
+use Rattle.machine_parts.specs.Told.{Told, told_new}
+use Rattle.machine_opening.proofs.Placing.{state_new}
 use Rattle.engine.specs.EngineState.{standing_of, AreKept, IsRunning}
 use Rattle.sched_model.specs.Standing.{Standing}
 

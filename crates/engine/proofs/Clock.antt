@@ -8,9 +8,9 @@ use Rattle.sched_model.specs.declared.machine.Machine.{Machine}
 use Rattle.sched_model.specs.declared.state.State.{State}
 use Rattle.sched_model.specs.Machine.{is_enabled, event_of, after}
 use Rattle.sched_laws.proofs.Free.{now_after}
-use Rattle.pool_slots.specs.Told.{Told, told_more}
-use Rattle.pool_slots.specs.Places.{GoesOn, state_of}
-use Rattle.pool_slots.proofs.Going.{entry-is, state-on}
+use Rattle.machine_parts.specs.Told.{Told, told_more}
+use Rattle.machine_parts.specs.Places.{GoesOn, state_of}
+use Rattle.machine_parts.proofs.Going.{entry-is, state-on}
 use Rattle.engine.specs.EngineState.{standing_of}
 use Rattle.sched_model.specs.Standing.{Standing}
 

@@ -11,7 +11,7 @@ use Rattle.sched_base.specs.declared.Moment.{Moment}
 use Rattle.sched_model.specs.declared.action.Action.{Action}
 use Rattle.sched_model.specs.Places.{at_place}
 use Rattle.pool_core.specs.Seen.{Seen}
-use Rattle.pool_core.specs.Order.{IsFirstEnabled}
+use Rattle.pool_laws.specs.FirstEvents.{IsFirstEnabled}
 use Rattle.machine_parts.specs.Parts.{AreFirsts, IsFirstOfPlace, IsNextOfPlace}
 use Rattle.engine.specs.EngineState.{AreKept, IsIdleFrom}
 use Rattle.std.proofs.lemmas.List.{get_or-take, length-take-le}

@@ -17,18 +17,18 @@ use Rattle.journal_core.specs.Histories.{reached_by, part_at}
 use Rattle.journal_core.specs.Parts.{part_of}
 use Rattle.cpupool.specs.Tool.{Tool, tool_of}
 use Rattle.pool_core.specs.Seen.{Seen}
-use Rattle.pool_slots.specs.Told.{Told, told_more}
-use Rattle.pool_slots.specs.Places.{GoesOn, SlotSuits, StandsAt, state_of}
-use Rattle.pool_slots.proofs.Going.{leads-to, part_of-is, state_of-is}
-use Rattle.pool_slots.specs.Counts.{AreSpares}
-use Rattle.pool_slots.specs.Spares.{Shelves}
+use Rattle.machine_parts.specs.Told.{Told, told_more}
+use Rattle.machine_parts.specs.Places.{GoesOn, SlotSuits, StandsAt, state_of}
+use Rattle.machine_parts.proofs.Going.{leads-to, part_of-is, state_of-is}
+use Rattle.machine_parts.specs.Counts.{AreSpares}
+use Rattle.machine_parts.specs.Spares.{Shelves}
 use Rattle.machine_parts.specs.Parts.{AreFirsts, AreParts}
 use Rattle.sched_base.specs.declared.Moment.{Moment}
 use Rattle.engine.specs.EngineState.{standing_of, IsRunning}
 use Rattle.sched_model.specs.Standing.{Standing}
 use Rattle.machine_parts.proofs.Performing.{slot-later}
 use Rattle.engine.proofs.Quiet.{quiet-firsts}
-use Rattle.pool_slots.proofs.Keeping.{spares-later}
+use Rattle.machine_parts.proofs.Keeping.{spares-later}
 
 module _ (w : Told) (goes : GoesOn w) (next : ℕ) (quiet : first_enabled w.input (state_of w) (state_of w).now ≡ None) (comes : next_in_horizon w.input (state_of w) ≡ Some next) (e : Entry) (is : e ≡ record { at = moment (state_of w).now; event = event.End (moment next) }) where
   abbrev m : Machine

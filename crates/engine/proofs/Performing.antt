@@ -9,13 +9,13 @@ use Rattle.sched_model.specs.Places.{at_place}
 use Rattle.journal_core.specs.Parts.{StatePart, ToolPart, tool_part, part_of, tool_lock, tool_of as part_of_tool}
 use Rattle.cpupool.specs.Tool.{Tool, tool_of}
 use Rattle.pool_core.specs.Seen.{Seen}
-use Rattle.pool_slots.specs.Told.{Told}
-use Rattle.pool_slots.specs.Places.{AllStand, HasStepped, state_of}
-use Rattle.pool_slots.proofs.Going.{part_of-is}
+use Rattle.machine_parts.specs.Told.{Told}
+use Rattle.machine_parts.specs.Places.{AllStand, HasStepped, state_of}
+use Rattle.machine_parts.proofs.Going.{part_of-is}
 use Rattle.sched_base.specs.declared.Moment.{Moment}
-use Rattle.pool_slots.specs.Told.{told_more}
-use Rattle.pool_slots.specs.Counts.{AreSpares}
-use Rattle.pool_slots.specs.Spares.{Shelves}
+use Rattle.machine_parts.specs.Told.{told_more}
+use Rattle.machine_parts.specs.Counts.{AreSpares}
+use Rattle.machine_parts.specs.Spares.{Shelves}
 use Rattle.machine_parts.specs.Parts.{AreParts, IsFirstOfPlace, IsNextOfPlace}
 use Rattle.engine.specs.EngineState.{AreKept, IsRunning}
 use Rattle.engine.proofs.Kept.{kept-one}

@@ -13,19 +13,19 @@ use Rattle.sched_model.specs.Places.{at_place}
 use Rattle.sched_model.specs.Pool.{enabled_in}
 use Rattle.sched_model.specs.Runs.{IsRun}
 use Rattle.sched_laws.specs.StateLaws.{state_after}
-use Rattle.order_laws.specs.OrderLaws.{ComesInPool}
-use Rattle.order_laws.proofs.Candidates.{is_candidate}
-use Rattle.order_laws.proofs.Home.{pool_is_home}
-use Rattle.order_laws.proofs.Members.{Has-from_contains}
-use Rattle.order_laws.proofs.Sorted.{none_if_none_found}
+use Rattle.composition_laws.specs.OrderLaws.{ComesInPool}
+use Rattle.composition_laws.proofs.Candidates.{is_candidate}
+use Rattle.composition_laws.proofs.Home.{pool_is_home}
+use Rattle.composition_laws.proofs.Members.{Has-from_contains}
+use Rattle.composition_laws.proofs.Sorted.{none_if_none_found}
 use Rattle.cpupool.specs.Tool.{Tool}
-use Rattle.pool_core.specs.Order.{IsFirst, IsFirstEnabled}
+use Rattle.pool_laws.specs.FirstEvents.{IsFirst, IsFirstEnabled}
 use Rattle.pool_core.specs.Seen.{Seen}
-use Rattle.pool_slots.specs.Places.{SlotSuits, state_of}
-use Rattle.pool_slots.specs.Told.{Told}
+use Rattle.machine_parts.specs.Places.{SlotSuits, state_of}
+use Rattle.machine_parts.specs.Told.{Told}
 use Rattle.sched_laws.proofs.EachPlace.{place_below}
-use Rattle.pool_slots.proofs.Going.{range-of, state_of-is}
-use Rattle.pool_slots.proofs.Standing.{pool_at}
+use Rattle.machine_parts.proofs.Going.{range-of, state_of-is}
+use Rattle.machine_parts.proofs.Standing.{pool_at}
 use Rattle.machine_parts.proofs.AtPlaces.{pool-anywhere}
 use Rattle.machine_parts.specs.Parts.{AreFirsts, AreNexts, AreParts, IsNextOfPlace}
 

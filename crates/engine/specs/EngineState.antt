@@ -5,10 +5,10 @@ use Rattle.sched_model.specs.declared.action.Action.{Action}
 use Rattle.sched_model.specs.Places.{at_place}
 use Rattle.cpupool.specs.Tool.{Tool}
 use Rattle.pool_core.specs.Seen.{Seen}
-use Rattle.pool_slots.specs.Counts.{AreSpares}
-use Rattle.pool_slots.specs.Places.{state_of}
-use Rattle.pool_slots.specs.Spares.{Shelves}
-use Rattle.pool_slots.specs.Told.{Told}
+use Rattle.machine_parts.specs.Counts.{AreSpares}
+use Rattle.machine_parts.specs.Places.{state_of}
+use Rattle.machine_parts.specs.Spares.{Shelves}
+use Rattle.machine_parts.specs.Told.{Told}
 use Rattle.machine_parts.specs.Parts.{AreFirsts, AreParts, IsNextOfPlace}
 use Rattle.sched_model.specs.Standing.{Standing}
 

@@ -5,8 +5,8 @@ ghost use Rattle.sched_model.specs.Places.{at_place};
 ghost use Rattle.machine_parts.specs.Parts.{IsFirstOfPlace, IsNextOfPlace};
 ghost use Rattle.engine.specs.EngineState.{AreKept, IsIdleFrom};
 
+use machine_parts::PoolSlot;
 use machine_parts::places::{first_of, next_of, read_firsts, read_nexts};
-use pool_slots::PoolSlot;
 use sched_base::{Moment, NoMemory};
 use sched_model::action::Action;
 use std::alloc::Global;

@@ -20,8 +20,8 @@ use Rattle.sched_model.specs.Runs.{action_of}
 use Rattle.sched_model.proofs.RunLemmas.{action_of-event_of, find_passes}
 use Rattle.sched_base.proofs.Bools.{and_left}
 use Rattle.sched_laws.proofs.Lists.{some-test_at}
-use Rattle.actor_laws.specs.Actors.{is_by_actor}
-use Rattle.pool_core.specs.Actors.{is_by}
+use Rattle.composition_laws.specs.Actors.{is_by_actor}
+use Rattle.pool_laws.specs.Actors.{is_by}
 use Rattle.journal_core.specs.Histories.{state_at}
 use Rattle.lock_moves.specs.SeatSight.{Seen}
 use Rattle.hall.specs.Turns.{HasActed, is_actor}

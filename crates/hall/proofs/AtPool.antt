@@ -20,12 +20,12 @@ use Rattle.sched_laws.proofs.EachPlace.{found_at}
 use Rattle.journal_core.specs.Books.{Chronicle}
 use Rattle.journal_core.specs.Histories.{home_at, part_at, reached_by}
 use Rattle.journal_core.specs.Parts.{StatePart, home_in, lists, pool_part, part_of}
-use Rattle.part_laws.proofs.PoolSteps.{pool_step}
+use Rattle.composition_laws.proofs.PoolSteps.{pool_step}
 use Rattle.pool_core.specs.Seen.{Seen as PoolSeen}
-use Rattle.pool_slots.specs.Told.{Told, told_more, told_of}
-use Rattle.pool_slots.specs.Places.{GoesOn, HasStepped, StandsAt, state_of}
-use Rattle.pool_slots.proofs.Going.{comes-next, entry-is, now_of-is, state-on}
-use Rattle.pool_slots.proofs.Standing.{part_below, stepped}
+use Rattle.machine_parts.specs.Told.{Told, told_more, told_of}
+use Rattle.machine_parts.specs.Places.{GoesOn, HasStepped, StandsAt, state_of}
+use Rattle.machine_parts.proofs.Going.{comes-next, entry-is, now_of-is, state-on}
+use Rattle.machine_parts.proofs.Standing.{part_below, stepped}
 use Rattle.lock_moves.specs.Plays.{Current, Kept, Placed}
 use Rattle.lock_moves.specs.SeatSight.{Holds, Known, Seen, find_lock, known_part as known, Sitting}
 use Rattle.lock_moves.specs.Words.{has_core}
@@ -35,7 +35,7 @@ use Rattle.hall.specs.SeatKnowledge.{KnowsPool}
 use Rattle.hall.specs.Steps.{HasCore, KeepsOthers, KnowsAfter, HasBook}
 use Rattle.lock_moves.specs.Sets.{LockTable}
 use Rattle.hall.proofs.Processors.{core-inside, core-small, is_low}
-use Rattle.tool_laws.proofs.Names.{core_name}
+use Rattle.composition_laws.proofs.ListedNames.{core_name}
 use Rattle.hall.proofs.Handing.{home-of-name, name-there}
 use Rattle.hall.proofs.Parting.{knows-pool-after, now-held, part-here, stands-held}
 

@@ -17,15 +17,15 @@ use Rattle.sched_model.specs.Machine.{event_of, first_enabled, is_enabled, next_
 use Rattle.sched_model.specs.Runs.{IsNext, IsRun, IsWholeRun, action_of}
 use Rattle.sched_model.proofs.RunLemmas.{find_passes, action_of-event_of}
 use Rattle.sched_base.proofs.Bools.{and_right}
-use Rattle.order_laws.proofs.Entries.{rest_when_over}
-use Rattle.actor_laws.specs.Actors.{first_by, is_by_actor}
-use Rattle.actor_laws.proofs.Whole.{none_comes}
+use Rattle.composition_laws.proofs.Entries.{rest_when_over}
+use Rattle.composition_laws.specs.Actors.{first_by, is_by_actor}
+use Rattle.composition_laws.proofs.Whole.{none_comes}
 use Rattle.journal_core.specs.Books.{Chronicle}
 use Rattle.journal_core.specs.Histories.{reached_by, state_at}
 use Rattle.machine_parts.proofs.Performing.{first-comes}
-use Rattle.pool_slots.specs.Places.{GoesOn}
-use Rattle.pool_slots.specs.Told.{told_of}
-use Rattle.pool_slots.proofs.Going.{entry-is, goes-on, state_of-is}
+use Rattle.machine_parts.specs.Places.{GoesOn}
+use Rattle.machine_parts.specs.Told.{told_of}
+use Rattle.machine_parts.proofs.Going.{entry-is, goes-on, state_of-is}
 use Rattle.lock_moves.specs.SeatSight.{Sitting}
 use Rattle.hall.specs.declared.turns.Done.{Done}
 use Rattle.hall.specs.declared.turns.Done.TheVariants as done

@@ -2,8 +2,8 @@
 use denote.Param.Send.{IsSend, IsSync, sendable, recorded_send, recorded_sync, struct_send, struct_sync, view_send, view_sync}
 use denote.Struct.Declared.{shape}
 use Rattle.std.proofs.Crossing.{crosses}
-use Rattle.pool_slots.specs.contracts.slot.PoolSlot.{the_row as slot_row}
-use Rattle.pool_slots.specs.contracts.spares.Spares.{the_row as spares_row}
+use Rattle.machine_parts.specs.contracts.slot.PoolSlot.{the_row as slot_row}
+use Rattle.machine_parts.specs.contracts.spares.Spares.{the_row as spares_row}
 use Rattle.hall.proofs.PoolCrossing.{pool_send, tool_send}
 use Rattle.lock_moves.proofs.Crossing.{set_send, set_sync}
 use Rattle.lock_moves.proofs.seat.LockSeat.TheSendSync as lock_seat

@@ -22,17 +22,17 @@ use Rattle.sched_laws.proofs.EachPlace.{found_at, is_empty, place_below}
 use Rattle.sched_laws.proofs.Lists.{some_is}
 use Rattle.journal_core.specs.Histories.{NamesStandOnce, home_at, now_at, state_at}
 use Rattle.journal_core.specs.Parts.{UnderWay, core_to, domain_to, is_name, lists, no_home, part_of, pool_lists, tool_lock, under_way_of}
-use Rattle.part_laws.proofs.NamesLaw.{names_stand_once}
-use Rattle.tool_laws.specs.ListedNames.{HandsOver, ListsAsBefore, ListsNames}
+use Rattle.composition_laws.proofs.NamesLaw.{names_stand_once}
+use Rattle.composition_laws.specs.ListedNames.{HandsOver, ListsAsBefore, ListsNames}
 use Rattle.sched_laws.specs.StateLaws.{MovesNothing}
-use Rattle.tool_laws.proofs.Moving.{lists_names}
+use Rattle.composition_laws.proofs.Moving.{lists_names}
 use Rattle.cpupool.specs.Steps.{kind_at, move_of}
 use Rattle.cpupool.specs.Tool.{Tool, tool_of}
 use Rattle.cpupool.specs.declared.moves.Move.TheVariants as move
 use Rattle.cpupool.proofs.ArrivedLemmas.{core_joins}
-use Rattle.pool_slots.specs.Places.{GoesOn, state_of}
-use Rattle.pool_slots.specs.Told.{Told, told_more}
-use Rattle.pool_slots.proofs.Going.{part_of-is, range-of, state-on, state_of-is, now_of-is}
+use Rattle.machine_parts.specs.Places.{GoesOn, state_of}
+use Rattle.machine_parts.specs.Told.{Told, told_more}
+use Rattle.machine_parts.proofs.Going.{part_of-is, range-of, state-on, state_of-is, now_of-is}
 use Rattle.machine_parts.proofs.AtPlaces.{number-of}
 use Rattle.tool_acts.proofs.CoreMoves.{leaves-some, own-of, way-there}
 use Rattle.tool_acts.proofs.DomainMoves.{domain-told, finds-some}

@@ -10,7 +10,7 @@ use Rattle.sched_model.specs.declared.event.Entry.{Entry}
 use Rattle.sched_model.specs.declared.event.Event.{Event}
 use Rattle.sched_model.specs.declared.machine.Machine.{Machine}
 use Rattle.sched_model.specs.Runs.{IsRun}
-use Rattle.actor_laws.specs.Actors.{first_by, has_actor}
+use Rattle.composition_laws.specs.Actors.{first_by, has_actor}
 use Rattle.journal_core.specs.Histories.{part_at, state_at}
 use Rattle.journal_core.specs.Parts.{StatePart, lists}
 use Rattle.lock_moves.specs.declared.content.NameId.{NameId}
@@ -21,7 +21,7 @@ use Rattle.lock_moves.proofs.Finding.{find-without-other, find-without-same, non
 use Rattle.lock_moves.proofs.Named.{name_below}
 use Rattle.lock_moves.proofs.Prefix.{prefix_length}
 use Rattle.pool_core.specs.Seen.{Seen as PoolSeen}
-use Rattle.pool_slots.specs.Places.{SlotSuits, slot_part}
+use Rattle.machine_parts.specs.Places.{SlotSuits, slot_part}
 use Rattle.hall.specs.declared.hold.Acted.{Acted}
 use Rattle.hall.specs.declared.turns.Done.{Done}
 use Rattle.hall.specs.declared.turns.Done.TheVariants as done

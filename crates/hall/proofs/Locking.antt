@@ -10,8 +10,8 @@ use Rattle.sched_model.specs.Places.{at_place}
 use Rattle.journal_core.specs.Parts.{StatePart, ToolPart, pool_part, tool_part}
 use Rattle.journal_core.specs.Histories.{part_at, state_at}
 use Rattle.pool_core.specs.Seen.{Seen as PoolSeen}
-use Rattle.pool_slots.specs.Places.{slot_part}
-use Rattle.pool_slots.proofs.Standing.{part_below, slot_part-is}
+use Rattle.machine_parts.specs.Places.{slot_part}
+use Rattle.machine_parts.proofs.Standing.{part_below, slot_part-is}
 use Rattle.lock_moves.specs.SeatSight.{Known, Seen, Sitting, HoldsBelow, find_lock, after_give, known_part as known, tried_again}
 use Rattle.lock_moves.specs.Sets.{HasTaken, IsAsKnown, sitting_with}
 use Rattle.lock_moves.specs.Plays.{IsPartOfSome}

@@ -16,11 +16,11 @@ use Rattle.journal_core.specs.Histories.{part_at, now_at}
 use Rattle.journal_core.specs.Parts.{tool_lock, tool_of as part_of_tool, tool_part}
 use Rattle.cpupool.specs.Tool.{KnowsMachine, Tool, tool_of}
 use Rattle.pool_core.specs.Seen.{Seen as PoolSeen}
-use Rattle.pool_slots.specs.Counts.{AreSpares}
-use Rattle.pool_slots.specs.Places.{AllStand, SlotSuits}
-use Rattle.pool_slots.specs.Told.{Told, told_new}
-use Rattle.pool_slots.proofs.Going.{now_of-is, part_of-is}
-use Rattle.parts_opening.proofs.Placing.{state_new}
+use Rattle.machine_parts.specs.Counts.{AreSpares}
+use Rattle.machine_parts.specs.Places.{AllStand, SlotSuits}
+use Rattle.machine_parts.specs.Told.{Told, told_new}
+use Rattle.machine_parts.proofs.Going.{now_of-is, part_of-is}
+use Rattle.machine_opening.proofs.Placing.{state_new}
 use Rattle.lock_moves.specs.TableContent.{AreParts}
 use Rattle.hall.specs.declared.value.PartState.{PartState}
 use Rattle.hall.specs.declared.value.PartState.TheVariants as value

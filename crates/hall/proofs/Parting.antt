@@ -12,15 +12,15 @@ use Rattle.sched_model.specs.Runs.{IsRun}
 use Rattle.journal_core.specs.Books.{Chronicle}
 use Rattle.journal_core.specs.Histories.{NamesStandOnce, home_at, now_at, part_at, reached_by}
 use Rattle.journal_core.specs.Parts.{StatePart, ToolPart, lists, part_of, tool_lock, tool_part, tool_of as part_of_tool}
-use Rattle.part_laws.proofs.NamesLaw.{names_stand_once}
+use Rattle.composition_laws.proofs.NamesLaw.{names_stand_once}
 use Rattle.cpupool.specs.Tool.{Tool, tool_of}
 use Rattle.pool_core.specs.Seen.{Seen as PoolSeen}
-use Rattle.pool_slots.specs.Counts.{AreSpares}
-use Rattle.pool_slots.specs.Places.{GoesOn, SlotSuits, StandsAt, slot_part, state_of}
-use Rattle.pool_slots.specs.Spares.{Shelves}
-use Rattle.pool_slots.specs.Told.{Told, told_of}
-use Rattle.pool_slots.proofs.Going.{now_of-is, part_of-is}
-use Rattle.pool_slots.proofs.Keeping.{spares-later}
+use Rattle.machine_parts.specs.Counts.{AreSpares}
+use Rattle.machine_parts.specs.Places.{GoesOn, SlotSuits, StandsAt, slot_part, state_of}
+use Rattle.machine_parts.specs.Spares.{Shelves}
+use Rattle.machine_parts.specs.Told.{Told, told_of}
+use Rattle.machine_parts.proofs.Going.{now_of-is, part_of-is}
+use Rattle.machine_parts.proofs.Keeping.{spares-later}
 use Rattle.machine_parts.specs.Parts.{AreParts}
 use Rattle.machine_parts.proofs.Performing.{slot-later}
 use Rattle.lock_moves.specs.Plays.{Current, Placed}

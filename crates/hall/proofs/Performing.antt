@@ -20,10 +20,10 @@ use Rattle.journal_core.specs.Books.{Chronicle}
 use Rattle.journal_core.specs.Histories.{reached_by}
 use Rattle.journal_core.specs.Parts.{tool_lock}
 use Rattle.pool_core.specs.Seen.{Seen as PoolSeen}
-use Rattle.pool_slots.specs.Counts.{AreSpares}
-use Rattle.pool_slots.specs.Places.{GoesOn, state_of}
-use Rattle.pool_slots.specs.Told.{Told, told_of}
-use Rattle.pool_slots.proofs.Going.{comes-next, entry-is, goes-on}
+use Rattle.machine_parts.specs.Counts.{AreSpares}
+use Rattle.machine_parts.specs.Places.{GoesOn, state_of}
+use Rattle.machine_parts.specs.Told.{Told, told_of}
+use Rattle.machine_parts.proofs.Going.{comes-next, entry-is, goes-on}
 use Rattle.machine_parts.proofs.AtPlaces.{number-of, no-number}
 use Rattle.tool_acts.specs.Acts.{told_event}
 use Rattle.machine_parts.specs.Parts.{AreParts, pool_of_event}

@@ -19,10 +19,10 @@ use Rattle.sched_model.proofs.RunLemmas.{action_of-event_of}
 use Rattle.sched_laws.proofs.EachPlace.{found_at, place_below}
 use Rattle.sched_laws.proofs.Granularity.{by_granularity}
 use Rattle.sched_laws.proofs.Lists.{some_is}
-use Rattle.tool_laws.proofs.Moving.{known_in_runs}
-use Rattle.pool_slots.specs.Places.{GoesOn, state_of}
-use Rattle.pool_slots.specs.Told.{Told, told_of}
-use Rattle.pool_slots.proofs.Going.{range-of, state_of-is}
+use Rattle.composition_laws.proofs.Moving.{known_in_runs}
+use Rattle.machine_parts.specs.Places.{GoesOn, state_of}
+use Rattle.machine_parts.specs.Told.{Told, told_of}
+use Rattle.machine_parts.proofs.Going.{range-of, state_of-is}
 use Rattle.machine_parts.proofs.AtPlaces.{no-home}
 use Rattle.hall.specs.declared.seat.Arrival.{Arrival}
 use Rattle.hall.specs.Seats.{arrived_after}

@@ -9,11 +9,11 @@ use Rattle.sched_model.specs.Runs.{IsNext, Reached, action_of}
 use Rattle.journal_core.specs.Books.{Chronicle}
 use Rattle.journal_core.specs.Histories.{home_at, now_at, part_at, reached_by}
 use Rattle.journal_core.proofs.Grows.{now_at-append}
-use Rattle.order_laws.specs.EntryLaws.{LeadsAsBefore}
-use Rattle.order_laws.proofs.Entries.{quiet_leads}
-use Rattle.pool_slots.specs.Places.{GoesOn, state_of}
-use Rattle.pool_slots.specs.Told.{told_of}
-use Rattle.pool_slots.proofs.Going.{leads-to}
+use Rattle.composition_laws.specs.EntryLaws.{LeadsAsBefore}
+use Rattle.composition_laws.proofs.Entries.{quiet_leads}
+use Rattle.machine_parts.specs.Places.{GoesOn, state_of}
+use Rattle.machine_parts.specs.Told.{told_of}
+use Rattle.machine_parts.proofs.Going.{leads-to}
 use Rattle.lock_moves.specs.Plays.{Current, Kept, Placed}
 use Rattle.lock_moves.specs.Sets.{LockTable}
 use Rattle.lock_moves.specs.SeatSight.{Known, Seen, Sitting, find_lock, known_part, with_now}

@@ -14,13 +14,13 @@ use Rattle.sched_model.specs.Places.{at_place}
 use Rattle.sched_model.specs.Runs.{IsNext, IsRun, Reached, run_start}
 use Rattle.sched_model.proofs.RunLemmas.{IsRunFrom-append}
 use Rattle.sched_laws.proofs.Ready.{next_later}
-use Rattle.order_laws.proofs.Entries.{over_at_finish}
+use Rattle.composition_laws.proofs.Entries.{over_at_finish}
 use Rattle.journal_core.specs.Books.{Chronicle}
 use Rattle.journal_core.specs.Histories.{reached_by}
 use Rattle.pool_core.specs.Seen.{Seen as PoolSeen}
-use Rattle.pool_slots.specs.Places.{GoesOn, state_of}
-use Rattle.pool_slots.specs.Told.{Told, told_of}
-use Rattle.pool_slots.proofs.Going.{comes-next, leads-to}
+use Rattle.machine_parts.specs.Places.{GoesOn, state_of}
+use Rattle.machine_parts.specs.Told.{Told, told_of}
+use Rattle.machine_parts.proofs.Going.{comes-next, leads-to}
 use Rattle.machine_parts.specs.Parts.{AreNexts, IsNextOfPlace}
 use Rattle.machine_parts.proofs.Performing.{first-comes}
 use Rattle.lock_moves.specs.Plays.{Current}

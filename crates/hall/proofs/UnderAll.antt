@@ -15,16 +15,16 @@ use Rattle.sched_model.specs.CheckedMachine.{IsChecked}
 use Rattle.sched_model.specs.Machine.{is_enabled}
 use Rattle.sched_model.specs.Runs.{IsRun}
 use Rattle.run_laws.specs.RunLaws.{IsOver}
-use Rattle.order_laws.proofs.Entries.{over_at_finish}
-use Rattle.actor_laws.specs.Actors.{first_by}
-use Rattle.actor_laws.specs.First.{move_first, tool_first}
-use Rattle.actor_laws.proofs.Actors.{tool_is_first}
+use Rattle.composition_laws.proofs.Entries.{over_at_finish}
+use Rattle.composition_laws.specs.Actors.{first_by}
+use Rattle.composition_laws.specs.WholeFirst.{move_first, tool_first}
+use Rattle.composition_laws.proofs.Actors.{tool_is_first}
 use Rattle.journal_core.specs.Books.{Chronicle}
 use Rattle.journal_core.specs.Histories.{now_at, reached_by}
 use Rattle.journal_core.specs.Parts.{UnderWay, core_to, domain_to, under_way_of}
-use Rattle.pool_slots.specs.Places.{state_of}
-use Rattle.pool_slots.specs.Told.{Told, told_of}
-use Rattle.pool_slots.proofs.Going.{now_of-is, state_of-is}
+use Rattle.machine_parts.specs.Places.{state_of}
+use Rattle.machine_parts.specs.Told.{Told, told_of}
+use Rattle.machine_parts.proofs.Going.{now_of-is, state_of-is}
 use Rattle.lock_moves.specs.Plays.{Current}
 use Rattle.lock_moves.specs.Sets.{LockTable}
 use Rattle.lock_moves.specs.SeatSight.{AllBelow, Seen, Sitting, find_lock}

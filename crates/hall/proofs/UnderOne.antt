@@ -24,18 +24,18 @@ use Rattle.sched_laws.proofs.Lists.{some_is}
 use Rattle.journal_core.specs.Books.{Chronicle}
 use Rattle.journal_core.specs.Histories.{state_at}
 use Rattle.journal_core.specs.Parts.{StatePart, ToolPart, is_name, lists, part_of, pool_lists, tool_lock, tool_of, tool_part}
-use Rattle.order_laws.specs.OrderLaws.{ComesAtHome}
-use Rattle.order_laws.proofs.Home.{pool_is_home}
-use Rattle.part_laws.proofs.NamesLaw.{some_mapped}
-use Rattle.actor_laws.specs.Actors.{first_by, has_actor}
-use Rattle.actor_laws.proofs.Actors.{first_in_pool, none_of_free}
-use Rattle.tool_laws.proofs.Names.{core_name, domain_name}
-use Rattle.pool_core.specs.Actors.{ComesFirstBy, IsFirstBy}
+use Rattle.composition_laws.specs.OrderLaws.{ComesAtHome}
+use Rattle.composition_laws.proofs.Home.{pool_is_home}
+use Rattle.composition_laws.proofs.NamesLaw.{some_mapped}
+use Rattle.composition_laws.specs.Actors.{first_by, has_actor}
+use Rattle.composition_laws.proofs.Actors.{first_in_pool, none_of_free}
+use Rattle.composition_laws.proofs.ListedNames.{core_name, domain_name}
+use Rattle.pool_laws.specs.Actors.{ComesFirstBy, IsFirstBy}
 use Rattle.pool_core.specs.Seen.{Seen as PoolSeen}
-use Rattle.pool_slots.specs.Places.{GoesOn, SlotSuits, StandsAt, slot_part, state_of}
-use Rattle.pool_slots.specs.Told.{told_of}
-use Rattle.pool_slots.proofs.Going.{part_of-is, state_of-is}
-use Rattle.pool_slots.proofs.Standing.{pool_at, stands-there}
+use Rattle.machine_parts.specs.Places.{GoesOn, SlotSuits, StandsAt, slot_part, state_of}
+use Rattle.machine_parts.specs.Told.{told_of}
+use Rattle.machine_parts.proofs.Going.{part_of-is, state_of-is}
+use Rattle.machine_parts.proofs.Standing.{pool_at, stands-there}
 use Rattle.lock_moves.specs.declared.content.NameId.{NameId}
 use Rattle.lock_moves.specs.declared.content.NameId.TheVariants as name_id
 use Rattle.lock_moves.specs.Plays.{Current, IsPartOfSome}
@@ -52,7 +52,7 @@ use Rattle.hall.proofs.Calls.{goes-where, adds-event, settles-event, settles-ful
 use Rattle.hall.proofs.Locking.{keeps_same, no_place, no_tool}
 use Rattle.hall.proofs.Parting.{now-held, part-held, stands-held, run-held}
 use Rattle.hall.proofs.Processors.{arrival-small}
-use Rattle.tool_laws.proofs.Moving.{high_name}
+use Rattle.composition_laws.proofs.Moving.{high_name}
 
 module _ (set : LockTable) (b : Chronicle) (s : Sitting) (has : HasBook set b s) (current : Current s.view) (of_hall : IsChecked set.opened.input) (input : b.input ≡ set.opened.input)
     (i : ℕ) (low : i < 16) (slot : Option PoolSeen) (knows : KnowsPool i slot s.view) (some : IsSome slot) (t : ℕ) (now : t ≡ s.view.now)

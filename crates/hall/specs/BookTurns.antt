@@ -14,9 +14,9 @@ use Rattle.sched_model.specs.Machine.{event_of, first_enabled, next_in_horizon}
 use Rattle.sched_model.specs.Runs.{IsNext, IsRun, IsWholeRun}
 use Rattle.journal_core.specs.Books.{Chronicle}
 use Rattle.journal_core.specs.Histories.{reached_by}
-use Rattle.actor_laws.specs.Actors.{first_by}
-use Rattle.pool_slots.specs.Places.{state_of}
-use Rattle.pool_slots.specs.Told.{told_of}
+use Rattle.composition_laws.specs.Actors.{first_by}
+use Rattle.machine_parts.specs.Places.{state_of}
+use Rattle.machine_parts.specs.Told.{told_of}
 use Rattle.lock_moves.specs.declared.content.NameId.{NameId}
 use Rattle.lock_moves.specs.declared.content.NameId.TheVariants as name_id
 use Rattle.lock_moves.specs.SeatSight.{Sitting, Seen, find_lock}

@@ -4,12 +4,12 @@ use Rattle.sched_base.specs.declared.PoolId.{PoolId}
 use Rattle.sched_model.specs.declared.action.Action.{Action}
 use Rattle.sched_model.specs.Machine.{after}
 use Rattle.journal_core.specs.Parts.{tool_lock}
-use Rattle.tool_laws.specs.ListedNames.{HandsOver, ListsAsBefore}
+use Rattle.composition_laws.specs.ListedNames.{HandsOver, ListsAsBefore}
 use Rattle.lock_moves.specs.Sets.{HasName}
 use Rattle.lock_moves.specs.SeatSight.{Holds, Seen, moved_name}
 use Rattle.lock_moves.specs.Words.{has_name, name_number, tool_lock, book_lock}
-use Rattle.pool_slots.specs.Places.{state_of}
-use Rattle.pool_slots.specs.Told.{Told}
+use Rattle.machine_parts.specs.Places.{state_of}
+use Rattle.machine_parts.specs.Told.{Told}
 use Rattle.hall.specs.declared.whole.NameMove.{NameMove}
 
 -- the lock of the pool, or the tool's where there is none

@@ -5,8 +5,8 @@ use Rattle.sched_model.specs.Places.{at_place}
 use Rattle.journal_core.specs.Parts.{tool_lock, tool_part}
 use Rattle.cpupool.specs.Tool.{Tool}
 use Rattle.pool_core.specs.Seen.{Seen as PoolSeen}
-use Rattle.pool_slots.specs.Places.{SlotSuits, slot_part}
-use Rattle.pool_slots.specs.Spares.{Shelves}
+use Rattle.machine_parts.specs.Places.{SlotSuits, slot_part}
+use Rattle.machine_parts.specs.Spares.{Shelves}
 use Rattle.lock_moves.specs.Sets.{IsAsKnown}
 use Rattle.lock_moves.specs.SeatSight.{Seen, find_lock}
 use Rattle.hall.specs.declared.all.AllParts.{AllParts}

@@ -14,7 +14,7 @@ use Rattle.sched_model.specs.declared.event.Event.TheVariants as event
 use Rattle.sched_model.specs.Machine.{event_of, first_enabled, next_in_horizon}
 use Rattle.sched_model.specs.Runs.{IsNext, IsRun, IsWholeRun}
 use Rattle.journal_core.specs.Histories.{decides_at, reached_by, state_at}
-use Rattle.actor_laws.specs.Actors.{first_by}
+use Rattle.composition_laws.specs.Actors.{first_by}
 use Rattle.lock_moves.specs.SeatSight.{Seen, has_loaded}
 use Rattle.lock_moves.specs.Sets.{sitting_with}
 use Rattle.hall.specs.declared.seat.Arrival.{Arrival}

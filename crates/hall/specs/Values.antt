@@ -4,9 +4,9 @@ use Rattle.std.specs.Option.{ForSome}
 use Rattle.sched_model.specs.declared.machine.Machine.{Machine}
 use Rattle.journal_core.specs.Parts.{StatePart, tool_part}
 use Rattle.cpupool.specs.Tool.{Tool, KnowsMachine}
-use Rattle.pool_slots.specs.Counts.{AreSpares}
-use Rattle.pool_slots.specs.Places.{SlotSuits, slot_part}
-use Rattle.pool_slots.specs.Spares.{Shelves}
+use Rattle.machine_parts.specs.Counts.{AreSpares}
+use Rattle.machine_parts.specs.Places.{SlotSuits, slot_part}
+use Rattle.machine_parts.specs.Spares.{Shelves}
 use Rattle.hall.specs.declared.value.PartState.{PartState}
 use Rattle.hall.specs.declared.value.PartState.TheVariants as value
 

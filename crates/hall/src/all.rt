@@ -9,7 +9,7 @@ ghost use Rattle.lock_moves.specs.Words.{tool_lock, book_lock};
 use crate::value::{PartState, ToolKept};
 use arrayvec::ArrayVec;
 use lock_moves::{Held, LockId, LockSeat, LockSet, TOOL};
-use pool_slots::PoolSlot;
+use machine_parts::PoolSlot;
 use sched_model::machine::MOST_POOLS;
 use std::boxed::Box;
 use std::sync::Wait;

@@ -13,9 +13,9 @@ ghost use Rattle.hall.specs.Steps.{HasBook, HasCore, HasEntered, KeepsLocks, Kee
 ghost use Rattle.lock_moves.specs.Words.{book_lock};
 
 use crate::value::PartState;
+use composition_laws::names::law_names_stand_once;
 use lock_moves::laws::law_decided;
 use lock_moves::{HeldBook, LockSeat, LockSet};
-use part_laws::names::law_names_stand_once;
 use sched_model::event::{Entry, Event};
 use std::sync::Wait;
 

@@ -9,7 +9,7 @@ use crate::hall::Hall;
 use crate::seat::HallSeat;
 use crate::turns::Turn;
 use lock_moves::WordId;
-use pool_slots::PoolSlot;
+use machine_parts::PoolSlot;
 use sched_base::{Moment, ProcId};
 use sched_model::action::{Action, Actor};
 use std::sync::Wait;

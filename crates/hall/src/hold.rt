@@ -13,7 +13,7 @@ use crate::seat::{Arrival, HallSeat, arrived_after};
 use crate::turns::{Done, Full};
 use crate::value::PartState;
 use lock_moves::{Held, LockId, LockSeat, NameId, WordId};
-use pool_slots::PoolSlot;
+use machine_parts::PoolSlot;
 use sched_base::{Moment, ResId};
 use sched_io::Gate;
 use sched_model::action::Actor;

@@ -7,15 +7,15 @@ ghost use Rattle.sched_model.specs.Opening.{opening};
 ghost use Rattle.journal_core.specs.Books.{chronicle};
 ghost use Rattle.journal_core.specs.Parts.{tool_of as part_of_tool};
 ghost use Rattle.cpupool.specs.Tool.{tool_of};
-ghost use Rattle.pool_slots.specs.Counts.{AreSpares};
+ghost use Rattle.machine_parts.specs.Counts.{AreSpares};
 ghost use Rattle.lock_moves.specs.TableContent.{AreParts};
 ghost use Rattle.hall.specs.declared.value.PartState.TheVariants as value;
 ghost use Rattle.hall.specs.Values.{part_of_value, suits_value};
 
 use crate::value::{PartState, ToolKept};
 use cpupool::ToolState;
-use parts_opening::{open_slots, open_spares};
-use pool_slots::PoolSlot;
+use machine_opening::{open_slots, open_spares};
+use machine_parts::PoolSlot;
 use sched_base::NoMemory;
 use sched_model::config::Config;
 use sched_model::work::Work;

@@ -2,7 +2,7 @@
 
 use cpupool::ToolState;
 use lock_moves::{Names, Part};
-use pool_slots::{PoolSlot, Spares};
+use machine_parts::{PoolSlot, Spares};
 use std::boxed::Box;
 
 /// What the tool keeps of the machine, and the pools that wait for a command that makes one.

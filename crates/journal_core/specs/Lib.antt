@@ -1,3 +1,4 @@
 pub mod Parts
 pub mod Histories
 pub mod Books
+pub mod ToolActions

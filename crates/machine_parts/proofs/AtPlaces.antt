@@ -19,12 +19,12 @@ use Rattle.sched_model.specs.Pool.{enabled_in}
 use Rattle.sched_laws.proofs.EachPlace.{found_at, place_below}
 use Rattle.pool_laws.specs.ReadyMoments.{ready_in}
 use Rattle.cpupool.specs.Tool.{Tool}
-use Rattle.actor_laws.specs.Next.{leaves_at}
+use Rattle.composition_laws.specs.WholeNext.{leaves_at}
 use Rattle.pool_core.specs.Seen.{Seen}
-use Rattle.pool_slots.specs.Told.{Told}
-use Rattle.pool_slots.specs.Places.{SlotSuits, StandsAt, state_of}
-use Rattle.pool_slots.proofs.Going.{range-of}
-use Rattle.pool_slots.proofs.Standing.{pool_at, stands-there}
+use Rattle.machine_parts.specs.Told.{Told}
+use Rattle.machine_parts.specs.Places.{SlotSuits, StandsAt, state_of}
+use Rattle.machine_parts.proofs.Going.{range-of}
+use Rattle.machine_parts.proofs.Standing.{pool_at, stands-there}
 use Rattle.machine_parts.specs.Parts.{AreParts}
 
 module _ (w : Told) (slots : List (Option Seen)) (tool : Tool) (parts : AreParts w slots tool) where

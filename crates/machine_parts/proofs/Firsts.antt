@@ -8,12 +8,12 @@ use Rattle.sched_model.specs.declared.action.Action.{Action}
 use Rattle.sched_model.specs.declared.state.Pool.{Pool}
 use Rattle.sched_model.specs.Places.{at_place}
 use Rattle.cpupool.specs.Tool.{Tool}
-use Rattle.pool_core.specs.Order.{IsFirstEnabled, IsNextMoment}
+use Rattle.pool_laws.specs.FirstEvents.{IsFirstEnabled, IsNextMoment}
 use Rattle.pool_core.specs.Seen.{Seen}
-use Rattle.actor_laws.specs.First.{ArePoolsFirsts}
-use Rattle.actor_laws.specs.Next.{ArePoolsNexts}
-use Rattle.pool_slots.specs.Told.{Told}
-use Rattle.pool_slots.specs.Places.{state_of}
+use Rattle.composition_laws.specs.WholeFirst.{ArePoolsFirsts}
+use Rattle.composition_laws.specs.WholeNext.{ArePoolsNexts}
+use Rattle.machine_parts.specs.Told.{Told}
+use Rattle.machine_parts.specs.Places.{state_of}
 use Rattle.machine_parts.specs.Parts.{AreFirsts, AreNexts, AreParts, IsNextOfPlace}
 use Rattle.machine_parts.proofs.AtPlaces.{nothing-there, seen-there}
 

@@ -1,3 +1,12 @@
+pub mod Going
+pub mod AtHome
+pub mod Standing
+pub mod Rooming
+pub mod Stepping
+pub mod Shelving
+pub mod Fitting
+pub mod Counting
+pub mod Keeping
 pub mod Ranking
 pub mod Soonest
 pub mod AtPlaces

@@ -20,16 +20,16 @@ use Rattle.sched_laws.proofs.Lists.{some-test_at}
 use Rattle.sched_laws.proofs.PoolsLaw.{pools_keep_their_own}
 use Rattle.journal_core.specs.Parts.{ToolPart, UnderWay, core_to, domain_to, under_way_of}
 use Rattle.cpupool.specs.declared.moves.Move.TheVariants as move
-use Rattle.cpupool.specs.ToolActions.{joins_at, may_join}
+use Rattle.journal_core.specs.ToolActions.{joins_at, may_join}
 use Rattle.cpupool.specs.Steps.{move_of}
 use Rattle.cpupool.proofs.ArrivedLemmas.{core_joins}
-use Rattle.part_laws.proofs.Counted.{in_all, in_all_is}
-use Rattle.part_laws.proofs.Whose.{joining_answers}
-use Rattle.part_laws.proofs.MoveLaw.{has_one_move}
-use Rattle.actor_laws.specs.First.{move_first}
-use Rattle.pool_slots.specs.Told.{Told}
-use Rattle.pool_slots.specs.Places.{GoesOn, state_of}
-use Rattle.pool_slots.proofs.Going.{state_of-is}
+use Rattle.composition_laws.proofs.Counted.{in_all, in_all_is}
+use Rattle.composition_laws.proofs.Whose.{joining_answers}
+use Rattle.composition_laws.proofs.MoveLaw.{has_one_move}
+use Rattle.composition_laws.specs.WholeFirst.{move_first}
+use Rattle.machine_parts.specs.Told.{Told}
+use Rattle.machine_parts.specs.Places.{GoesOn, state_of}
+use Rattle.machine_parts.proofs.Going.{state_of-is}
 use Rattle.machine_parts.proofs.AtPlaces.{no-home}
 
 -- what is on its way, where the program tells it so

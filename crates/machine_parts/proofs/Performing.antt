@@ -10,7 +10,7 @@ use Rattle.sched_model.specs.Actions.{IsOfPool, candidates, home_of}
 use Rattle.sched_model.specs.Machine.{is_enabled, first_enabled}
 use Rattle.sched_model.proofs.RunLemmas.{find_passes}
 use Rattle.pool_core.specs.Seen.{Seen}
-use Rattle.pool_slots.specs.Places.{SlotSuits}
+use Rattle.machine_parts.specs.Places.{SlotSuits}
 use Rattle.machine_parts.specs.Parts.{pool_of_event}
 
 -- the first action may come

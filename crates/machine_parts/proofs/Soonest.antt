@@ -4,7 +4,7 @@ use Rattle.std.specs.Prelude.{Option, Some, None, nat_le}
 use Rattle.sched_base.specs.declared.Moment.{Moment}
 use Rattle.sched_model.specs.Places.{at_place}
 use Rattle.core_state.specs.Firsts.{earlier_moment}
-use Rattle.actor_laws.specs.Next.{ComesSoonest, IsSoonest}
+use Rattle.composition_laws.specs.WholeNext.{ComesSoonest, IsSoonest}
 
 goes_before : (a : Option Moment) (b : Moment) (moments : List (Option Moment)) → ((x : Moment) → a ≡ Some x → b.0 ≤ x.0) → ComesSoonest moments b → ComesSoonest (a ∷ moments) b
 goes_before a b moments before found = record { place = suc found.place; there = found.there; least = later }

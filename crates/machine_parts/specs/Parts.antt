@@ -7,10 +7,10 @@ use Rattle.sched_model.specs.declared.state.State.{State}
 use Rattle.sched_model.specs.Actions.{home_of}
 use Rattle.sched_model.specs.Places.{at_place}
 use Rattle.cpupool.specs.Tool.{Tool, tool_of}
-use Rattle.pool_core.specs.Order.{IsFirstEnabled, IsNextMoment}
+use Rattle.pool_laws.specs.FirstEvents.{IsFirstEnabled, IsNextMoment}
 use Rattle.pool_core.specs.Seen.{Seen}
-use Rattle.pool_slots.specs.Told.{Told}
-use Rattle.pool_slots.specs.Places.{AllStand, GoesOn, state_of}
+use Rattle.machine_parts.specs.Told.{Told}
+use Rattle.machine_parts.specs.Places.{AllStand, GoesOn, state_of}
 
 -- the places are the pools of the state that the trail leads to, and the tool knows what is to be known of that state
 pub record AreParts (w : Told) (slots : List (Option Seen)) (tool : Tool) : Type 0 where

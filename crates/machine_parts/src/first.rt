@@ -4,14 +4,15 @@ ghost use Rattle.std.specs.Prelude.{◌≡◌, ℕ, Some, None, if◌then◌else
 ghost use Rattle.sched_model.specs.declared.action.Action.TheVariants.{DomMoved, Moved};
 ghost use Rattle.sched_model.specs.Machine.{enabled_at_home, first_enabled};
 ghost use Rattle.journal_core.specs.Parts.{under_way_of};
-ghost use Rattle.actor_laws.specs.First.{move_first as move_first_of, tool_first as tool_first_of};
-ghost use Rattle.pool_slots.specs.Places.{state_of};
+ghost use Rattle.composition_laws.specs.WholeFirst.{move_first as move_first_of, tool_first as tool_first_of};
+ghost use Rattle.machine_parts.specs.Places.{state_of};
 ghost use Rattle.machine_parts.specs.Parts.{AreFirsts, AreParts};
 
 use crate::order::earliest;
-use actor_laws::laws::law_whole_first;
+use crate::slot::PoolSlot;
+use crate::trail::Trail;
+use composition_laws::whole::law_whole_first;
 use cpupool::{Move, ToolEvent, ToolState};
-use pool_slots::{PoolSlot, Trail};
 use sched_base::{DomId, Moment, ResId};
 use sched_model::action::Action;
 

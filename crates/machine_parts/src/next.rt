@@ -4,15 +4,16 @@ ghost use Rattle.std.specs.Prelude.{◌≡◌, None, option_map};
 ghost use Rattle.sched_base.specs.Numbers.{moment};
 ghost use Rattle.sched_model.specs.Machine.{first_enabled, next_in_horizon};
 ghost use Rattle.journal_core.specs.Parts.{under_way_of};
-ghost use Rattle.actor_laws.specs.Next.{leaves_at, leaving_at, number_within};
-ghost use Rattle.pool_slots.specs.Places.{state_of};
+ghost use Rattle.composition_laws.specs.WholeNext.{leaves_at, leaving_at, number_within};
+ghost use Rattle.machine_parts.specs.Places.{state_of};
 ghost use Rattle.machine_parts.specs.Parts.{AreNexts, AreParts};
 
 use crate::order::soonest;
-use actor_laws::laws::law_whole_next;
+use crate::slot::PoolSlot;
+use crate::trail::Trail;
+use composition_laws::whole::law_whole_next;
 use core_state::earlier;
 use cpupool::{Move, ToolState};
-use pool_slots::{PoolSlot, Trail};
 use sched_base::{Moment, ResId};
 
 /// From when on a core may leave its pool.

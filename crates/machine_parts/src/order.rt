@@ -2,8 +2,8 @@
 
 ghost use Rattle.std.specs.Prelude.{◌≡◌, ◌+◌, ◌*◌, Some};
 ghost use Rattle.std.specs.Option.{ForSome};
-ghost use Rattle.actor_laws.specs.First.{IsEarliest};
-ghost use Rattle.actor_laws.specs.Next.{IsSoonest};
+ghost use Rattle.composition_laws.specs.WholeFirst.{IsEarliest};
+ghost use Rattle.composition_laws.specs.WholeNext.{IsSoonest};
 ghost use Rattle.machine_parts.specs.Ranks.{IsSmall, rank_of, earlier_action};
 
 use core_state::earlier;

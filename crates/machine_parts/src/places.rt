@@ -4,7 +4,7 @@ ghost use Rattle.std.specs.Prelude.{◌≡◌, ℕ, None, length};
 ghost use Rattle.sched_model.specs.Places.{at_place};
 ghost use Rattle.machine_parts.specs.Parts.{AreFirsts, IsFirstOfPlace, IsNextOfPlace};
 
-use pool_slots::PoolSlot;
+use crate::slot::PoolSlot;
 use sched_base::Moment;
 use sched_model::action::Action;
 

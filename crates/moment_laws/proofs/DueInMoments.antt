@@ -31,12 +31,12 @@ use Rattle.sched_laws.proofs.Kept.{IsApart}
 use Rattle.sched_laws.proofs.Lists.{is_some_at}
 use Rattle.sched_laws.proofs.Reached.{is_apart}
 use Rattle.sched_laws.proofs.StillWaits.{split_run}
-use Rattle.sched_ranges.specs.Ranges.{IsFrame, PoolInRange, RecordsInRange}
-use Rattle.sched_ranges.proofs.Done.{in_range}
-use Rattle.sched_ranges.proofs.Law.{fits_in_runs}
-use Rattle.part_laws.proofs.Counted.{in_all}
-use Rattle.part_laws.proofs.Staying.{same_home, same_stall, adds_line}
-use Rattle.part_laws.proofs.Ending.{moved_ends, dom_moved_ends}
+use Rattle.state_ranges.specs.Ranges.{IsFrame, PoolInRange, RecordsInRange}
+use Rattle.state_ranges.proofs.Done.{in_range}
+use Rattle.state_ranges.proofs.RangesLaw.{fits_in_runs}
+use Rattle.composition_laws.proofs.Counted.{in_all}
+use Rattle.composition_laws.proofs.Staying.{same_home, same_stall, adds_line}
+use Rattle.composition_laws.proofs.Ending.{moved_ends, dom_moved_ends}
 use Rattle.moment_laws.specs.Turns.{how_many}
 use Rattle.moment_laws.proofs.StretchFalls.{push_assoc}
 use Rattle.moment_laws.proofs.Credit2Steps.{Has}

@@ -42,11 +42,11 @@ use Rattle.sched_laws.proofs.Counts.{total-change_at, total-put_at}
 use Rattle.sched_laws.specs.Counts.{total}
 use Rattle.sched_laws.proofs.EachPlace.{by_cond, by_option, by_test}
 use Rattle.sched_laws.proofs.Lists.{some-test_at}
-use Rattle.sched_ranges.proofs.Rtds.{fit_unit}
-use Rattle.sched_ranges.specs.Fits.{RtdsFits}
-use Rattle.sched_ranges.proofs.Records.{RecordsFit, replenish_fits}
-use Rattle.sched_ranges.proofs.Vcpus.{VcpuFits}
-use Rattle.sched_ranges.proofs.Walk.{DomFits, PoolFits}
+use Rattle.state_ranges.proofs.Rtds.{fit_unit}
+use Rattle.state_ranges.specs.Fits.{RtdsFits}
+use Rattle.state_ranges.proofs.RecordRanges.{RecordsFit, replenish_fits}
+use Rattle.state_ranges.proofs.Vcpus.{VcpuFits}
+use Rattle.state_ranges.proofs.RangesWalk.{DomFits, PoolFits}
 use Rattle.moment_laws.proofs.Sums.{how_many_changed}
 use Rattle.moment_laws.proofs.DueEvents.{of_pool, of_core, of_domain, of_credit2, of_rtds, of_records, is_overdue, is_ripe, ends_by, is_deadline_due, is_refill_due, less_commands, less_core, less_processor, less_settled, less_started_on, less_stopped, pending_none}
 use Rattle.moment_laws.proofs.LaterDues.{DecidesLater, IsReady, decides_later, burned_deadline}

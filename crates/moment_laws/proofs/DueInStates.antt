@@ -40,8 +40,8 @@ use Rattle.sched_laws.proofs.Counts.{total-change_at, total-clear_at}
 use Rattle.sched_laws.specs.Counts.{total}
 use Rattle.sched_laws.proofs.EachPlace.{by_cond, by_option}
 use Rattle.sched_laws.proofs.Lists.{some-test_at}
-use Rattle.sched_ranges.proofs.Walk.{PoolFits}
-use Rattle.part_laws.proofs.Totals.{total-put_at_more, total-clear_at_less, total-change_at_more}
+use Rattle.state_ranges.proofs.RangesWalk.{PoolFits}
+use Rattle.composition_laws.proofs.Totals.{total-put_at_more, total-clear_at_less, total-change_at_more}
 use Rattle.moment_laws.specs.Turns.{how_many}
 use Rattle.moment_laws.proofs.DueEvents.{IsLess, of_pool, of_core, of_domain, of_credit2, of_rtds, of_records, is_overdue, is_deadline_due, is_refill_due, one_less, total-change_at_less, less_commands, less_capped, less_domain, less_processor, less_settled}
 use Rattle.moment_laws.proofs.LaterDues.{IsReady, same_deadlines}

@@ -29,10 +29,10 @@ use Rattle.sched_laws.proofs.Lists.{some_is, test_at-some}
 use Rattle.sched_laws.proofs.Opened.{length_map_numbers, units_from-more}
 use Rattle.sched_laws.proofs.Reached.{is_apart}
 use Rattle.sched_laws.proofs.StillWaits.{split_run}
-use Rattle.sched_ranges.specs.Ranges.{PoolInRange, RecordsInRange}
-use Rattle.sched_ranges.proofs.Done.{in_range}
-use Rattle.sched_records.specs.Records.{HasRtdsRecords, IsRecorded}
-use Rattle.sched_records.proofs.Law.{has_records}
+use Rattle.state_ranges.specs.Ranges.{PoolInRange, RecordsInRange}
+use Rattle.state_ranges.proofs.Done.{in_range}
+use Rattle.state_ranges.specs.Records.{HasRtdsRecords, IsRecorded}
+use Rattle.state_ranges.proofs.RecordsLaw.{has_records}
 use Rattle.moment_laws.specs.Stretches.{cores, units}
 use Rattle.moment_laws.specs.Turns.{how_many}
 use Rattle.moment_laws.proofs.Sums.{many_is, total_at_most, how_many_most}
@@ -45,9 +45,9 @@ use Rattle.moment_laws.proofs.DueInStates.{of_pools}
 use Rattle.moment_laws.proofs.DueInMoments.{to_come, moment_lowers}
 use Rattle.moment_laws.proofs.NumberedSums.{over_none, over_sum, over_list, total_numbers, total_swapped, total_less, total_most, total_sum, place_some, place_none}
 use Rattle.sched_laws.proofs.Counts.{total_over_le}
-use Rattle.part_laws.specs.Moves.{HasOneMove}
-use Rattle.part_laws.proofs.Counted.{in_all_is}
-use Rattle.part_laws.proofs.MoveLaw.{has_one_move}
+use Rattle.composition_laws.specs.Moves.{HasOneMove}
+use Rattle.composition_laws.proofs.Counted.{in_all_is}
+use Rattle.composition_laws.proofs.MoveLaw.{has_one_move}
 use Rattle.sched_model.specs.Actions.{configured_units}
 
 -- what is to come of the domain d in the records

@@ -19,7 +19,7 @@ use Rattle.sched_laws.specs.EachPlace.{EachAt}
 use Rattle.sched_laws.proofs.EachPlace.{EachAt-change_at, EachAt-change_each, by_option, by_cond}
 use Rattle.sched_laws.proofs.Lists.{length_change_item}
 use Rattle.sched_laws.proofs.Sound.{read_change_item}
-use Rattle.sched_ranges.proofs.Budget.{get_map}
+use Rattle.state_ranges.proofs.Budget.{get_map}
 use Rattle.moment_laws.specs.Turns.{keeps}
 
 -- charged last at a moment of the leg; what is left then and the span from the leg's beginning to there make no less than 0

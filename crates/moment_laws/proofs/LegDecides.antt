@@ -36,7 +36,7 @@ use Rattle.sched_laws.proofs.EachPlace.{EachAt-change_to, EachAt-change_at, Each
 use Rattle.sched_base.proofs.Lists.{AllByRecursion-filter}
 use Rattle.sched_laws.proofs.OnePlace.{same_choice_same}
 use Rattle.sched_laws.proofs.Sound.{read_change_item}
-use Rattle.sched_ranges.proofs.Decided.{choice_pays}
+use Rattle.state_ranges.proofs.Decided.{choice_pays}
 use Rattle.moment_laws.specs.Stretches.{Legs, leg_of, units}
 use Rattle.moment_laws.proofs.RtdsKeys.{passes_is}
 use Rattle.moment_laws.proofs.LegCharges.{lasts_now, EachItem, item_change, RtdsKept, rtds_change, limit, Credit2Kept, c_burn_cur, c_reset, c_take, c_running, c_switch_off}

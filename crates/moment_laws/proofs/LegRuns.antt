@@ -55,10 +55,10 @@ use Rattle.sched_laws.proofs.Reached as reached
 use Rattle.sched_laws.proofs.Ready.{next_later}
 use Rattle.sched_laws.proofs.Steps.{IsKeptTo, step_after}
 use Rattle.sched_laws.proofs.StillWaits.{split_run}
-use Rattle.sched_ranges.proofs.BudgetWalk.{CreditFits, n_fresh}
-use Rattle.sched_ranges.proofs.Law.{StateFits, fits_in_runs}
-use Rattle.sched_ranges.proofs.Records.{RecordsFit}
-use Rattle.sched_ranges.specs.Fits.{RtdsFits}
+use Rattle.state_ranges.proofs.BudgetWalk.{CreditFits, n_fresh}
+use Rattle.state_ranges.proofs.RangesLaw.{StateFits, fits_in_runs}
+use Rattle.state_ranges.proofs.RecordRanges.{RecordsFit}
+use Rattle.state_ranges.specs.Fits.{RtdsFits}
 use Rattle.moment_laws.specs.Stretches.{Legs, cores, open_legs, legs_after, legs_with, leg_of, has_no_older_leg, units}
 use Rattle.moment_laws.proofs.Changed.{at_place-change_at}
 use Rattle.moment_laws.proofs.StretchFalls.{legs_push, push_assoc}

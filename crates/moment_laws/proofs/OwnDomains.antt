@@ -14,8 +14,8 @@ use Rattle.sched_model.specs.CheckedMachine.{IsChecked}
 use Rattle.sched_model.specs.Places.{at_place}
 use Rattle.sched_model.specs.Runs.{IsRun}
 use Rattle.sched_laws.specs.StateLaws.{state_after}
-use Rattle.sched_records.specs.Records.{IsUnrecorded}
-use Rattle.sched_records.proofs.Law.{has_records}
+use Rattle.state_ranges.specs.Records.{IsUnrecorded}
+use Rattle.state_ranges.proofs.RecordsLaw.{has_records}
 use Rattle.moment_laws.specs.Stretches.{units}
 
 module _ (m : Machine) (checked : IsChecked m) (entries : List Entry) (run : IsRun m entries) (i : ℕ) (pool : Pool) (at : at_place (state_after m entries).pools i ≡ Some pool) where

@@ -6,9 +6,9 @@ use Rattle.std.specs.Prelude.{Option, Some, None, is_some, slice_get, unwrap_or,
 use Rattle.sched_base.specs.RtdsNumbers.{burned_left, burned_level}
 use Rattle.sched_base.specs.Credit2Numbers.{quota, total as credit2_total}
 use Rattle.sched_model.specs.Opening.{core_count}
-use Rattle.sched_ranges.specs.Fits.{UnitFits}
-use Rattle.sched_ranges.proofs.Records.{RecordsFit}
-use Rattle.sched_ranges.proofs.Law.{fits_in_runs}
+use Rattle.state_ranges.specs.Fits.{UnitFits}
+use Rattle.state_ranges.proofs.RecordRanges.{RecordsFit}
+use Rattle.state_ranges.proofs.RangesLaw.{fits_in_runs}
 use Rattle.std.proofs.lemmas.List.Elements.{recursion_from_All}
 use Rattle.std.proofs.lemmas.Option.{slice_get_cases}
 use Rattle.std.proofs.lemmas.Nat.{le-div}
@@ -57,11 +57,11 @@ use Rattle.sched_laws.specs.PoolFacts.{OnePlace, core_places}
 use Rattle.sched_laws.proofs.Reached.{one_place, null_fits, units_are_own, core_is_whole, is_apart}
 use Rattle.sched_laws.proofs.SiblingsLaw.{some_processor}
 use Rattle.sched_laws.proofs.StillWaits.{core_home, split_run}
-use Rattle.sched_ranges.specs.Ranges.{IsUnitOf, PoolInRange}
-use Rattle.sched_ranges.proofs.Done.{in_range}
-use Rattle.sched_ranges.proofs.Queue.{unit_is_there}
-use Rattle.sched_records.specs.Records.{HasCredit2Record, HasRtdsRecords, IsRecorded}
-use Rattle.sched_records.proofs.Law.{has_records}
+use Rattle.state_ranges.specs.Ranges.{IsUnitOf, PoolInRange}
+use Rattle.state_ranges.proofs.Done.{in_range}
+use Rattle.state_ranges.proofs.Queue.{unit_is_there}
+use Rattle.state_ranges.specs.Records.{HasCredit2Record, HasRtdsRecords, IsRecorded}
+use Rattle.state_ranges.proofs.RecordsLaw.{has_records}
 use Rattle.moment_laws.specs.Stretches.{Legs, units, open_legs, is_in_stretch, has_no_older_leg}
 use Rattle.moment_laws.specs.Turns.{how_many, ahead, IsBounded}
 use Rattle.moment_laws.specs.GoodDecisions.{DecidesWell, decision, Standing, DecidesWellNext}

@@ -14,7 +14,7 @@ use Rattle.sched_model.specs.declared.event.Entry.{Entry}
 use Rattle.sched_model.specs.declared.event.Event.{Event}
 use Rattle.sched_model.specs.declared.machine.Machine.{Machine}
 use Rattle.journal_core.specs.Histories.{state_at}
-use Rattle.actor_laws.specs.Actors.{first_by}
+use Rattle.composition_laws.specs.Actors.{first_by}
 use Rattle.lock_moves.specs.Sets.{LockTable}
 use Rattle.lock_moves.proofs.Prefix.{prefix_more, prefix_refl}
 use Rattle.hall.specs.declared.turns.Done.{Done}

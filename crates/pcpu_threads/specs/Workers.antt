@@ -10,7 +10,7 @@ use Rattle.sched_model.specs.declared.action.Actor.TheVariants.{Proc, Dom, Tool}
 use Rattle.sched_model.specs.declared.event.Entry.{Entry}
 use Rattle.sched_model.specs.declared.machine.Machine.{Machine}
 use Rattle.journal_core.specs.Histories.{state_at}
-use Rattle.actor_laws.specs.Actors.{first_by}
+use Rattle.composition_laws.specs.Actors.{first_by}
 use Rattle.lock_moves.specs.Sets.{LockTable, sitting_with}
 use Rattle.lock_moves.specs.SeatSight.{after_join, newcomer}
 use Rattle.hall.specs.Seats.{IsOf, Seated, Stays}

@@ -8,7 +8,7 @@ use Rattle.sched_model.specs.declared.state.Pool.{Pool}
 use Rattle.sched_model.specs.CheckedMachine.{IsChecked}
 use Rattle.sched_model.specs.Opening.{opening_pools, opening_pool}
 use Rattle.sched_model.specs.Places.{at_place}
-use Rattle.sched_ranges.proofs.Done.{in_range}
+use Rattle.state_ranges.proofs.Done.{in_range}
 use Rattle.plain_opening.specs.OpeningPool.{FewWait, AllFewWait}
 
 -- where it holds of all that stands at a place

@@ -36,9 +36,9 @@ use Rattle.sched_laws.specs.PoolFacts.{CurRuns, core_places}
 use Rattle.sched_laws.specs.PoolFacts.{CoreIsOwn}
 use Rattle.sched_laws.specs.PoolFacts.{CoreIsSound}
 use Rattle.sched_laws.proofs.Steps.{IsKeptAt}
-use Rattle.sched_records.proofs.Counts.{keeps_parted}
-use Rattle.sched_records.specs.Counts.{Matches, KeepsPool}
-use Rattle.sched_records.proofs.Walk.{AnyEnds, SomeUnit, k_set_params, k_with_domain, keeps_empty, records_steps}
+use Rattle.state_ranges.proofs.Counts.{keeps_parted}
+use Rattle.state_ranges.specs.Counts.{Matches, KeepsPool}
+use Rattle.state_ranges.proofs.RecordsWalk.{AnyEnds, SomeUnit, k_set_params, k_with_domain, keeps_empty, records_steps}
 use Rattle.sched_laws.proofs.Ready.{NoEnd}
 use Rattle.sched_ops.specs.Conditions.{may_be_on}
 use Rattle.policy_laws.specs.Holds.{Holds, HasMembers, HasMember, AreOn, HaveProcessors}

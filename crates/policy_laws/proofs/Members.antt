@@ -24,10 +24,10 @@ use Rattle.sched_laws.proofs.Awake.{part_past}
 use Rattle.sched_base.proofs.Bools.{and_right}
 use Rattle.sched_laws.proofs.EachPlace.{at_place-put_at, at_place-put_at_other, at_place-clear_at, at_place-clear_at_other, length_set}
 use Rattle.sched_laws.proofs.Lists.{some-test_at}
-use Rattle.sched_records.specs.Records.{IsRecorded}
-use Rattle.sched_records.proofs.Measured.{read_measured}
-use Rattle.sched_records.specs.Counts.{shape, units_in as units_in_record}
-use Rattle.sched_records.specs.Counts.{CountsFit, KeepsPool}
+use Rattle.state_ranges.specs.Records.{IsRecorded}
+use Rattle.state_ranges.proofs.Measured.{read_measured}
+use Rattle.state_ranges.specs.Counts.{shape, units_in as units_in_record}
+use Rattle.state_ranges.specs.Counts.{CountsFit, KeepsPool}
 use Rattle.sched_ops.specs.Conditions.{is_member}
 use Rattle.sched_ops.specs.Seen.{units_of}
 use Rattle.policy_laws.specs.Holds.{HasMembers}

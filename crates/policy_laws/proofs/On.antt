@@ -32,7 +32,7 @@ use Rattle.sched_laws.specs.Counts.{one_at}
 use Rattle.sched_laws.proofs.OnePlace.{one_same, decided_cur}
 use Rattle.sched_laws.specs.PoolFacts.{core_places, places}
 use Rattle.sched_base.proofs.Bools.{and_left, and_right, clash, or_left, or_more}
-use Rattle.sched_records.specs.Counts.{KeepsPool}
+use Rattle.state_ranges.specs.Counts.{KeepsPool}
 use Rattle.sched_ops.specs.Conditions.{is_member, is_on, may_be_on}
 use Rattle.policy_laws.specs.Holds.{HasMembers, HasMember, AreOn}
 use Rattle.policy_laws.proofs.RunningLaw as running

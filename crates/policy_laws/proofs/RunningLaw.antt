@@ -17,9 +17,9 @@ use Rattle.sched_model.specs.Rtds as rtds
 use Rattle.sched_base.proofs.Bools.{clash}
 use Rattle.sched_laws.proofs.EachPlace.{read_put_at, read_clear_at}
 use Rattle.sched_laws.proofs.Lists.{test_at-some, some-test_at}
-use Rattle.sched_records.specs.Records.{IsRecorded}
-use Rattle.sched_records.proofs.Shape.{shape_decision, shape_replenished, shape_refilled, shape_changed}
-use Rattle.sched_records.specs.Counts.{shape}
+use Rattle.state_ranges.specs.Records.{IsRecorded}
+use Rattle.state_ranges.proofs.Shape.{shape_decision, shape_replenished, shape_refilled, shape_changed}
+use Rattle.state_ranges.specs.Counts.{shape}
 use Rattle.sched_ops.specs.Conditions.{is_on}
 use Rattle.policy_laws.specs.RunningUnits.{keeps_records, has_record, is_on_after}
 use Rattle.policy_laws.proofs.OneUnit.{cond_same, test_item, test_item-replicate, test_item_low}

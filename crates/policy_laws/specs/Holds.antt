@@ -11,7 +11,7 @@ use Rattle.sched_model.specs.Places.{at_place}
 use Rattle.sched_model.specs.Pool.{core_of, guest_of, unit_count, vcpu_of}
 use Rattle.sched_laws.specs.EachPlace.{EachPlace}
 use Rattle.sched_laws.specs.PoolFacts.{IsKnownPool}
-use Rattle.sched_records.specs.Counts.{KeepsPool}
+use Rattle.state_ranges.specs.Counts.{KeepsPool}
 use Rattle.sched_ops.specs.Conditions.{is_member, is_on, may_be_on}
 
 -- the scheduler knows each domain of the pool with all its units, and no other

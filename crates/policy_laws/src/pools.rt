@@ -15,7 +15,7 @@ ghost use Rattle.sched_model.specs.Places.{at_place, put_at, clear_at};
 ghost use Rattle.sched_model.specs.Opening.{fresh_core};
 ghost use Rattle.sched_model.specs.Policy.{fresh_records};
 ghost use Rattle.sched_model.specs.Pool.{enabled_in, after_in, settled_pool, change_processor, set_leaving, set_moving, pause, unpause, set_params, with_domain, without_domain, unit_count};
-ghost use Rattle.sched_records.specs.Counts.{Matches};
+ghost use Rattle.state_ranges.specs.Counts.{Matches};
 ghost use Rattle.policy_laws.specs.Holds.{Holds};
 
 /// What holds of a pool holds after each step inside of it, after a core or a domain has come or gone, and of every pool that

@@ -8,7 +8,7 @@ ghost use Rattle.sched_model.specs.declared.config.ParamChange.{ParamChange};
 ghost use Rattle.sched_model.specs.declared.state.Records.{Records};
 ghost use Rattle.sched_model.specs.declared.state.Scheduler.{Scheduler};
 ghost use Rattle.sched_model.specs.Policy.{decision_of, replenish, refill, changed_records, joined_records, parted_records};
-ghost use Rattle.sched_records.specs.Records.{IsRecorded};
+ghost use Rattle.state_ranges.specs.Records.{IsRecorded};
 ghost use Rattle.sched_ops.specs.Conditions.{is_on};
 ghost use Rattle.policy_laws.specs.RunningUnits.{keeps_records, has_record, is_on_after};
 

@@ -25,8 +25,8 @@ use Rattle.unit_state.specs.Seen.{Seen as GuestsSeen, done_among, is_due_among}
 use Rattle.unit_state.proofs.GuestLemmas.{vcpu_bounds}
 use Rattle.core_state.specs.Seen.{Seen as CoresSeen}
 use Rattle.sched_ops.specs.Seen.{Seen as SchedulerSeen}
-use Rattle.pool_core.specs.Actors.{IsFirstBy, IsFirstByIn, is_by, is_by_domain, is_by_processor, is_lowest, leads}
-use Rattle.pool_core.specs.Order.{IsFirstIn, IsNotAfter, kind_place}
+use Rattle.pool_core.specs.Order.{IsFirstByIn, IsFirstIn, IsNotAfter, kind_place}
+use Rattle.pool_laws.specs.Actors.{IsFirstBy, is_by, is_by_domain, is_by_processor, is_lowest, leads}
 use Rattle.pool_core.specs.Seen.{pool_of}
 use Rattle.pool_core.proofs.Order.{from_wakes, is_of_pool, joined, none_at, one_at, to_saves, widened}
 use Rattle.pool_laws.proofs.ActionOrder.{action_at, not_after_itself, of_kind}

@@ -21,7 +21,7 @@ use Rattle.sched_model.specs.Pool as pools
 use Rattle.sched_model.specs.Pool.{done_at, unit_count, with_domain}
 use Rattle.sched_model.specs.State.{is_runnable}
 use Rattle.sched_laws.proofs.EachPlace.{at_place-put_at_other, by_cond, read_put_at}
-use Rattle.sched_records.specs.Counts.{Matches}
+use Rattle.state_ranges.specs.Counts.{Matches}
 use Rattle.sched_ops.specs.Conditions.{AreDomParams}
 use Rattle.unit_state.specs.Seen.{done_among}
 use Rattle.pool_core.specs.PoolState.{AreWorks}

@@ -12,7 +12,7 @@ use Rattle.sched_model.specs.declared.state.Pool.{Pool}
 use Rattle.sched_model.specs.declared.state.Scheduler.{Scheduler}
 use Rattle.sched_model.specs.Actions.{IsOfPool}
 use Rattle.pool_laws.specs.ReadyMoments.{end_of, later_moment, lowest_end, ready_in, work_end}
-use Rattle.pool_laws.proofs.Readiness.{ready}
+use Rattle.pool_laws.proofs.Readiness.{ready, come_then}
 use Rattle.policy_laws.specs.Holds.{AreOn}
 use Rattle.sched_ops.specs.Seen.{Seen as SchedulerSeen}
 use Rattle.sched_ops.specs.Timers.{Armed, action_of, timer_at}
@@ -26,7 +26,7 @@ use Rattle.core_state.specs.Firsts.{IsLeast, IsNotLater, earlier_moment}
 use Rattle.core_state.specs.Seen.{Seen as CoresSeen, processor_among}
 use Rattle.core_state.proofs.Leasts.{both, least_earlier, late_some, least_same}
 use Rattle.pool_core.specs.PoolState.{AreWorks}
-use Rattle.pool_core.specs.Order.{IsNextMoment}
+use Rattle.pool_laws.specs.FirstEvents.{IsNextMoment}
 use Rattle.pool_core.specs.Seen.{pool_of}
 use Rattle.pool_core.proofs.Order.{timer_ready}
 
@@ -88,9 +88,6 @@ of_pool g pool Xl at is = absurd (cc)
 of_pool g pool (Moved r) at is = absurd (cc)
 of_pool g pool (DomMoved d) at is = absurd (cc)
 of_pool g pool a at is = tt
-
-pub come_then : (at : Moment) → has_come at.0 (Some at) ≡ true
-come_then at = grind (arith, nat_tests)
 
 not_before : (at : Moment) (t : ℕ) (o : Option Moment) → IsNotLater (Some at) o → has_come t o ≡ true → at.0 ≤ t
 not_before at t None order come = absurd (cc)

@@ -37,7 +37,8 @@ use Rattle.core_state.specs.Firsts.{IsFirstCome}
 use Rattle.core_state.specs.Seen.{Seen as CoresSeen, processor_among}
 use Rattle.pool_core.specs.PoolState.{AreWorks}
 use Rattle.pool_core.specs.Seen.{pool_of}
-use Rattle.pool_core.specs.Order.{IsFirstEnabled, IsFirstIn, IsFirstWhere, is_any, IsNotAfter, index_place, kind_place, subject_place}
+use Rattle.pool_core.specs.Order.{IsFirstIn, IsFirstWhere, is_any, IsNotAfter, index_place, kind_place, subject_place}
+use Rattle.pool_laws.specs.FirstEvents.{IsFirstEnabled}
 use Rattle.pool_laws.proofs.ActionOrder.{action_at, later_kind, of_kind}
 use Rattle.sched_laws.proofs.Lists.{has_come-le}
 

@@ -6,4 +6,3 @@ pub mod Order
 pub mod Wakes
 pub mod Domains
 pub mod Params
-pub mod Actors

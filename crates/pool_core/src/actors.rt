@@ -12,7 +12,8 @@ ghost use Rattle.unit_state.specs.Seen.{Seen as GuestsSeen};
 ghost use Rattle.core_state.specs.Ends.{parts as parts_spec};
 ghost use Rattle.core_state.specs.Seen.{Seen as CoresSeen, processor_among};
 ghost use Rattle.sched_ops.specs.Seen.{Seen as SchedulerSeen};
-ghost use Rattle.pool_core.specs.Actors.{IsFirstBy, IsFirstByIn};
+ghost use Rattle.pool_core.specs.Order.{IsFirstByIn};
+ghost use Rattle.pool_laws.specs.Actors.{IsFirstBy};
 ghost use Rattle.pool_core.specs.Seen.{pool_of};
 
 use crate::doing::guest_of;

@@ -9,7 +9,8 @@ ghost use Rattle.core_state.specs.Firsts.{IsLeast};
 ghost use Rattle.sched_ops.specs.Seen.{Seen as SchedulerSeen};
 ghost use Rattle.sched_ops.specs.Timers.{action_of as action_of_spec};
 ghost use Rattle.pool_core.specs.PoolState.{AreWorks};
-ghost use Rattle.pool_core.specs.Order.{IsFirstEnabled, IsFirstIn, IsNextMoment};
+ghost use Rattle.pool_core.specs.Order.{IsFirstIn};
+ghost use Rattle.pool_laws.specs.FirstEvents.{IsFirstEnabled, IsNextMoment};
 ghost use Rattle.pool_core.specs.Seen.{pool_of};
 
 use core_state::{CoreState, earlier};

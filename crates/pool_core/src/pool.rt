@@ -95,8 +95,8 @@ impl<P: Policy> PoolState<P> {
     ghost use Rattle.pool_core.specs.Params.{AreGiven, stored_in};
     ghost use Rattle.unit_state.specs.Parts.{IsPart};
     ghost use Rattle.unit_state.specs.Seen.{units_at};
-    ghost use Rattle.pool_core.specs.Actors.{IsFirstBy};
-    ghost use Rattle.pool_core.specs.Order.{IsFirstEnabled, IsNextMoment};
+    ghost use Rattle.pool_laws.specs.Actors.{IsFirstBy};
+    ghost use Rattle.pool_laws.specs.FirstEvents.{IsFirstEnabled, IsNextMoment};
     ghost use Rattle.sched_model.specs.declared.action.Action.TheVariants.{Arrive, Block, Decide, DomMoved, Leave, Moved, Refill, Repl, Save, Slice, Wake};
     ghost use Rattle.sched_model.specs.Pool.{enabled_in, event_in, pause as pause_spec, processor_of, set_leaving, set_moving as set_moving_spec, set_params as set_params_spec, settled_pool, unit_count, unpause as unpause_spec, with_domain, without_domain};
     ghost use Rattle.pool_core.specs.Seen.{IsEmpty, IsNow, seen_after, seen_at, vacant_pool, with_core, with_spare, with_stall, without_core};

@@ -154,3 +154,6 @@ ready g t pool (Arrive p) = sibling t g pool p.0 gathers (λ q. not (is_held q))
 ready g t pool (Decide r) = tested t (λ c. list_all is_held c.processors) is_open (at_place pool.resources r.0)
 ready g t pool (Leave p) = sibling t g pool p.0 (λ c. not (is_open c)) is_held
 ready g t pool (Save r) = tested t (λ c. is_some c.saving) (λ c. not (list_any is_held c.processors)) (at_place pool.resources r.0)
+
+pub come_then : (at : Moment) → has_come at.0 (Some at) ≡ true
+come_then at = grind (arith, nat_tests)

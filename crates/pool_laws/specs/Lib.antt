@@ -1,3 +1,5 @@
 pub mod ReadyMoments
 pub mod CoreLooks
 pub mod Order
+pub mod FirstEvents
+pub mod Actors

@@ -15,9 +15,9 @@ use Rattle.sched_model.specs.Rtds.{change_unit}
 use Rattle.sched_laws.proofs.EachPlace.{by_option, place_below, length_set, EachPlace-change_at, at_place-set_other, at_place-change_at}
 use Rattle.sched_laws.proofs.Lists.{item_below, length_change_item}
 use Rattle.sched_base.proofs.Lists.{AllByRecursion-map}
-use Rattle.sched_ranges.specs.Ranges.{RtdsInRange}
-use Rattle.sched_ranges.specs.Fits.{RtdsFits, RtdsFit}
-use Rattle.sched_ranges.proofs.Done.{rtds_in_range}
+use Rattle.state_ranges.specs.Ranges.{RtdsInRange}
+use Rattle.state_ranges.specs.Fits.{RtdsFits, RtdsFit}
+use Rattle.state_ranges.proofs.Done.{rtds_in_range}
 use Rattle.scheduler_records.specs.Fits as shared
 use Rattle.rtds_core.specs.RtdsParts.{IsShaped, size, total}
 use Rattle.std.proofs.lemmas.Option.{slice_get_within}

@@ -15,8 +15,8 @@ use Rattle.sched_laws.proofs.Choices.{same_unit_same}
 use Rattle.sched_laws.proofs.Counts.{same_unit_refl, without_absent}
 use Rattle.sched_laws.proofs.EachPlace.{by_option}
 use Rattle.sched_laws.proofs.RtdsUnits.{rtds_unit-same, rtds_unit-other, burned_on}
-use Rattle.sched_ranges.proofs.Rtds.{rtds_burned, rtds_running, rtds_off, rtds_replenished, fit_unit}
-use Rattle.sched_ranges.specs.Fits.{RtdsFits}
+use Rattle.state_ranges.proofs.Rtds.{rtds_burned, rtds_running, rtds_off, rtds_replenished, fit_unit}
+use Rattle.state_ranges.specs.Fits.{RtdsFits}
 use Rattle.rtds_queue.specs.Lists.{Lists, holds, after_remove, after_renew}
 use Rattle.rtds_core.specs.Alarms.{with_due}
 use Rattle.unit_places.specs.Places.{index_of}

@@ -17,7 +17,7 @@ use Rattle.sched_laws.specs.EachPlace.{EachPlace}
 use Rattle.sched_base.proofs.Bools.{clash}
 use Rattle.sched_laws.proofs.Lists.{length-pinned_cores}
 use Rattle.sched_laws.proofs.EachPlace.{place_below, length_set}
-use Rattle.sched_ranges.specs.Fits.{RtdsFits}
+use Rattle.state_ranges.specs.Fits.{RtdsFits}
 use Rattle.due_heap.specs.Dues.{due_of}
 use Rattle.arrival_queue.specs.Queues.{Queued, queued_unit as queued, is_of}
 use Rattle.arrival_queue.specs.Queues.{has_unit as has_queued}
@@ -36,7 +36,7 @@ use Rattle.sched_model.specs.Policy.{pinned_cores}
 use Rattle.sched_base.specs.CoreSets.{every_core}
 use Rattle.sched_model.specs.Rtds.{fresh_units}
 use Rattle.sched_laws.proofs.EachPlace.{EachPlace-put_at, EachPlace-clear_at, EachPlace-empty}
-use Rattle.sched_ranges.proofs.Rtds.{rtds_fresh}
+use Rattle.state_ranges.proofs.Rtds.{rtds_fresh}
 use Rattle.rtds_queue.specs.Lists.{empty_lists}
 use Rattle.rtds_core.specs.RtdsParts.{size}
 use Rattle.rtds_core.specs.Masks.{is_named}

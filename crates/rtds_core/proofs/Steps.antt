@@ -15,8 +15,8 @@ use Rattle.sched_laws.proofs.Counts.{same_unit_refl, gone_without}
 use Rattle.sched_laws.proofs.Lists.{length_change_item}
 use Rattle.sched_base.proofs.Lists.{AllByRecursion-map}
 use Rattle.sched_laws.proofs.RtdsUnits.{rtds_unit-same, rtds_unit-other}
-use Rattle.sched_ranges.proofs.Rtds.{rtds_later, fit_change_unit}
-use Rattle.sched_ranges.specs.Fits.{RtdsFits}
+use Rattle.state_ranges.proofs.Rtds.{rtds_later, fit_change_unit}
+use Rattle.state_ranges.specs.Fits.{RtdsFits}
 use Rattle.arrival_queue.specs.Queues.{queued_unit as queued}
 use Rattle.rtds_queue.specs.Lists.{Lists, holds, put, after_remove, after_renew}
 use Rattle.rtds_core.specs.Alarms.{with_due}

@@ -13,7 +13,7 @@ use Rattle.sched_model.specs.Places.{at_place, has_unit}
 use Rattle.sched_model.specs.CheckedMachine.{most_span}
 use Rattle.sched_model.specs.EligibleUnits.{rtds_unit}
 use Rattle.sched_laws.specs.EachPlace.{EachPlace}
-use Rattle.sched_ranges.specs.Fits.{RtdsFit}
+use Rattle.state_ranges.specs.Fits.{RtdsFit}
 use Rattle.due_heap.specs.Dues.{due_of}
 use Rattle.rtds_queue.specs.Lists.{Lists, count, after_renew}
 use Rattle.sched_ops.specs.Seen.{Seen, vacant_scheduler}

@@ -1,4 +1,8 @@
 pub mod Same
-pub mod Verdicts
+pub mod EntryVerdicts
 pub mod Checking
 pub mod ReachedState
+pub mod Lines
+pub mod ScheduleVerdict
+pub mod VerdictLaws
+pub mod VerdictText

@@ -4,11 +4,11 @@ ghost use Rattle.std.specs.Prelude.{◌≡◌, ◌↔◌, false, IsOk, OnOk};
 ghost use Rattle.sched_model.specs.Runs.{after_entry, after_quiet};
 ghost use Rattle.sched_check.specs.Checking.{IsQuietDue, IsTaken};
 ghost use Rattle.sched_check.specs.ReachedState.{state_after};
-ghost use Rattle.sched_check.specs.Verdicts.{is_finish as is_finish_spec, moment_verdict, quiet_verdict};
+ghost use Rattle.sched_check.specs.EntryVerdicts.{is_finish as is_finish_spec, moment_verdict, quiet_verdict};
 ghost use Rattle.sched_model.specs.Machine.{first_enabled, next_in_horizon};
 
-use crate::judge::{action_of, end_of, judge_action, judge_quiet};
-use crate::verdict::NotStep;
+use crate::entries::{action_of, end_of, judge_action, judge_quiet};
+use crate::refusal::NotStep;
 use sched_base::{Moment, NoMemory};
 use sched_model::event::{Entry, Event};
 use sched_model::machine::Machine;
@@ -90,7 +90,7 @@ impl Checker {
     ghost use Rattle.sched_model.specs.CheckedMachine.{IsChecked};
     ghost use Rattle.sched_model.specs.Runs.{after_entry, run_start};
     ghost use Rattle.sched_check.specs.Checking.{IsTaken};
-    ghost use Rattle.sched_check.specs.Verdicts.{verdict_of};
+    ghost use Rattle.sched_check.specs.EntryVerdicts.{verdict_of};
 
     /// A checker at the opening of the machine, whose values have passed the checks of the domain file and of the work file. Where
     /// `ordered` says so, each action has to be the first that may come.

@@ -1,27 +1,25 @@
-//! Why an entry is not taken.
+//! The verdict, and why it is no.
 
-use sched_base::Moment;
-use sched_model::event::Entry;
+use crate::refusal::NotStep;
 
-/// Why an entry may not come next. Whether the run is over is looked at first, and then the moment; of an End or a Finish whether something
-/// is to come before it, and then which of the two is due; of the others whether they may come, whether it is their turn, and last the
-/// fields that they print.
+/// Why the line that a verdict names is not the next line of a run.
 #[derive(Clone, Copy)]
-pub enum NotStep {
-    /// The run is over.
-    AfterFinish,
-    /// The run is at this moment, and the entry is of another.
-    Moment { now: Moment },
-    /// Nothing that may come now has the kind and the subject of the entry.
-    NotEnabled,
-    /// The first action that may come was asked for, and is another one: this entry.
-    NotFirst { first: Entry },
-    /// The kind and the subject may come, and other fields are printed then: those of this entry.
-    Differs { due: Entry },
-    /// Something is to come before the moment ends: this entry is the first that may.
-    NotQuiet { first: Entry },
-    /// The end of the moment is due, and it names this next one.
-    EndAt { next: Moment },
-    /// The end of the run is due.
-    FinishDue,
+pub enum Cause {
+    /// The schedule ends within the line: no newline ends it.
+    Cut,
+    /// The line is no entry's text. The place is the length of its longest beginning with which the text of an entry begins.
+    NotEntry { place: u32 },
+    /// The line is an entry's text, and the entry may not come next.
+    NotStep(NotStep),
+    /// There is no such line, and the run is not over.
+    Unfinished,
+}
+
+/// What is said of a schedule.
+#[derive(Clone, Copy)]
+pub enum Verdict {
+    /// It is the text of a whole run with this many entries.
+    Yes { entries: u32 },
+    /// It is not: the lines before this one, which are counted from 1, are the text of a run, and the cause holds of it.
+    No { line: u32, cause: Cause },
 }

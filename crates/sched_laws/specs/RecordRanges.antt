@@ -50,3 +50,10 @@ pub record IsFrame (frame : Frame) : Type 0 where
 pub record IsFrom (latest t : ℕ) : Type 0 where
   pub after : latest ≤ t
   pub early : t ≤ most_span
+
+-- a weight and a cap, where they are given
+abbrev pub IsWeight : ℕ → Type 0
+IsWeight weight = IsWithin 1 65535 weight
+
+abbrev pub IsCap : ℕ → Type 0
+IsCap cap = cap ≤ 6400

@@ -18,7 +18,7 @@ use Rattle.sched_model.specs.declared.state.Scheduler.{Scheduler}
 use Rattle.sched_model.specs.Places.{at_place, has_unit}
 use Rattle.sched_model.specs.EligibleUnits.{rtds_unit}
 use Rattle.sched_model.specs.CheckedMachine.{IsWithin}
-use Rattle.sched_laws.specs.RecordRanges.{IsFrom, IsFrame}
+use Rattle.sched_laws.specs.RecordRanges.{IsFrom, IsFrame, IsWeight, IsCap}
 use Rattle.sched_ops.specs.Affinity.{is_member_among}
 use Rattle.sched_ops.specs.Seen.{Seen, units_of}
 
@@ -80,13 +80,6 @@ pub record IsAsked (seen : Seen) (ask : Ask) : Type 0 where
   pub since : ask.since.0 ≤ ask.at.0
   pub core : ask.core.0 < 64
   pub own : IsOwnOf seen.scheduler ask.cur
-
--- a weight and a cap, where they are given
-abbrev pub IsWeight : ℕ → Type 0
-IsWeight weight = IsWithin 1 65535 weight
-
-abbrev pub IsCap : ℕ → Type 0
-IsCap cap = cap ≤ 6400
 
 -- a period of 10 microseconds to 1000 seconds, and a budget of 10 microseconds to the period
 pub record IsTerm (period budget : ℕ) : Type 0 where

@@ -21,7 +21,7 @@ use Rattle.sched_model.specs.Opening.{core_count}
 use Rattle.sched_model.specs.CheckedMachine.{IsChecked, IsCheckedDomain, IsCheckedScript, IsWithin, IsGranularity, most_span}
 use Rattle.sched_laws.proofs.SiblingsLaw.{some_processor}
 use Rattle.sched_laws.proofs.Lists.{item_below}
-use Rattle.sched_ranges.specs.Ranges.{VcpuInRange, DomainInRange, RecordsInRange, PoolInRange, StateInRange}
+use Rattle.state_ranges.specs.Ranges.{VcpuInRange, DomainInRange, RecordsInRange, PoolInRange, StateInRange}
 use Rattle.scheduler_records.specs.Fits.{RecordsFit}
 use Rattle.pool_records.specs.Fits.{PoolFits, DomainFits, VcpuFits}
 use Rattle.plain_commands.proofs.Planned.{for-some}

@@ -21,7 +21,7 @@ use Rattle.sched_model.specs.Policy.{default_dom_params, parted_records}
 use Rattle.sched_model.specs.Pool.{settled_pool, reconsidered_core, home_cores, with_domain, without_domain}
 use Rattle.sched_laws.proofs.EachPlace.{EachPlace-change_at, EachPlace-clear_at, by_cond, length_change_each, length_set}
 use Rattle.sched_laws.proofs.NullKept.{length_released}
-use Rattle.sched_ranges.specs.Ranges.{Credit2InRange, RtdsInRange}
+use Rattle.state_ranges.specs.Ranges.{Credit2InRange, RtdsInRange}
 use Rattle.scheduler_records.specs.Fits.{RecordsFit}
 use Rattle.pool_records.specs.Fits.{DomainFits}
 use Rattle.pool_records.proofs.FitsLemmas.{at_place-fits}

@@ -6,8 +6,8 @@ use Rattle.sched_model.specs.declared.state.Pool.{Pool}
 use Rattle.sched_model.specs.declared.state.State.{State}
 use Rattle.sched_model.specs.Runs.{Reached}
 use Rattle.sched_laws.specs.EachPlace.{EachPlace, AllPlaces}
-use Rattle.sched_records.specs.Records.{HasRecords}
-use Rattle.sched_records.proofs.Law.{has_records}
+use Rattle.state_ranges.specs.Records.{HasRecords}
+use Rattle.state_ranges.proofs.RecordsLaw.{has_records}
 use Rattle.pool_records.specs.Fits as pools
 use Rattle.cpupool.specs.Fits.{DomainFits, PoolFits, StateFits}
 use Rattle.sched_plain.specs.ReachedStates.{Stands}

@@ -10,8 +10,8 @@ use Rattle.sched_model.specs.declared.state.State.{State}
 use Rattle.sched_model.specs.Machine.{is_enabled, first_enabled, event_of, after, next_in_horizon}
 use Rattle.sched_model.specs.Runs.{Reached, IsNext, run_start, after_entry}
 use Rattle.sched_model.proofs.RunLemmas.{after_entries-append, IsRunFrom-append, IsNext-action, after_entry-action}
-use Rattle.sched_ranges.specs.Ranges.{StateInRange}
-use Rattle.sched_ranges.proofs.Done.{in_range}
+use Rattle.state_ranges.specs.Ranges.{StateInRange}
+use Rattle.state_ranges.proofs.Done.{in_range}
 use Rattle.sched_plain.specs.ReachedStates.{Reachable, Stands}
 
 -- one more entry

@@ -26,10 +26,10 @@ use Rattle.sched_model.specs.Runs.{Reached}
 use Rattle.sched_model.proofs.RunLemmas.{find_passes}
 use Rattle.sched_laws.specs.EachPlace.{EachPlace}
 use Rattle.sched_laws.proofs.Lists.{has_come-le, some-test_at, test_at-some}
-use Rattle.order_laws.specs.OrderLaws.{ComesInPool}
-use Rattle.order_laws.proofs.Candidates.{is_candidate}
-use Rattle.order_laws.proofs.First.{first_by_order}
-use Rattle.order_laws.proofs.Home.{pool_is_home}
+use Rattle.composition_laws.specs.OrderLaws.{ComesInPool}
+use Rattle.composition_laws.proofs.Candidates.{is_candidate}
+use Rattle.composition_laws.proofs.FirstByOrder.{first_by_order}
+use Rattle.composition_laws.proofs.Home.{pool_is_home}
 use Rattle.pool_laws.specs.ReadyMoments.{moment_if, ready_in}
 use Rattle.pool_laws.proofs.Readiness.{ready}
 use Rattle.run_laws.specs.RunLaws.{IsNextMoment}

@@ -30,8 +30,8 @@ use Rattle.sched_laws.proofs.EachPlace.{by_cond, read_put_at, EachPlace-empty}
 use Rattle.sched_laws.proofs.Lists.{test_at-some, some_same}
 use Rattle.sched_laws.proofs.Opened.{read_pools, read_map, with_domains-resources, pins_keep, domains_keep}
 use Rattle.sched_laws.proofs.Records.{same_joined}
-use Rattle.part_laws.proofs.Begun.{housed_opening}
-use Rattle.part_laws.proofs.Alike.{mover_of}
+use Rattle.composition_laws.proofs.Begun.{housed_opening}
+use Rattle.composition_laws.proofs.Alike.{mover_of}
 use Rattle.term_laws.proofs.SamePool.{cur_in}
 use Rattle.term_laws.proofs.Track.{is_rtds_pool}
 use Rattle.sched_laws.proofs.RtdsUnits.{rtds_same}

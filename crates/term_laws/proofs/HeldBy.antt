@@ -7,7 +7,7 @@ use Rattle.sched_model.specs.declared.state.Credit2Unit.{Credit2Unit}
 use Rattle.sched_model.specs.Places.{change_item}
 use Rattle.sched_laws.specs.Counts.{over, total_over}
 use Rattle.term_laws.proofs.CapLegs.{OpenLeg, Opens}
-use Rattle.sched_ranges.specs.Ranges.{held_running}
+use Rattle.state_ranges.specs.Ranges.{held_running}
 
 -- the unit, running no more
 abbrev idle : Credit2Unit → Credit2Unit

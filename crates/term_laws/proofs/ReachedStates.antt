@@ -15,11 +15,11 @@ use Rattle.sched_laws.proofs.Kept.{IsApart}
 use Rattle.sched_laws.specs.PoolFacts.{UnitsAreOwn}
 use Rattle.sched_laws.specs.PoolFacts.{OnePlace}
 use Rattle.sched_laws.proofs.Reached.{is_apart, units_are_own, one_place}
-use Rattle.sched_ranges.specs.Ranges.{StateInRange}
-use Rattle.sched_ranges.proofs.Done.{in_range}
-use Rattle.part_laws.proofs.Housed.{Housed}
-use Rattle.part_laws.proofs.Begun.{housed_opening}
-use Rattle.part_laws.proofs.NamesLaw.{housed_from}
+use Rattle.state_ranges.specs.Ranges.{StateInRange}
+use Rattle.state_ranges.proofs.Done.{in_range}
+use Rattle.composition_laws.proofs.Housed.{Housed}
+use Rattle.composition_laws.proofs.Begun.{housed_opening}
+use Rattle.composition_laws.proofs.NamesLaw.{housed_from}
 
 -- a run that is not over leads to the state
 pub record IsReached (m : Machine) (s : State) : Type 0 where

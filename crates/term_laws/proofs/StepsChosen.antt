@@ -10,7 +10,7 @@ use Rattle.sched_model.specs.Places.{change_item}
 use Rattle.sched_model.specs.EligibleUnits.{has_budget}
 use Rattle.sched_model.specs.Credit2.{burn_unit, burn_units, give_back, take_budget}
 use Rattle.sched_laws.proofs.EachPlace.{by_cond}
-use Rattle.sched_ranges.proofs.Budgets.{taken_low}
+use Rattle.state_ranges.proofs.Budgets.{taken_low}
 use Rattle.sched_laws.proofs.Sound.{read_change_item}
 use Rattle.term_laws.proofs.StepsDomain.{item_at, ArePast, past_item, burned_now, held_after, is_capped, Kept, kept_same, kept_trans, kept_map, kept_burned}
 

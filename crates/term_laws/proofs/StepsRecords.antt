@@ -20,7 +20,7 @@ use Rattle.sched_model.specs.Credit2.{max_weight, burn_unit, burn_units, burn_al
 use Rattle.sched_laws.proofs.EachPlace.{at_place-change_each}
 use Rattle.sched_laws.specs.PoolFacts.{IfUnit}
 use Rattle.sched_laws.proofs.Sound.{change_at-twice}
-use Rattle.sched_ranges.proofs.Decided.{choice_pays}
+use Rattle.state_ranges.proofs.Decided.{choice_pays}
 use Rattle.term_laws.proofs.RtdsSteps.{at_place-change_at, at_place-change_at_other}
 use Rattle.term_laws.proofs.CapTracks.{Stops, number_in}
 use Rattle.term_laws.proofs.StepsDomain.{ArePast, is_capped}

@@ -22,7 +22,7 @@ use Rattle.sched_model.specs.Policy.{credit2_record}
 use Rattle.sched_model.specs.Pool.{after_in, settled_pool, with_records}
 use Rattle.sched_model.specs.Machine.{after, event_of}
 use Rattle.sched_base.proofs.Bools.{clash, or_left}
-use Rattle.sched_ranges.proofs.Budget.{get_map}
+use Rattle.state_ranges.proofs.Budget.{get_map}
 use Rattle.term_laws.proofs.RtdsSteps.{at_place-change_at}
 use Rattle.term_laws.proofs.SamePool.{cur_in}
 use Rattle.term_laws.proofs.ActsIn.{ActsIn, home_pools_same}

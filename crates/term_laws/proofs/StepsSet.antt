@@ -18,7 +18,7 @@ use Rattle.sched_model.specs.Credit2.{max_weight, burn_unit, burn_units, set_wei
 use Rattle.sched_model.specs.Policy.{credit2_record, changed_records}
 use Rattle.sched_model.specs.Pool.{set_params, settled_pool, is_of_domain}
 use Rattle.sched_laws.proofs.EachPlace.{by_cond, at_place-change_each}
-use Rattle.sched_ranges.proofs.Budget.{get_map}
+use Rattle.state_ranges.proofs.Budget.{get_map}
 use Rattle.term_laws.proofs.RtdsSteps.{at_place-change_at}
 use Rattle.term_laws.proofs.SamePool.{cur_in}
 use Rattle.term_laws.proofs.CapTracks.{Stops, number_in}

@@ -34,12 +34,12 @@ use Rattle.sched_laws.proofs.OnePlace.{one_same}
 use Rattle.sched_laws.specs.PoolFacts.{core_places}
 use Rattle.sched_laws.specs.PoolFacts.{UnitsAreOwn, IsThere}
 use Rattle.sched_laws.proofs.SiblingsLaw.{some_processor}
-use Rattle.sched_ranges.specs.Ranges.{IsUnitOf}
-use Rattle.sched_ranges.specs.Budgets.{BudgetFits, Nobody}
-use Rattle.sched_ranges.proofs.BudgetWalk.{CountIs}
-use Rattle.sched_ranges.proofs.Law.{StateFits, fits_in_runs}
-use Rattle.sched_records.specs.Records.{HasRecords}
-use Rattle.sched_records.proofs.Law.{has_records}
+use Rattle.state_ranges.specs.Ranges.{IsUnitOf}
+use Rattle.state_ranges.specs.Budgets.{BudgetFits, Nobody}
+use Rattle.state_ranges.proofs.BudgetWalk.{CountIs}
+use Rattle.state_ranges.proofs.RangesLaw.{StateFits, fits_in_runs}
+use Rattle.state_ranges.specs.Records.{HasRecords}
+use Rattle.state_ranges.proofs.RecordsLaw.{has_records}
 use Rattle.term_laws.specs.RtdsTerm.{core_in}
 use Rattle.term_laws.proofs.SamePool.{cur_in}
 use Rattle.sched_laws.proofs.PoolsLaw.{home_is as domain_home}

@@ -26,7 +26,7 @@ use Rattle.sched_model.specs.Commands.{is_kind, carried_out, pool_of_plan}
 use Rattle.sched_model.specs.Machine.{after, after_command, event_of, verdict, settled_at, is_enabled, is_move_under_way}
 use Rattle.sched_base.proofs.Bools.{clash, or_left, or_right}
 use Rattle.sched_laws.proofs.Lists.{some-test_at}
-use Rattle.sched_records.specs.Records.{IsRecorded}
+use Rattle.state_ranges.specs.Records.{IsRecorded}
 use Rattle.term_laws.specs.RtdsTerm.{moves}
 use Rattle.term_laws.proofs.RtdsSteps.{at_place-change_at}
 use Rattle.term_laws.specs.CapTerm.{cap_set, ends_term, refills, credit2_in}

@@ -30,12 +30,12 @@ use Rattle.sched_model.specs.Rtds as rtds
 use Rattle.sched_model.specs.NullScheduler as null
 use Rattle.sched_model.specs.CheckedMachine.{IsChecked, most_span}
 use Rattle.sched_laws.proofs.EachPlace.{by_option, by_cond, place_below, read_change_at}
-use Rattle.sched_ranges.specs.Ranges.{Credit2UnitInRange, Credit2InRange, RecordsInRange}
-use Rattle.sched_ranges.proofs.Credit2.{c_burn_cur}
-use Rattle.sched_ranges.specs.Fits.{Credit2Fits, UnitFits}
-use Rattle.sched_ranges.proofs.Records.{RecordsFit}
+use Rattle.state_ranges.specs.Ranges.{Credit2UnitInRange, Credit2InRange, RecordsInRange}
+use Rattle.state_ranges.proofs.Credit2.{c_burn_cur}
+use Rattle.state_ranges.specs.Fits.{Credit2Fits, UnitFits}
+use Rattle.state_ranges.proofs.RecordRanges.{RecordsFit}
 use Rattle.sched_print.specs.Ranges.{IsSigned}
-use Rattle.sched_ranges.specs.Ranges.{held_running}
+use Rattle.state_ranges.specs.Ranges.{held_running}
 
 -- how many resets a decision has
 resets_low : (credit : ℤ) → neg_ℤ (pos (65536 * most_span)) ≤ℤ credit → resets credit < 2 ^ 63

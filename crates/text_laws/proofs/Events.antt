@@ -35,10 +35,10 @@ use Rattle.sched_laws.proofs.EachPlace.{by_option, by_cond, found_at}
 use Rattle.sched_laws.proofs.Lists.{some-test_at, some_is}
 use Rattle.sched_laws.proofs.Choices.{at_unit, is_unit_same, decision_has}
 use Rattle.sched_laws.specs.PoolFacts.{IfUnit}
-use Rattle.sched_ranges.specs.Ranges.{IsUnitOf, PoolInRange}
-use Rattle.sched_ranges.specs.Fits.{RtdsFits}
-use Rattle.sched_ranges.proofs.Records.{DecisionFits, decision_fits, replenish_fits}
-use Rattle.sched_ranges.proofs.Walk.{CoreFits, PoolFits}
+use Rattle.state_ranges.specs.Ranges.{IsUnitOf, PoolInRange}
+use Rattle.state_ranges.specs.Fits.{RtdsFits}
+use Rattle.state_ranges.proofs.RecordRanges.{DecisionFits, decision_fits, replenish_fits}
+use Rattle.state_ranges.proofs.RangesWalk.{CoreFits, PoolFits}
 use Rattle.sched_print.specs.Ranges.{IsMoment, IsPool, IsUnit, IsVcpu, IsPrintableEvent}
 use Rattle.text_laws.proofs.Numbers.{processor_low, unit_low, if_unit_low, domain_low, core_inside, core_low, vcpu_low}
 use Rattle.text_laws.proofs.Judged.{record_fits}

@@ -43,10 +43,10 @@ use Rattle.sched_model.specs.Pool.{unit_count}
 use Rattle.sched_model.specs.Machine.{verdict, answer_of}
 use Rattle.sched_model.specs.Commands.{in_range, is_kind, name_fault, pool_named, last_core_fault, rtds_fault, rtds_units, cpu_fault, elsewhere_fault, has_vcpu, judge, pool_of, domain_of, with_pool, with_domain, demand, demand_range, refused_by, judge_frame, frame_entry, frame_entries, cores_in, domains_in, judge_rtds, reply_of}
 use Rattle.sched_laws.proofs.EachPlace.{by_option, by_cond, found_at, place_below}
-use Rattle.sched_ranges.specs.Ranges.{RecordsInRange}
-use Rattle.sched_ranges.proofs.Rtds.{fit_unit}
-use Rattle.sched_ranges.specs.Fits.{RtdsFits}
-use Rattle.sched_ranges.proofs.Records.{RecordsFit}
+use Rattle.state_ranges.specs.Ranges.{RecordsInRange}
+use Rattle.state_ranges.proofs.Rtds.{fit_unit}
+use Rattle.state_ranges.specs.Fits.{RtdsFits}
+use Rattle.state_ranges.proofs.RecordRanges.{RecordsFit}
 use Rattle.sched_print.specs.Ranges.{IsPrintableReply, IsPrintableRefusal}
 use Rattle.text_laws.proofs.Numbers.{Known, numbered_few, times_few, cores_few, domain_low, pool_low, home_low}
 

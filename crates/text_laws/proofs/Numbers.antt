@@ -23,9 +23,9 @@ use Rattle.sched_model.specs.CheckedMachine.{IsChecked, IsCheckedDomain, most_sp
 use Rattle.sched_model.specs.Actions.{home_of_core}
 use Rattle.sched_model.specs.Pool.{vcpu_of}
 use Rattle.sched_laws.proofs.EachPlace.{place_below, found_at, by_option}
-use Rattle.sched_ranges.specs.Ranges.{IsUnitOf, PoolInRange, StateInRange}
-use Rattle.sched_ranges.proofs.Law.{StateFits}
-use Rattle.part_laws.proofs.Housed.{Housed}
+use Rattle.state_ranges.specs.Ranges.{IsUnitOf, PoolInRange, StateInRange}
+use Rattle.state_ranges.proofs.RangesLaw.{StateFits}
+use Rattle.composition_laws.proofs.Housed.{Housed}
 use Rattle.sched_print.specs.Ranges.{IsUnit, IsVcpu, IsPool}
 use Rattle.sched_laws.proofs.Granularity.{by_granularity}
 

@@ -35,12 +35,12 @@ use Rattle.sched_model.specs.Runs.{Reached, IsNext, IsNextEvent, IsRun, IsRunFro
 use Rattle.sched_model.proofs.RunLemmas.{IsRunFrom-append, after_entries-append}
 use Rattle.sched_laws.proofs.EachPlace.{by_option, place_below}
 use Rattle.sched_laws.proofs.Lists.{some-test_at}
-use Rattle.sched_ranges.specs.Ranges.{IsNear}
-use Rattle.sched_ranges.proofs.Walk.{NearProcessor}
-use Rattle.sched_ranges.proofs.Law.{fits_in_runs, max_low}
-use Rattle.sched_ranges.proofs.Done.{in_range}
-use Rattle.part_laws.proofs.Begun.{housed_opening}
-use Rattle.part_laws.proofs.NamesLaw.{housed_from}
+use Rattle.state_ranges.specs.Ranges.{IsNear}
+use Rattle.state_ranges.proofs.RangesWalk.{NearProcessor}
+use Rattle.state_ranges.proofs.RangesLaw.{fits_in_runs, max_low}
+use Rattle.state_ranges.proofs.Done.{in_range}
+use Rattle.composition_laws.proofs.Begun.{housed_opening}
+use Rattle.composition_laws.proofs.NamesLaw.{housed_from}
 use Rattle.sched_print.specs.Ranges.{IsPrintable, IsPrintableEvent, IsCommandNumber, IsPool}
 use Rattle.text_laws.proofs.Numbers.{Known, cores_few, now_low, target_low, mover_low}
 use Rattle.text_laws.proofs.Judged.{SaysAnswer, answered}

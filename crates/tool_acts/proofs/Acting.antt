@@ -18,12 +18,12 @@ use Rattle.sched_laws.proofs.Lists.{some_same}
 use Rattle.journal_core.specs.Parts.{part_of, pool_part, tool_part, tool_lock, tool_of as part_of_tool}
 use Rattle.journal_core.specs.Histories.{part_at}
 use Rattle.cpupool.specs.Tool.{Tool, tool_of}
-use Rattle.tool_laws.specs.ToolSteps.{ChangesNoPool, ChangesPlace}
+use Rattle.composition_laws.specs.ToolSteps.{ChangesNoPool, ChangesPlace}
 use Rattle.pool_core.specs.Seen.{Seen, seen_at}
-use Rattle.pool_slots.specs.Told.{Told}
-use Rattle.pool_slots.specs.Places.{AllStand, GoesOn, SlotSuits, StandsAt, state_of}
-use Rattle.pool_slots.proofs.Going.{entry-is, goes-on, part_of-is, state-on}
-use Rattle.pool_slots.proofs.Standing.{pool_at, slot_part-is, stands-there}
+use Rattle.machine_parts.specs.Told.{Told}
+use Rattle.machine_parts.specs.Places.{AllStand, GoesOn, SlotSuits, StandsAt, state_of}
+use Rattle.machine_parts.proofs.Going.{entry-is, goes-on, part_of-is, state-on}
+use Rattle.machine_parts.proofs.Standing.{pool_at, slot_part-is, stands-there}
 use Rattle.machine_parts.specs.Parts.{AreParts}
 use Rattle.tool_acts.specs.Acts.{Begins, HasActed, HasActedAlone, HasActedOn, told_event}
 

@@ -13,7 +13,7 @@ use Rattle.cpupool.specs.Tool.{Tool, tool_of}
 use Rattle.cpupool.specs.Verdicts.{core_home, domain_home}
 use Rattle.cpupool.specs.ToolArrival.{EndsTheMove, action_of, after_arrival, but_for_free, handed_over, pools_after, size_at, with_core, with_domain, without_domain}
 use Rattle.cpupool.proofs.ArrivedLemmas.{arrived-seen}
-use Rattle.pool_slots.specs.Counts.{KeepsCounts, in_use_of}
+use Rattle.machine_parts.specs.Counts.{KeepsCounts, in_use_of}
 
 -- a change that keeps the scheduler of each pool keeps how many pools of a scheduler there are
 in_use-changed : (kind : SchedKind) (i : ℕ) (f : Outline → Outline) (places : List (Option Outline)) → ((o : Outline) → (f o).kind ≡ o.kind) → in_use_of kind (change_at i f places) ≡ in_use_of kind places

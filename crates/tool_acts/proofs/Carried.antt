@@ -22,11 +22,11 @@ use Rattle.sched_model.specs.Places.{at_place}
 use Rattle.sched_model.specs.Pool.{settled_pool}
 use Rattle.cpupool.specs.Tool.{Tool, tool_of}
 use Rattle.pool_core.specs.Seen.{Seen}
-use Rattle.pool_slots.specs.Told.{Told}
-use Rattle.pool_slots.specs.Places.{SlotSuits, StandsAt, state_of}
-use Rattle.pool_slots.proofs.Standing.{pool_at}
-use Rattle.tool_laws.specs.ToolSteps.{ChangesPlace, CommandSteps, carried_at, changed_by}
-use Rattle.tool_laws.proofs.Steps.{tool_steps}
+use Rattle.machine_parts.specs.Told.{Told}
+use Rattle.machine_parts.specs.Places.{SlotSuits, StandsAt, state_of}
+use Rattle.machine_parts.proofs.Standing.{pool_at}
+use Rattle.composition_laws.specs.ToolSteps.{ChangesPlace, CommandSteps, carried_at, changed_by}
+use Rattle.composition_laws.proofs.ToolSteps.{tool_steps}
 use Rattle.machine_parts.specs.Parts.{AreParts}
 use Rattle.machine_parts.proofs.AtPlaces.{no-number, number-of}
 use Rattle.tool_acts.specs.Acts.{Begins, told_event}

@@ -34,19 +34,19 @@ use Rattle.cpupool.specs.declared.moves.Move.{Move}
 use Rattle.cpupool.specs.declared.moves.Move.TheVariants as move
 use Rattle.cpupool.proofs.ArrivedLemmas.{core_joins}
 use Rattle.cpupool.proofs.SubjectLemmas.{length-map}
-use Rattle.actor_laws.specs.First.{move_first}
-use Rattle.part_laws.specs.Moves.{HasOneMove}
-use Rattle.part_laws.proofs.MoveLaw.{has_one_move}
+use Rattle.composition_laws.specs.WholeFirst.{move_first}
+use Rattle.composition_laws.specs.Moves.{HasOneMove}
+use Rattle.composition_laws.proofs.MoveLaw.{has_one_move}
 use Rattle.sched_model.specs.Machine as machine
-use Rattle.tool_laws.specs.ToolSteps.{JoinSteps, LeaveSteps}
-use Rattle.tool_laws.proofs.Steps.{tool_steps}
+use Rattle.composition_laws.specs.ToolSteps.{JoinSteps, LeaveSteps}
+use Rattle.composition_laws.proofs.ToolSteps.{tool_steps}
 use Rattle.pool_core.specs.Seen as pools
 use Rattle.pool_core.specs.Seen.{IsNow, Seen, seen_at}
-use Rattle.pool_slots.specs.Counts.{KeepsCounts}
-use Rattle.pool_slots.specs.Told.{Told}
-use Rattle.pool_slots.specs.Places.{GoesOn, SlotSuits, StandsAt, state_of}
-use Rattle.pool_slots.proofs.Going.{early, range-of, state_of-is}
-use Rattle.pool_slots.proofs.Standing.{pool_at, stands-there}
+use Rattle.machine_parts.specs.Counts.{KeepsCounts}
+use Rattle.machine_parts.specs.Told.{Told}
+use Rattle.machine_parts.specs.Places.{GoesOn, SlotSuits, StandsAt, state_of}
+use Rattle.machine_parts.proofs.Going.{early, range-of, state_of-is}
+use Rattle.machine_parts.proofs.Standing.{pool_at, stands-there}
 use Rattle.machine_parts.specs.Parts.{AreParts}
 use Rattle.machine_parts.proofs.AtPlaces.{no-home, no-number}
 use Rattle.machine_parts.proofs.Moving.{core-way, leaving-first}

@@ -14,8 +14,8 @@ use Rattle.sched_model.specs.declared.work.CommandLine.{CommandLine}
 use Rattle.sched_model.specs.Commands.{is_kind}
 use Rattle.sched_model.specs.Machine.{verdict}
 use Rattle.sched_laws.proofs.Judged.{verdict_passed}
-use Rattle.pool_slots.specs.Counts.{makes, makes_at}
-use Rattle.pool_slots.proofs.Keeping.{kind-itself}
+use Rattle.machine_parts.specs.Counts.{makes, makes_at}
+use Rattle.machine_parts.proofs.Keeping.{kind-itself}
 
 -- the line whose plan makes a pool has a command that asks for one of that scheduler
 pub line-makes : (m : Machine) (s : State) (line : CommandLine) (i : PoolId) (name : Name) (kind : SchedKind) (answer : Reply) → verdict m s line ≡ Ok (plan.PoolCreate i name kind answer) → makes_at kind line ≡ true

@@ -42,17 +42,17 @@ use Rattle.sched_laws.proofs.SiblingsLaw.{some_processor}
 use Rattle.sched_ops.specs.Conditions.{AreDomParams}
 use Rattle.sched_model.specs.Policy.{stored_of}
 use Rattle.sched_model.proofs.PlaceLemmas.{at_place-map}
-use Rattle.sched_ranges.specs.Ranges.{DomainInRange}
+use Rattle.state_ranges.specs.Ranges.{DomainInRange}
 use Rattle.journal_core.specs.Parts.{Outline, ToolPart, UnderWay, domain_to, outline_of, tool_of as part_of_tool, under_way_of}
-use Rattle.part_laws.proofs.Alike.{mover_of}
-use Rattle.part_laws.proofs.Begun.{housed_opening}
-use Rattle.part_laws.proofs.NamesLaw.{housed_from, moves-away}
-use Rattle.part_laws.proofs.Counted.{in_all, in_all_is}
-use Rattle.part_laws.proofs.Ending.{Moving, domain_found}
-use Rattle.part_laws.proofs.MoveLaw.{has_one_move}
-use Rattle.part_laws.proofs.Whose.{moving_answers}
-use Rattle.tool_laws.specs.ToolSteps.{DomainSteps}
-use Rattle.tool_laws.proofs.Steps.{tool_steps}
+use Rattle.composition_laws.proofs.Alike.{mover_of}
+use Rattle.composition_laws.proofs.Begun.{housed_opening}
+use Rattle.composition_laws.proofs.NamesLaw.{housed_from, moves-away}
+use Rattle.composition_laws.proofs.Counted.{in_all, in_all_is}
+use Rattle.composition_laws.proofs.Ending.{Moving, domain_found}
+use Rattle.composition_laws.proofs.MoveLaw.{has_one_move}
+use Rattle.composition_laws.proofs.Whose.{moving_answers}
+use Rattle.composition_laws.specs.ToolSteps.{DomainSteps}
+use Rattle.composition_laws.proofs.ToolSteps.{tool_steps}
 use Rattle.cpupool.specs.ToolArrival.{EndsTheMove, action_of, but_for_free}
 use Rattle.cpupool.specs.Steps.{kind_at, move_of}
 use Rattle.cpupool.specs.Tool.{Tool, tool_of}
@@ -64,13 +64,13 @@ use Rattle.sched_base.specs.Units.{unit_id}
 use Rattle.pool_core.specs.Params.{stored_units}
 use Rattle.pool_core.specs.Seen.{IsNow, Seen, seen_at, with_spare}
 use Rattle.pool_core.proofs.Comers.{some_units}
-use Rattle.pool_slots.specs.Counts.{KeepsCounts}
-use Rattle.pool_slots.specs.Told.{Told}
-use Rattle.pool_slots.specs.Places.{GoesOn, SlotSuits, StandsAt, state_of}
-use Rattle.pool_slots.proofs.AtHome.{comes-there}
-use Rattle.pool_slots.proofs.Going.{early, range-of, state_of-is}
-use Rattle.pool_slots.proofs.Rooming.{some-out}
-use Rattle.pool_slots.proofs.Standing.{pool_at, stands-there}
+use Rattle.machine_parts.specs.Counts.{KeepsCounts}
+use Rattle.machine_parts.specs.Told.{Told}
+use Rattle.machine_parts.specs.Places.{GoesOn, SlotSuits, StandsAt, state_of}
+use Rattle.machine_parts.proofs.AtHome.{comes-there}
+use Rattle.machine_parts.proofs.Going.{early, range-of, state_of-is}
+use Rattle.machine_parts.proofs.Rooming.{some-out}
+use Rattle.machine_parts.proofs.Standing.{pool_at, stands-there}
 use Rattle.machine_parts.specs.Parts.{AreParts}
 use Rattle.machine_parts.proofs.AtPlaces.{domain_below}
 use Rattle.tool_acts.specs.Acts.{Begins, HasActed}

@@ -15,8 +15,8 @@ use Rattle.sched_model.specs.Policy.{rate_of}
 use Rattle.sched_model.specs.Pool.{unit_count}
 use Rattle.sched_laws.specs.EachPlace.{EachPlace}
 use Rattle.sched_laws.proofs.EachPlace.{place_below}
-use Rattle.sched_records.specs.Records.{HasRecords}
-use Rattle.sched_records.proofs.Law.{has_records}
+use Rattle.state_ranges.specs.Records.{HasRecords}
+use Rattle.state_ranges.proofs.RecordsLaw.{has_records}
 use Rattle.unit_state.specs.Seen as guests
 use Rattle.sched_base.specs.Units.{unit_id}
 use Rattle.pool_core.specs.Params as params
@@ -24,10 +24,10 @@ use Rattle.pool_core.specs.Seen.{Seen}
 use Rattle.cpupool.specs.Facts.{rate_at, stored_from, stored_in, stored_at}
 use Rattle.sched_model.specs.Policy.{stored_of}
 use Rattle.cpupool.specs.Tool.{tool_of}
-use Rattle.pool_slots.specs.Told.{Told}
-use Rattle.pool_slots.specs.Places.{AllStand, GoesOn, SlotSuits, state_of}
-use Rattle.pool_slots.proofs.Going.{state_of-is}
-use Rattle.pool_slots.proofs.Standing.{pool_at}
+use Rattle.machine_parts.specs.Told.{Told}
+use Rattle.machine_parts.specs.Places.{AllStand, GoesOn, SlotSuits, state_of}
+use Rattle.machine_parts.proofs.Going.{state_of-is}
+use Rattle.machine_parts.proofs.Standing.{pool_at}
 use Rattle.machine_parts.specs.Parts.{AreParts}
 use Rattle.machine_parts.proofs.AtPlaces.{pool-anywhere}
 

@@ -30,22 +30,22 @@ use Rattle.cpupool.proofs.AdvanceLemmas.{advanced-seen}
 use Rattle.cpupool.proofs.SubjectLemmas.{length-map}
 use Rattle.cpupool.proofs.WayLemmas.{command-seen}
 use Rattle.pool_core.specs.Seen.{Seen, IsEmpty}
-use Rattle.pool_slots.specs.Counts.{AreSpares, in_use_of, makes_at}
-use Rattle.pool_slots.specs.Places.{SlotSuits, state_of}
-use Rattle.pool_slots.specs.Spares.{Shelves, made_seen, shelf_of}
-use Rattle.pool_slots.specs.Told.{Told}
-use Rattle.pool_slots.proofs.Counting.{spare-there}
-use Rattle.pool_slots.proofs.Going.{range-of}
-use Rattle.pool_slots.proofs.Standing.{pool_at}
+use Rattle.machine_parts.specs.Counts.{AreSpares, in_use_of, makes_at}
+use Rattle.machine_parts.specs.Places.{SlotSuits, state_of}
+use Rattle.machine_parts.specs.Spares.{Shelves, made_seen, shelf_of}
+use Rattle.machine_parts.specs.Told.{Told}
+use Rattle.machine_parts.proofs.Counting.{spare-there}
+use Rattle.machine_parts.proofs.Going.{range-of}
+use Rattle.machine_parts.proofs.Standing.{pool_at}
 use Rattle.machine_parts.specs.Parts.{AreParts}
 use Rattle.machine_parts.proofs.AtPlaces.{nothing-there, seen-there}
-use Rattle.tool_laws.specs.Plans.{Finds, FindsPool, HasNothing}
-use Rattle.tool_laws.specs.ToolSteps.{carried_at}
+use Rattle.composition_laws.specs.Plans.{Finds, FindsPool, HasNothing}
+use Rattle.composition_laws.specs.ToolSteps.{carried_at}
 use Rattle.tool_acts.specs.CarriedPlans.{HasCarried, IsAccepted, KeepsPools, xl_told}
 use Rattle.tool_acts.specs.MadePools.{DestroysPool, HasGone, HasMade, MakesPool, MayGo}
 use Rattle.tool_acts.proofs.Carried.{parts-carried}
 use Rattle.tool_acts.proofs.Created.{line-makes}
-use Rattle.pool_slots.proofs.Keeping.{spares-created, spares-destroyed, spares-passed, spares-room}
+use Rattle.machine_parts.proofs.Keeping.{spares-created, spares-destroyed, spares-passed, spares-room}
 use Rattle.tool_acts.proofs.Taking.{accepted-finds}
 
 -- a command that comes is there, and nothing is on its way

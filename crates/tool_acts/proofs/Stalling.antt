@@ -30,18 +30,18 @@ use Rattle.sched_laws.proofs.EachPlace.{found_at, none_found}
 use Rattle.sched_laws.proofs.Granularity.{by_granularity}
 use Rattle.sched_laws.proofs.Lists.{same_read}
 use Rattle.journal_core.specs.Parts.{ToolPart}
-use Rattle.part_laws.proofs.Alike.{core_of}
+use Rattle.composition_laws.proofs.Alike.{core_of}
 use Rattle.cpupool.specs.Tool.{Tool, ends_of, tool_of}
-use Rattle.tool_laws.specs.ToolSteps as steps
-use Rattle.tool_laws.specs.ToolSteps.{StallSteps, end_of_stall, stall_end_in}
-use Rattle.tool_laws.proofs.Moving.{IsKnown, known_in_runs}
-use Rattle.tool_laws.proofs.Steps.{tool_steps}
+use Rattle.composition_laws.specs.ToolSteps as steps
+use Rattle.composition_laws.specs.ToolSteps.{StallSteps, end_of_stall, stall_end_in}
+use Rattle.composition_laws.proofs.Moving.{IsKnown, known_in_runs}
+use Rattle.composition_laws.proofs.ToolSteps.{tool_steps}
 use Rattle.pool_core.specs.Seen.{Seen, stall_until, with_stall}
-use Rattle.pool_slots.specs.Counts.{KeepsCounts, in_use_of}
-use Rattle.pool_slots.specs.Told.{Told}
-use Rattle.pool_slots.specs.Places.{AllStand, GoesOn, SlotSuits, StandsAt, state_of, with_pool}
-use Rattle.pool_slots.proofs.Going.{early, state_of-is}
-use Rattle.pool_slots.proofs.Standing.{pool_at, stands-there}
+use Rattle.machine_parts.specs.Counts.{KeepsCounts, in_use_of}
+use Rattle.machine_parts.specs.Told.{Told}
+use Rattle.machine_parts.specs.Places.{AllStand, GoesOn, SlotSuits, StandsAt, state_of, with_pool}
+use Rattle.machine_parts.proofs.Going.{early, state_of-is}
+use Rattle.machine_parts.proofs.Standing.{pool_at, stands-there}
 use Rattle.machine_parts.specs.Parts.{AreParts}
 use Rattle.machine_parts.proofs.AtPlaces.{core_below, no-number, number-of}
 use Rattle.tool_acts.specs.Acts.{Begins, HasActedAlone, HasActedOn, told_event}

@@ -26,21 +26,22 @@ use Rattle.sched_laws.proofs.EachPlace.{place_below}
 use Rattle.sched_laws.proofs.Fits.{RtdsFits}
 use Rattle.sched_laws.proofs.Judged.{Fits, verdict_fits}
 use Rattle.sched_laws.proofs.Lists.{item_below, some_is, some_same}
-use Rattle.sched_records.specs.Records.{IsRecorded}
+use Rattle.state_ranges.specs.Records.{IsRecorded}
 use Rattle.sched_base.specs.Units.{unit_id}
 use Rattle.pool_core.specs.Params.{AreGiven}
 use Rattle.sched_model.specs.declared.state.Scheduler.{Scheduler}
-use Rattle.sched_ops.specs.Conditions.{IsCap, IsChange, IsWeight, has_joined}
+use Rattle.sched_ops.specs.Conditions.{IsChange, has_joined}
+use Rattle.sched_laws.specs.RecordRanges.{IsCap, IsWeight}
 use Rattle.sched_ops.specs.Seen.{units_of}
 use Rattle.unit_state.specs.Seen.{units_at}
 use Rattle.policy_laws.specs.Holds.{Holds}
 use Rattle.pool_core.specs.Seen.{Seen}
-use Rattle.pool_slots.specs.Told.{Told}
-use Rattle.pool_slots.specs.Places.{GoesOn, SlotSuits, StandsAt, state_of}
-use Rattle.pool_slots.proofs.Going.{range-of}
-use Rattle.pool_slots.proofs.Standing.{pool_at, stands-there}
-use Rattle.tool_laws.specs.Plans.{Finds, FindsDomain, FindsPool, IsThere}
-use Rattle.tool_laws.proofs.Judged.{plan_finds}
+use Rattle.machine_parts.specs.Told.{Told}
+use Rattle.machine_parts.specs.Places.{GoesOn, SlotSuits, StandsAt, state_of}
+use Rattle.machine_parts.proofs.Going.{range-of}
+use Rattle.machine_parts.proofs.Standing.{pool_at, stands-there}
+use Rattle.composition_laws.specs.Plans.{Finds, FindsDomain, FindsPool, IsThere}
+use Rattle.composition_laws.proofs.Judged.{plan_finds}
 use Rattle.tool_acts.specs.CarriedPlans.{IsAccepted, KeepsPools, Takes, TakesChange, TakesUnits}
 use Rattle.tool_acts.proofs.Judgement.{recorded}
 

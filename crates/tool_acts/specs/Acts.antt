@@ -7,8 +7,8 @@ use Rattle.sched_model.specs.Machine.{is_enabled}
 use Rattle.journal_core.specs.Parts.{tool_lock}
 use Rattle.journal_core.specs.Histories.{part_at}
 use Rattle.cpupool.specs.Tool.{Tool, tool_of}
-use Rattle.pool_slots.specs.Told.{Told, told_more}
-use Rattle.pool_slots.specs.Places.{GoesOn, state_of}
+use Rattle.machine_parts.specs.Told.{Told, told_more}
+use Rattle.machine_parts.specs.Places.{GoesOn, state_of}
 
 -- with the entry of that event at t
 abbrev pub told_event : Told → ℕ → Event → Told

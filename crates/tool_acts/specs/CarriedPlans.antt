@@ -17,9 +17,9 @@ use Rattle.sched_ops.specs.Conditions.{IsChange}
 use Rattle.unit_state.specs.Seen.{units_at}
 use Rattle.pool_core.specs.Params.{AreGiven}
 use Rattle.pool_core.specs.Seen.{Seen, seen_at}
-use Rattle.pool_slots.specs.Told.{Told}
-use Rattle.pool_slots.specs.Places.{SlotSuits, state_of}
-use Rattle.tool_laws.specs.ToolSteps.{carried_at, changed_by}
+use Rattle.machine_parts.specs.Told.{Told}
+use Rattle.machine_parts.specs.Places.{SlotSuits, state_of}
+use Rattle.composition_laws.specs.ToolSteps.{carried_at, changed_by}
 use Rattle.tool_acts.specs.Acts.{told_event}
 
 -- with the entry of the next command

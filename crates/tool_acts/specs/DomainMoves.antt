@@ -11,8 +11,8 @@ use Rattle.cpupool.specs.Steps.{kind_at}
 use Rattle.unit_state.specs.Parts.{IsPart}
 use Rattle.unit_state.specs.declared.part.DomPart.{DomPart}
 use Rattle.pool_core.specs.Seen.{Seen, seen_at}
-use Rattle.pool_slots.specs.Told.{Told}
-use Rattle.pool_slots.specs.Places.{GoesOn, state_of}
+use Rattle.machine_parts.specs.Told.{Told}
+use Rattle.machine_parts.specs.Places.{GoesOn, state_of}
 use Rattle.tool_acts.specs.Acts.{told_event}
 use Rattle.tool_acts.specs.declared.domains.DomainRoute.{DomainRoute}
 

@@ -9,7 +9,7 @@ use Rattle.sched_model.specs.declared.plan.Plan.{Plan}
 use Rattle.sched_model.specs.declared.plan.Plan.TheVariants as plan
 use Rattle.sched_model.specs.Policy.{default_pool_params, kind_of}
 use Rattle.pool_core.specs.Seen.{Seen, IsEmpty}
-use Rattle.pool_slots.specs.Spares.{IsSpare, Shelves, made_seen, shelf_of, shelves_with}
+use Rattle.machine_parts.specs.Spares.{IsSpare, Shelves, made_seen, shelf_of, shelves_with}
 
 -- a spare pool of the scheduler has come to the place, with that scheduler's default parameters
 pub record HasMade (m : Machine) (now : ℕ) (kind : SchedKind) (shelves left : Shelves) (slot : Option Seen) : Type 0 where

@@ -5,8 +5,8 @@ use Rattle.sched_model.specs.declared.work.StallLine.{StallLine}
 use Rattle.sched_model.specs.Actions.{home_of_core}
 use Rattle.sched_model.specs.Machine.{is_enabled}
 use Rattle.cpupool.specs.Tool.{Tool}
-use Rattle.pool_slots.specs.Told.{Told}
-use Rattle.pool_slots.specs.Places.{GoesOn, state_of}
+use Rattle.machine_parts.specs.Told.{Told}
+use Rattle.machine_parts.specs.Places.{GoesOn, state_of}
 
 -- the next stall may come in the state that the trail leads to, whose moment is t; this is its line, and the pool of this number has the
 -- line's processor, or none has it

@@ -3,8 +3,8 @@
 ghost use Rattle.std.specs.Prelude.{◌≡◌, true, false, None};
 ghost use Rattle.sched_model.specs.declared.action.Action.TheVariants as actions;
 ghost use Rattle.sched_model.specs.Machine.{is_enabled, event_of};
-ghost use Rattle.pool_slots.specs.Counts.{AreSpares};
-ghost use Rattle.pool_slots.specs.Places.{state_of};
+ghost use Rattle.machine_parts.specs.Counts.{AreSpares};
+ghost use Rattle.machine_parts.specs.Places.{state_of};
 ghost use Rattle.machine_parts.specs.Parts.{AreParts, pool_of_event};
 ghost use Rattle.tool_acts.specs.Acts.{told_event};
 
@@ -13,7 +13,7 @@ use crate::cores::move_core;
 use crate::domains::move_domain;
 use crate::stalls::stall;
 use cpupool::ToolState;
-use pool_slots::{PoolSlot, Spares, Trail};
+use machine_parts::{PoolSlot, Spares, Trail};
 use sched_base::{DomId, Moment, ResId};
 use sched_model::action::Action;
 use sched_model::event::Event;

@@ -10,10 +10,10 @@ ghost use Rattle.sched_model.specs.Places.{numbers_from};
 ghost use Rattle.sched_model.specs.Pool.{set_leaving, set_moving, set_params, unpause as unpause_spec};
 ghost use Rattle.pool_core.specs.Params.{AreGiven};
 ghost use Rattle.pool_core.specs.Seen.{IsNow};
-ghost use Rattle.pool_slots.specs.Places.{AllStand, GoesOn, SlotSuits, StandsAt, state_of};
+ghost use Rattle.machine_parts.specs.Places.{AllStand, GoesOn, SlotSuits, StandsAt, state_of};
 ghost use Rattle.tool_acts.specs.CarriedPlans.{HasCarried, IsAccepted, KeepsPools, Takes, TakesChange, TakesUnits, carried_slot, changed_slot};
 
-use pool_slots::{PoolSlot, Trail};
+use machine_parts::{PoolSlot, Trail};
 use sched_base::{DomId, Moment, PoolId, ResId};
 use sched_model::config::ParamChange;
 use sched_model::facts::RtdsGiven;

@@ -5,13 +5,13 @@ ghost use Rattle.sched_model.specs.declared.action.Action.TheVariants.{Moved};
 ghost use Rattle.sched_model.specs.Actions.{home_of_core};
 ghost use Rattle.sched_model.specs.Machine.{event_of, is_enabled};
 ghost use Rattle.journal_core.specs.Parts.{core_to};
-ghost use Rattle.pool_slots.specs.Counts.{KeepsCounts};
-ghost use Rattle.pool_slots.specs.Places.{StandsAt, state_of};
+ghost use Rattle.machine_parts.specs.Counts.{KeepsCounts};
+ghost use Rattle.machine_parts.specs.Places.{StandsAt, state_of};
 ghost use Rattle.machine_parts.specs.Parts.{AreParts};
 ghost use Rattle.tool_acts.specs.Acts.{Begins, HasActedOn, told_event};
 
 use cpupool::{Move, ToolState};
-use pool_slots::{PoolSlot, Trail};
+use machine_parts::{PoolSlot, Trail};
 use sched_base::{Moment, PoolId, ResId};
 use sched_model::event::Event;
 

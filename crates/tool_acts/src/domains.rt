@@ -11,14 +11,14 @@ ghost use Rattle.sched_ops.specs.Conditions.{AreDomParams};
 ghost use Rattle.unit_state.specs.Seen.{units_at};
 ghost use Rattle.pool_core.specs.Seen.{IsNow};
 ghost use Rattle.cpupool.specs.Tool.{tool_of};
-ghost use Rattle.pool_slots.specs.Counts.{KeepsCounts};
-ghost use Rattle.pool_slots.specs.Places.{StandsAt, state_of};
+ghost use Rattle.machine_parts.specs.Counts.{KeepsCounts};
+ghost use Rattle.machine_parts.specs.Places.{StandsAt, state_of};
 ghost use Rattle.machine_parts.specs.Parts.{AreParts};
 ghost use Rattle.tool_acts.specs.Acts.{Begins, HasActed, told_event};
 ghost use Rattle.tool_acts.specs.DomainMoves.{HasLeft, MovesDomain, looked_at, told_moved};
 
 use cpupool::{Move, ToolState};
-use pool_slots::{PoolSlot, Trail};
+use machine_parts::{PoolSlot, Trail};
 use sched_base::{DomId, Moment, PoolId, Span};
 use sched_model::config::{DomParams, SchedKind};
 use sched_model::event::Event;

@@ -1,7 +1,7 @@
 //! The acts of the tool on the parts of a machine: stalls, moves of cores and of domains, and commands, each over the places of the pools
 //! and what the tool knows.
 //!
-//! A call has a trail as its witness, as those of `pool_slots` have: the input and the history, which contracts alone see. It answers
+//! A call has a trail as its witness, as those of `machine_parts` have: the input and the history, which contracts alone see. It answers
 //! the event, and leaves the parts of the state that the trail leads to with that event's entry added.
 #![tactic(auto)]
 

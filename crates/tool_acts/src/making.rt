@@ -3,11 +3,11 @@
 ghost use Rattle.std.specs.Prelude.{◌≡◌, ◌<◌, None, length};
 ghost use Rattle.std.specs.List.{All};
 ghost use Rattle.std.specs.Option.{ForSome, IsSome};
-ghost use Rattle.pool_slots.specs.Places.{GoesOn, StandsAt, state_of};
-ghost use Rattle.pool_slots.specs.Spares.{IsSpare, shelf_of};
+ghost use Rattle.machine_parts.specs.Places.{GoesOn, StandsAt, state_of};
+ghost use Rattle.machine_parts.specs.Spares.{IsSpare, shelf_of};
 ghost use Rattle.tool_acts.specs.MadePools.{HasGone, HasMade, MayGo};
 
-use pool_slots::{PoolSlot, Spares, Trail};
+use machine_parts::{PoolSlot, Spares, Trail};
 use sched_model::config::SchedKind;
 use scheduler_records::params::default_pool_params;
 

@@ -4,14 +4,14 @@ ghost use Rattle.std.specs.Prelude.{◌≡◌, None, Some, true};
 ghost use Rattle.sched_model.specs.declared.action.Action.TheVariants.{Stall};
 ghost use Rattle.sched_model.specs.Machine.{event_of, is_enabled};
 ghost use Rattle.cpupool.specs.Tool.{Tool, tool_of};
-ghost use Rattle.pool_slots.specs.Counts.{KeepsCounts};
-ghost use Rattle.pool_slots.specs.Places.{StandsAt, state_of};
+ghost use Rattle.machine_parts.specs.Counts.{KeepsCounts};
+ghost use Rattle.machine_parts.specs.Places.{StandsAt, state_of};
 ghost use Rattle.machine_parts.specs.Parts.{AreParts};
 ghost use Rattle.tool_acts.specs.Acts.{HasActedAlone, HasActedOn, told_event};
 ghost use Rattle.tool_acts.specs.Stalls.{IsNextStall, one_stall_more};
 
 use cpupool::ToolState;
-use pool_slots::{PoolSlot, Trail};
+use machine_parts::{PoolSlot, Trail};
 use sched_base::{Moment, ResId};
 use sched_model::event::Event;
 use sched_model::work::StallLine;

@@ -5,11 +5,11 @@ ghost use Rattle.sched_model.specs.CheckedMachine.{IsCheckedCommand};
 ghost use Rattle.sched_model.specs.Commands.{judge};
 ghost use Rattle.sched_model.specs.Machine.{verdict};
 ghost use Rattle.cpupool.specs.Facts.{rate_at, stored_at};
-ghost use Rattle.pool_slots.specs.Places.{AllStand, GoesOn, state_of};
+ghost use Rattle.machine_parts.specs.Places.{AllStand, GoesOn, state_of};
 ghost use Rattle.machine_parts.specs.Parts.{AreParts};
 
 use cpupool::ToolState;
-use pool_slots::{PoolSlot, Trail};
+use machine_parts::{PoolSlot, Trail};
 use sched_model::command::Command;
 use sched_model::event::Refusal;
 use sched_model::facts::{Facts, Subject};

@@ -17,7 +17,7 @@ use Rattle.sched_model.specs.Opening.{fresh_vcpu}
 use Rattle.sched_model.specs.Pool.{woken_vcpu, put_to_sleep, stopped_vcpu, done_at, unit_count, vcpu_among, change_among}
 use Rattle.sched_laws.proofs.EachPlace.{EachAt-change_to, EachPlace-change_at, EachPlace-put_at, EachPlace-clear_at, EachPlace-empty, place_below, length_set, vcpu_is}
 use Rattle.sched_laws.proofs.Lists.{length_change_item, has_come-le}
-use Rattle.sched_ranges.proofs.Vcpus.{VcpuFits as VcpuStands, vcpu_fresh, vcpu_woken, vcpu_slept, vcpu_stopped, vcpu_started}
+use Rattle.state_ranges.proofs.Vcpus.{VcpuFits as VcpuStands, vcpu_fresh, vcpu_woken, vcpu_slept, vcpu_stopped, vcpu_started}
 use Rattle.pool_records.specs.Fits.{DomainFits, VcpuFits}
 use Rattle.unit_state.specs.Seen.{Seen, IsNow, vacant_guests, done_among, is_awake_among, is_due_among}
 use Rattle.unit_state.specs.Parts.{IsGuest, HasGuests, IsStill, IsRunPlace, IsSleepPlace}

@@ -15,13 +15,13 @@ use Rattle.command_line.specs.declared.command.Command.{Command}
 use Rattle.sched_io.specs.Faults.{Rose}
 use Rattle.sched_io.specs.Puts.{Adds, AddsPart}
 use Rattle.sched_io.proofs.FaultLemmas.{rose_after}
-use Rattle.sched_verdict.specs.declared.verdict.Verdict.{Verdict}
-use Rattle.sched_verdict.specs.declared.verdict.Verdict.TheVariants as verdict
-use Rattle.sched_verdict.specs.Verdict.{IsTextOfRun, IsVerdict}
+use Rattle.sched_check.specs.declared.verdict.Verdict.{Verdict}
+use Rattle.sched_check.specs.declared.verdict.Verdict.TheVariants as verdict
+use Rattle.sched_check.specs.ScheduleVerdict.{IsTextOfRun, IsVerdict}
 use Rattle.sched_model.specs.CheckedMachine.{IsChecked}
-use Rattle.sched_verdict.specs.Laws.{NoIsNoRun}
+use Rattle.sched_check.specs.VerdictLaws.{NoIsNoRun}
 use Rattle.sched_model.specs.declared.event.Entry.{Entry}
-use Rattle.sched_verdict.specs.VerdictText.{text_of_verdict}
+use Rattle.sched_check.specs.VerdictText.{text_of_verdict}
 use Rattle.xensched_top.specs.Words.{Source, of_files, of_seed, Request, Task, runs, writes, judges, task_in, task_of}
 use Rattle.xensched_top.proofs.FilesLemmas.{told}
 use Rattle.xensched_top.specs.Answers.{BytesOf, Counts, Names, domain_bytes, work_bytes, IsMade, IsUnread, IsNotRead, IsNoToml, IsBadTable, IsBadWork, IsAccepted, IsRefusedAt, IsJudged, Judges, Refuses, RefusesName, Writes, WritesVerdict, Outcome, OfTexts, LeavesUnread, PutsAll, PutsLimit, PutsRefusal, PutsSome, Answers, ordered_answer, answer_to, SomethingFails, IsAnswer, IsAnswerOf, IsRunAnswer, IsOfTable}

@@ -15,10 +15,10 @@ use Rattle.work_file.specs.declared.fault.WorkFault.{WorkFault}
 use Rattle.xensched_top.specs.Files.{config_of, work_of, machine_of}
 use Rattle.command_line.specs.declared.command.Form.{Form}
 use Rattle.work_file.specs.Load.{load_domains, load_work}
-use Rattle.sched_verdict.specs.declared.verdict.Verdict.{Verdict}
-use Rattle.sched_verdict.specs.declared.verdict.Verdict.TheVariants as verdict
-use Rattle.sched_verdict.specs.Verdict.{IsTextOfRun, IsVerdict}
-use Rattle.sched_verdict.specs.VerdictText.{text_of_verdict}
+use Rattle.sched_check.specs.declared.verdict.Verdict.{Verdict}
+use Rattle.sched_check.specs.declared.verdict.Verdict.TheVariants as verdict
+use Rattle.sched_check.specs.ScheduleVerdict.{IsTextOfRun, IsVerdict}
+use Rattle.sched_check.specs.VerdictText.{text_of_verdict}
 use Rattle.xensched_top.specs.Words.{Source, of_files, of_seed, Request, Task, runs, writes, judges}
 use Rattle.xensched_top.specs.Schedules.{is_whole, PutsRun, PutsFirst, PutsPart}
 

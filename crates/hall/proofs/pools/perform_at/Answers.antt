@@ -1,5 +1,5 @@
 use Rattle.std.proofs.Common.{ap, ◌∙◌}
-use Rattle.pool_slots.specs.Told.{told_of}
+use Rattle.machine_parts.specs.Told.{told_of}
 use Rattle.hall.proofs.AtPool.{decider-here, kept-here, next-here, others-after, placed-here, pool-after, stands-here, time-here}
 use Rattle.hall.proofs.pools.perform_at.Goals as goal
 

@@ -4,9 +4,9 @@ use Rattle.arrayvec.proofs.ArrayVecLemmas.{items-with_items}
 use Rattle.sched_model.specs.Machine.{event_of}
 use Rattle.cpupool.specs.Tool.{tool_of}
 use Rattle.pool_core.specs.Seen.{Seen as PoolSeen}
-use Rattle.pool_slots.specs.Counts.{AreSpares}
-use Rattle.pool_slots.specs.Places.{state_of}
-use Rattle.pool_slots.specs.Told.{Told, told_of}
+use Rattle.machine_parts.specs.Counts.{AreSpares}
+use Rattle.machine_parts.specs.Places.{state_of}
+use Rattle.machine_parts.specs.Told.{Told, told_of}
 use Rattle.machine_parts.specs.Parts.{AreParts}
 use Rattle.tool_acts.specs.Acts.{told_event}
 use Rattle.hall.specs.declared.value.ToolKept.{ToolKept}

@@ -1,7 +1,7 @@
 use Rattle.std.proofs.Common.{◌∙◌, refl, sym, ap}
 use Rattle.std.specs.Prelude.{Some}
 use Rattle.cpupool.specs.declared.moves.Move.{Move}
-use Rattle.pool_slots.specs.Places.{state_of}
+use Rattle.machine_parts.specs.Places.{state_of}
 use Rattle.hall.proofs.Handing.{domain-handed, domain-moves}
 use Rattle.hall.proofs.whole.domain_move.Goals as goal
 use Rattle.hall.proofs.whole.domain_move.Goals.{in_default-via-in-Some+in_default, in_default-via-in_default}

@@ -3,9 +3,9 @@ use Rattle.std.specs.Prelude.{Option, slice_index_or, slice_set}
 use Rattle.arrayvec.proofs.ArrayVecLemmas.{items-with_items}
 use Rattle.cpupool.specs.Tool.{tool_of}
 use Rattle.pool_core.specs.Seen.{Seen as PoolSeen}
-use Rattle.pool_slots.specs.Places.{state_of}
-use Rattle.pool_slots.specs.Told.{told_of}
-use Rattle.pool_slots.proofs.Stepping.{few-pools}
+use Rattle.machine_parts.specs.Places.{state_of}
+use Rattle.machine_parts.specs.Told.{told_of}
+use Rattle.machine_parts.proofs.Stepping.{few-pools}
 use Rattle.hall.specs.declared.value.ToolKept.{ToolKept}
 use Rattle.hall.specs.SeatKnowledge.{KnowsPool}
 use Rattle.hall.proofs.Performing.{knows-changed, of-none, of-pool, place-read}

@@ -5,7 +5,7 @@ use Rattle.sched_model.specs.declared.action.Action.TheVariants.{DomMoved}
 use Rattle.sched_model.specs.Actions.{home_of_domain}
 use Rattle.sched_model.specs.Places.{at_place}
 use Rattle.pool_core.specs.Seen.{Seen}
-use Rattle.pool_slots.specs.Places.{state_of}
+use Rattle.machine_parts.specs.Places.{state_of}
 use Rattle.machine_parts.proofs.AtPlaces.{at-home, domain_below, no-home, no-number, number-of, told-there}
 use Rattle.machine_parts.proofs.first.domain_ready.Goals as goal
 

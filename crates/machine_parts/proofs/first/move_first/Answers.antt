@@ -5,7 +5,7 @@ use Rattle.journal_core.specs.Parts.{core_to, under_way_of}
 use Rattle.cpupool.specs.Tool.{Tool}
 use Rattle.cpupool.specs.declared.moves.Move.{Move}
 use Rattle.cpupool.specs.declared.moves.Move.TheVariants as move
-use Rattle.pool_slots.specs.Places.{state_of}
+use Rattle.machine_parts.specs.Places.{state_of}
 use Rattle.machine_parts.proofs.Moving.{core-way, joining-first, leaving-first}
 use Rattle.machine_parts.proofs.first.move_first.Goals as goal
 

@@ -3,9 +3,9 @@ use Rattle.std.specs.Prelude.{Option, None, Some}
 use Rattle.sched_model.specs.declared.action.Action.{Action}
 use Rattle.sched_model.specs.declared.state.State.{State}
 use Rattle.sched_model.specs.Machine.{first_enabled}
-use Rattle.actor_laws.specs.First.{ArePoolsFirsts, IsEarliest, tool_first}
-use Rattle.pool_slots.specs.Places.{state_of}
-use Rattle.pool_slots.proofs.Going.{state_of-is}
+use Rattle.composition_laws.specs.WholeFirst.{ArePoolsFirsts, IsEarliest, tool_first}
+use Rattle.machine_parts.specs.Places.{state_of}
+use Rattle.machine_parts.proofs.Going.{state_of-is}
 use Rattle.machine_parts.proofs.Firsts.{pools-firsts}
 use Rattle.machine_parts.proofs.first.whole_first.Goals as goal
 

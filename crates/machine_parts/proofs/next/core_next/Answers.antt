@@ -4,7 +4,7 @@ use Rattle.std.specs.Prelude.{Option, None, Some}
 use Rattle.sched_model.specs.Actions.{home_of_core}
 use Rattle.sched_model.specs.Places.{at_place}
 use Rattle.pool_core.specs.Seen.{Seen}
-use Rattle.pool_slots.specs.Places.{state_of}
+use Rattle.machine_parts.specs.Places.{state_of}
 use Rattle.machine_parts.proofs.AtPlaces.{core_below, leaves-nowhere, leaves-there, no-number, number-of}
 use Rattle.machine_parts.proofs.next.core_next.Goals as goal
 

@@ -7,11 +7,10 @@ use Rattle.sched_model.specs.CheckedMachine.{most_span}
 use Rattle.sched_model.specs.Machine.{first_enabled}
 use Rattle.journal_core.specs.Parts.{under_way_of}
 use Rattle.core_state.specs.Firsts.{earlier_moment}
-use Rattle.cpupool.specs.ToolActions.{tool_may_act}
-use Rattle.cpupool.specs.Dues.{IsLeastLater}
-use Rattle.actor_laws.specs.Next.{ArePoolsNexts, IsSoonest, IsWholeNext, leaving_at, number_within}
-use Rattle.pool_slots.specs.Places.{state_of}
-use Rattle.pool_slots.proofs.Going.{early, state_of-is}
+use Rattle.journal_core.specs.ToolActions.{tool_may_act, IsLeastLater}
+use Rattle.composition_laws.specs.WholeNext.{ArePoolsNexts, IsSoonest, IsWholeNext, leaving_at, number_within}
+use Rattle.machine_parts.specs.Places.{state_of}
+use Rattle.machine_parts.proofs.Going.{early, state_of-is}
 use Rattle.machine_parts.proofs.Firsts.{pools-nexts}
 use Rattle.machine_parts.proofs.Soonest.{sooner_more}
 use Rattle.machine_parts.proofs.next.whole_next.Goals as goal

@@ -2,7 +2,7 @@ use Rattle.std.proofs.Common.{◌-◌, List, length, take, drop, get_or, subst, 
 use Rattle.std.specs.Prelude.{Option, None}
 use Rattle.sched_base.specs.declared.Moment.{Moment}
 use Rattle.core_state.specs.Firsts.{earlier_moment}
-use Rattle.actor_laws.specs.Next.{IsSoonest}
+use Rattle.composition_laws.specs.WholeNext.{IsSoonest}
 use Rattle.machine_parts.proofs.Ranking.{first-and-rest}
 use Rattle.machine_parts.proofs.Soonest.{sooner_more}
 use Rattle.machine_parts.proofs.order.+soonest.Goals as goal

@@ -2,7 +2,7 @@ use Rattle.std.proofs.Common.{◌≡◌, ℕ, List, length, drop, get_or, ap, su
 use Rattle.std.specs.Prelude.{Option, Some, None}
 use Rattle.std.proofs.Math.Seq.{drop-length}
 use Rattle.sched_model.specs.declared.action.Action.{Action}
-use Rattle.actor_laws.specs.First.{IsEarliest}
+use Rattle.composition_laws.specs.WholeFirst.{IsEarliest}
 use Rattle.machine_parts.specs.Ranks.{IsSmall}
 use Rattle.machine_parts.proofs.Ranking.{nothing_more, one_before, one_more}
 use Rattle.machine_parts.proofs.order.earliest.Goals as goal

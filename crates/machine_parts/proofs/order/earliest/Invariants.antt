@@ -1,5 +1,5 @@
 use Rattle.std.proofs.Common.{◌≤◌, length, drop}
-use Rattle.actor_laws.specs.First.{IsEarliest}
+use Rattle.composition_laws.specs.WholeFirst.{IsEarliest}
 use Rattle.machine_parts.proofs.order.earliest.Given as goal
 
 -- of those from the place on the earliest was found

@@ -1,6 +1,6 @@
 use Rattle.std.proofs.Common.{sym, subst}
 use Rattle.sched_model.specs.declared.action.Actor.{Actor}
-use Rattle.pool_core.specs.Actors.{IsFirstBy}
+use Rattle.pool_laws.specs.Actors.{IsFirstBy}
 use Rattle.pool_core.specs.Seen.{pool_of}
 use Rattle.pool_core.proofs.actors.enabled_for.Goals as goal
 

@@ -2,7 +2,8 @@ use Rattle.std.proofs.Common.{ℕ, subst, arith}
 use Rattle.std.specs.Prelude.{Some}
 use Rattle.sched_model.specs.declared.action.Actor.TheVariants.{Proc}
 use Rattle.sched_model.specs.declared.state.Pool.{Pool}
-use Rattle.pool_core.specs.Actors.{IsFirstByIn, is_by}
+use Rattle.pool_core.specs.Order.{IsFirstByIn}
+use Rattle.pool_laws.specs.Actors.{is_by}
 use Rattle.pool_core.specs.Seen.{pool_of}
 use Rattle.pool_core.proofs.ByActor.{of_all}
 use Rattle.pool_core.proofs.actors.first_of_leader.Goals as goal

@@ -1,7 +1,7 @@
 use Rattle.std.proofs.Common.{◌<◌, ◌∙◌, ◌*◌, ℕ, sym, ap, subst}
 use Rattle.sched_model.specs.declared.action.Actor.TheVariants.{Proc}
 use Rattle.sched_model.specs.declared.state.Pool.{Pool}
-use Rattle.pool_core.specs.Actors.{IsFirstByIn}
+use Rattle.pool_core.specs.Order.{IsFirstByIn}
 use Rattle.sched_laws.proofs.SiblingsLaw.{some_processor}
 use Rattle.pool_core.specs.Seen.{pool_of}
 use Rattle.pool_core.proofs.ByActor.{block_first, slice_first, timer_first}

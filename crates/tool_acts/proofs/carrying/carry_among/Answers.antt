@@ -3,7 +3,7 @@ use Rattle.std.specs.Prelude.{None, Some, slice_set}
 use Rattle.sched_base.specs.declared.PoolId.{PoolId}
 use Rattle.sched_model.specs.Commands.{pool_of_plan}
 use Rattle.sched_laws.proofs.Lists.{same_read, some_same}
-use Rattle.pool_slots.specs.Places.{state_of}
+use Rattle.machine_parts.specs.Places.{state_of}
 use Rattle.machine_parts.proofs.AtPlaces.{number-of}
 use Rattle.tool_acts.specs.CarriedPlans.{HasCarried}
 use Rattle.tool_acts.proofs.Carried.{has-carried}

@@ -1,6 +1,6 @@
 use Rattle.std.proofs.Common.{subst}
-use Rattle.pool_slots.specs.Places.{StandsAt}
-use Rattle.pool_slots.proofs.Fitting.{now-here}
+use Rattle.machine_parts.specs.Places.{StandsAt}
+use Rattle.machine_parts.proofs.Fitting.{now-here}
 use Rattle.tool_acts.proofs.Taking.{slot-there, takes-plan}
 use Rattle.tool_acts.proofs.carrying.carry_kept.Goals as goal
 

@@ -1,4 +1,4 @@
-use Rattle.pool_slots.specs.Places.{state_of}
+use Rattle.machine_parts.specs.Places.{state_of}
 use Rattle.tool_acts.proofs.Spared.{spares-on}
 use Rattle.tool_acts.proofs.commands.accept.Goals as goal
 

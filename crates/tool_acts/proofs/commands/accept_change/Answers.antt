@@ -3,7 +3,7 @@ use Rattle.std.specs.Option.{ForSome}
 use Rattle.sched_base.specs.declared.PoolId.{PoolId}
 use Rattle.cpupool.specs.ToolAdvance.{after_advance}
 use Rattle.cpupool.specs.Tool.{Tool}
-use Rattle.pool_slots.specs.Places.{state_of}
+use Rattle.machine_parts.specs.Places.{state_of}
 use Rattle.tool_acts.specs.CarriedPlans.{HasCarried}
 use Rattle.tool_acts.proofs.Carried.{parts-changed}
 use Rattle.tool_acts.proofs.Spared.{advanced-is, is-idle, pools-kept}

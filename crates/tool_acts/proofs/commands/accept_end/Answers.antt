@@ -2,7 +2,7 @@ use Rattle.std.proofs.Common.{subst}
 use Rattle.std.specs.Prelude.{Option}
 use Rattle.std.specs.Option.{ForSome, IsSome}
 use Rattle.pool_core.specs.Seen.{Seen}
-use Rattle.pool_slots.specs.Places.{state_of}
+use Rattle.machine_parts.specs.Places.{state_of}
 use Rattle.tool_acts.specs.MadePools.{MayGo}
 use Rattle.tool_acts.proofs.Spared.{gone-below, gone-may, gone-read, gone-slot, is-idle, is-left, parts-gone, spares-gone}
 use Rattle.tool_acts.proofs.Stalling.{stands-read}

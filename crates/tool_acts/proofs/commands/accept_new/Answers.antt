@@ -1,5 +1,5 @@
 use Rattle.std.proofs.Common.{◌∙◌, sym}
-use Rattle.pool_slots.specs.Places.{state_of}
+use Rattle.machine_parts.specs.Places.{state_of}
 use Rattle.tool_acts.proofs.Spared.{is-idle, is-left, new-below, new-empty, new-read, new-spare, parts-new, spares-new}
 use Rattle.tool_acts.proofs.commands.accept_new.Goals as goal
 

@@ -3,7 +3,7 @@ use Rattle.std.specs.Prelude.{Err, Some, slice_get}
 use Rattle.std.proofs.lemmas.Option.{slice_get_within}
 use Rattle.cpupool.specs.Tool.{Tool}
 use Rattle.sched_model.specs.Machine.{verdict}
-use Rattle.pool_slots.specs.Places.{state_of}
+use Rattle.machine_parts.specs.Places.{state_of}
 use Rattle.tool_acts.proofs.Carried.{answer-is, parts-refused, parts-told, told-answer}
 use Rattle.tool_acts.proofs.Spared.{few-commands, is-idle, spares-on}
 use Rattle.tool_acts.proofs.commands.command_at.Goals as goal

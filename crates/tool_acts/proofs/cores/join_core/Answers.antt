@@ -10,7 +10,7 @@ use Rattle.journal_core.specs.Parts.{core_to}
 use Rattle.cpupool.specs.ToolArrival.{but_for_free}
 use Rattle.cpupool.specs.Tool.{Tool, tool_of}
 use Rattle.pool_core.specs.Seen.{Seen, seen_at, with_core}
-use Rattle.pool_slots.specs.Places.{state_of}
+use Rattle.machine_parts.specs.Places.{state_of}
 use Rattle.tool_acts.proofs.CoreMoves.{acted-joins, counts-joins, ends-it, event-joins, free-there, joins-absent, joins-now, joins-place, joins-siblings, stands-joined}
 use Rattle.tool_acts.proofs.cores.join_core.Goals as goal
 use Rattle.tool_acts.proofs.cores.join_core.Goals.{After-move_done}

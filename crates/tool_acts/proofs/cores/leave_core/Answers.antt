@@ -7,7 +7,7 @@ use Rattle.sched_model.specs.Places.{at_place, put_at}
 use Rattle.journal_core.specs.Parts.{core_to}
 use Rattle.cpupool.specs.ToolArrival.{but_for_free}
 use Rattle.cpupool.specs.Tool.{Tool, tool_of}
-use Rattle.pool_slots.specs.Places.{state_of}
+use Rattle.machine_parts.specs.Places.{state_of}
 use Rattle.tool_acts.proofs.CoreMoves.{acted-leaves, counts-leaves, ends-it, event-leaves, has-pool, leaves-now, leaves-ready, none-free, place-free, stands-left}
 use Rattle.tool_acts.proofs.cores.leave_core.Goals as goal
 use Rattle.tool_acts.proofs.cores.leave_core.Goals.{After-move_done}

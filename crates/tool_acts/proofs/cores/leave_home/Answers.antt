@@ -1,7 +1,7 @@
 use Rattle.std.proofs.Common.{◌≡◌, ◌<◌, ◌∙◌, length, refl, sym}
 use Rattle.std.specs.Prelude.{Some}
 use Rattle.sched_model.specs.Actions.{home_of_core}
-use Rattle.pool_slots.specs.Places.{state_of}
+use Rattle.machine_parts.specs.Places.{state_of}
 use Rattle.machine_parts.proofs.AtPlaces.{core_below, number-of}
 use Rattle.tool_acts.specs.Acts.{told_event}
 use Rattle.tool_acts.proofs.Acting.{parts-on}

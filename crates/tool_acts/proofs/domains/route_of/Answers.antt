@@ -3,7 +3,7 @@ use Rattle.std.specs.Prelude.{Some, option_map}
 use Rattle.cpupool.specs.Steps.{move_of}
 use Rattle.cpupool.specs.declared.moves.Move.{Move}
 use Rattle.cpupool.specs.declared.moves.Move.TheVariants as move
-use Rattle.pool_slots.specs.Places.{state_of}
+use Rattle.machine_parts.specs.Places.{state_of}
 use Rattle.machine_parts.proofs.AtPlaces.{no-number, number-of}
 use Rattle.tool_acts.proofs.DomainMoves.{domain-told, home-told, route-is}
 use Rattle.tool_acts.proofs.domains.route_of.Goals as goal

@@ -2,7 +2,7 @@ use Rattle.std.proofs.Common.{◌≡◌, ◌/◌, ◌<◌, length, refl, arith}
 use Rattle.std.specs.Prelude.{option_map}
 use Rattle.sched_base.specs.Numbers.{pool as pool_number}
 use Rattle.sched_model.specs.Actions.{home_of_core}
-use Rattle.pool_slots.specs.Places.{state_of}
+use Rattle.machine_parts.specs.Places.{state_of}
 use Rattle.tool_acts.specs.Acts.{told_event}
 use Rattle.tool_acts.proofs.Acting.{parts-alone}
 use Rattle.tool_acts.proofs.Stalling.{counted_state, line-left, next-below, next-in, next-none, some-processor, stall-counts-in, stall-counts-none, stall-parts-in, stands-read, taken-is, taken-known}

@@ -2,7 +2,7 @@ use Rattle.std.proofs.Common.{◌≡◌, ◌∙◌, ap, ap₂, sym}
 use Rattle.sched_model.specs.declared.facts.Facts.{Facts}
 use Rattle.sched_model.specs.declared.facts.Subject.{Subject}
 use Rattle.cpupool.specs.Facts.{facts_of, rate_at, stored_at}
-use Rattle.pool_slots.specs.Places.{state_of}
+use Rattle.machine_parts.specs.Places.{state_of}
 use Rattle.cpupool.proofs.FactLemmas.{facts-kept}
 use Rattle.tool_acts.proofs.Judgement.{recorded}
 use Rattle.tool_acts.proofs.verdicts.judged.Goals as goal

@@ -2,8 +2,8 @@ use Rattle.std.proofs.Common.{◌≡◌, ◌∙◌, ℕ, ap, sym, subst}
 use Rattle.std.specs.Prelude.{Option}
 use Rattle.sched_base.specs.declared.Moment.{Moment}
 use Rattle.cpupool.specs.Tool.{Tool}
-use Rattle.cpupool.specs.Dues.{IsLeastLater, is_anything_due}
-use Rattle.cpupool.specs.ToolActions.{tool_may_act}
+use Rattle.cpupool.specs.Dues.{is_anything_due}
+use Rattle.journal_core.specs.ToolActions.{IsLeastLater, tool_may_act}
 use Rattle.cpupool.proofs.DueLemmas.{soonest_least, same_least}
 use Rattle.cpupool.proofs.ComingLemmas.{act-seen}
 use Rattle.cpupool.proofs.tool.ToolState.next_due.Goals as goal

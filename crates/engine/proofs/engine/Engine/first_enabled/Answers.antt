@@ -1,6 +1,6 @@
 use Rattle.std.proofs.Common.{◌∙◌, ap}
 use Rattle.sched_model.specs.Machine.{first_enabled}
-use Rattle.pool_slots.specs.Places.{state_of}
+use Rattle.machine_parts.specs.Places.{state_of}
 use Rattle.sched_model.specs.Standing.{Standing}
 use Rattle.std.proofs.Common.{List, sym, subst}
 use Rattle.std.specs.Prelude.{Option, take}

@@ -2,7 +2,7 @@ use Rattle.std.proofs.Common.{◌≡◌, ◌∙◌, List, sym, ap, subst}
 use Rattle.std.specs.Prelude.{Option, None}
 use Rattle.sched_base.specs.declared.Moment.{Moment}
 use Rattle.sched_model.specs.Machine.{first_enabled}
-use Rattle.pool_slots.specs.Places.{state_of}
+use Rattle.machine_parts.specs.Places.{state_of}
 use Rattle.pool_core.specs.Seen.{Seen}
 use Rattle.machine_parts.specs.Parts.{AreNexts}
 use Rattle.sched_model.specs.Standing.{Standing}

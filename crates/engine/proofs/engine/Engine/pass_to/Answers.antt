@@ -4,7 +4,7 @@ use Rattle.sched_model.specs.declared.action.Action.{Action}
 use Rattle.sched_model.specs.Machine.{first_enabled, next_in_horizon}
 use Rattle.machine_parts.specs.Parts.{AreFirsts}
 use Rattle.pool_core.specs.Seen.{Seen}
-use Rattle.pool_slots.specs.Places.{state_of}
+use Rattle.machine_parts.specs.Places.{state_of}
 use Rattle.engine.specs.EngineState.{IsIdleFrom, IsRunning}
 use Rattle.sched_model.specs.Standing.{Standing}
 use Rattle.engine.proofs.Kept.{written}

@@ -1,7 +1,7 @@
 use Rattle.std.proofs.Common.{◌≡◌, ◌∙◌, ℕ, sym, ap}
 use Rattle.std.specs.Prelude.{None, Some, option_map}
 use Rattle.sched_base.specs.Numbers.{pool as pool_number}
-use Rattle.pool_slots.specs.Places.{state_of}
+use Rattle.machine_parts.specs.Places.{state_of}
 use Rattle.machine_parts.specs.Parts.{pool_of_event}
 use Rattle.sched_model.specs.Standing.{Standing}
 use Rattle.machine_parts.proofs.Performing.{first-comes}

@@ -2,7 +2,7 @@ use Rattle.std.proofs.Common.{◌≡◌, ◌∙◌, true, List, length, sym, ap,
 use Rattle.std.specs.Prelude.{Option}
 use Rattle.sched_model.specs.Machine.{after, is_enabled}
 use Rattle.pool_core.specs.Seen.{Seen}
-use Rattle.pool_slots.specs.Places.{state_of}
+use Rattle.machine_parts.specs.Places.{state_of}
 use Rattle.engine.specs.EngineState.{AreKept, IsIdleFrom}
 use Rattle.sched_model.specs.Standing.{Standing}
 use Rattle.engine.proofs.Clock.{now-done, standing-done}

@@ -5,8 +5,8 @@ use Rattle.sched_model.specs.declared.action.Action.{Action}
 use Rattle.sched_model.specs.Machine.{is_enabled}
 use Rattle.sched_model.specs.Places.{at_place}
 use Rattle.pool_core.specs.Seen.{Seen}
-use Rattle.pool_slots.specs.Places.{state_of}
-use Rattle.pool_slots.proofs.Stepping.{few-pools}
+use Rattle.machine_parts.specs.Places.{state_of}
+use Rattle.machine_parts.proofs.Stepping.{few-pools}
 use Rattle.machine_parts.specs.Parts.{IsFirstOfPlace, IsNextOfPlace, pool_of_event}
 use Rattle.engine.specs.EngineState.{IsIdleFrom, IsRunning}
 use Rattle.sched_model.specs.Standing.{Standing}

@@ -3,8 +3,8 @@ use Rattle.std.specs.Prelude.{Option, None, Some}
 use Rattle.sched_model.specs.declared.action.Action.{Action}
 use Rattle.sched_model.specs.Machine.{first_enabled, next_in_horizon}
 use Rattle.pool_core.specs.Seen.{Seen as PoolSeen}
-use Rattle.pool_slots.specs.Places.{state_of}
-use Rattle.pool_slots.specs.Told.{Told, told_of}
+use Rattle.machine_parts.specs.Places.{state_of}
+use Rattle.machine_parts.specs.Told.{Told, told_of}
 use Rattle.journal_core.specs.Books.{Chronicle}
 use Rattle.machine_parts.specs.Parts.{AreNexts, AreParts}
 use Rattle.hall.specs.declared.value.ToolKept.{ToolKept}

@@ -4,8 +4,8 @@ use Rattle.sched_model.specs.declared.event.Event.{Event}
 use Rattle.sched_model.specs.Runs.{action_of}
 use Rattle.journal_core.specs.Books.{Chronicle}
 use Rattle.machine_parts.proofs.Performing.{first-comes}
-use Rattle.pool_slots.specs.Places.{state_of}
-use Rattle.pool_slots.specs.Told.{told_of}
+use Rattle.machine_parts.specs.Places.{state_of}
+use Rattle.machine_parts.specs.Told.{told_of}
 use Rattle.hall.specs.Seats.{IsCountBefore}
 use Rattle.hall.proofs.Calls.{adds-event}
 use Rattle.hall.proofs.Parting.{now-held}

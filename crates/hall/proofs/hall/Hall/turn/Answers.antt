@@ -5,9 +5,9 @@ use Rattle.sched_model.specs.Machine.{first_enabled}
 use Rattle.journal_core.specs.Books.{Chronicle}
 use Rattle.journal_core.specs.Histories.{now_at, reached_by}
 use Rattle.pool_core.specs.Seen.{Seen as PoolSeen}
-use Rattle.pool_slots.specs.Places.{state_of}
-use Rattle.pool_slots.specs.Told.{Told, told_of}
-use Rattle.pool_slots.proofs.Going.{now_of-is}
+use Rattle.machine_parts.specs.Places.{state_of}
+use Rattle.machine_parts.specs.Told.{Told, told_of}
+use Rattle.machine_parts.proofs.Going.{now_of-is}
 use Rattle.machine_parts.specs.Parts.{AreParts}
 use Rattle.lock_moves.specs.Sets.{LockTable}
 use Rattle.hall.specs.declared.value.ToolKept.{ToolKept}

@@ -6,7 +6,7 @@ use Rattle.sched_model.specs.declared.state.RtdsUnit.{RtdsUnit}
 use Rattle.sched_model.specs.Policy.{kind_of}
 use Rattle.sched_ops.specs.Seen.{Seen}
 use Rattle.sched_ops.specs.Conditions.{IsChange}
-use Rattle.sched_ranges.proofs.Rtds.{rtds_set}
+use Rattle.state_ranges.proofs.Rtds.{rtds_set}
 use Rattle.rtds_core.specs.RtdsParts.{IsKept, seen_of}
 use Rattle.rtds_core.proofs.Keeping.{queued_like}
 use Rattle.rtds_core.proofs.Steps.{kept_later, kept_like}

@@ -1,6 +1,6 @@
 use Rattle.std.proofs.Common.{◌≡◌, Some, sym}
 use Rattle.sched_model.specs.EligibleUnits.{rtds_unit}
-use Rattle.sched_ranges.proofs.Rtds.{fit_unit}
+use Rattle.state_ranges.proofs.Rtds.{fit_unit}
 use Rattle.rtds_core.proofs.state.RtdsState.stored.Goals as goal
 
 pub returns-in-Some-clause-range : goal.returns-in-Some-clause-range

@@ -1,0 +1,11 @@
+pub mod Faces
+pub mod PoolSteps
+pub mod Moves
+pub mod OrderLaws
+pub mod EntryLaws
+pub mod ToolSteps
+pub mod ListedNames
+pub mod Plans
+pub mod WholeFirst
+pub mod WholeNext
+pub mod Actors

@@ -1,0 +1,10 @@
+pub mod Steady
+pub mod Attaching
+pub mod Guests
+pub mod Parameters
+pub mod Pinning
+pub mod Joining
+pub mod Restart
+pub mod Placing
+pub mod Tallying
+pub mod Stocking

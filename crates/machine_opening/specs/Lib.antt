@@ -1,0 +1,3 @@
+pub mod OpeningPool
+pub mod OpenedPool
+pub mod OpeningShelves

@@ -1,0 +1,11 @@
+use Rattle.std.proofs.Common.{refl, sym, subst}
+use Rattle.pool_core.specs.Seen.{Seen, with_stall}
+use Rattle.machine_parts.specs.Rooms.{IsPlaced}
+use Rattle.machine_parts.proofs.Rooming.{placed-still, some-out}
+use Rattle.machine_parts.proofs.slot.PoolSlot.stall.Goals as goal
+
+pub invariant_of-self-2 : goal.invariant_of-self-2
+invariant_of-self-2 c x is =
+    let d : Seen = c.deref_mut.result.now in
+    let placed : IsPlaced d = subst IsPlaced (sym c.deref_mut.ensures.value) (c.self.invariant c.in-Some.pool c.in-Some.is) in
+    some-out (λ b. IsPlaced b.value) _ x is (subst IsPlaced (sym c.stall.ensures.after) (placed-still d (with_stall d.granularity c.args.p.0 c.stall.result d.pool) refl placed))

@@ -1,0 +1,34 @@
+//! The places of all pools of a machine, of which one acts.
+
+ghost use Rattle.std.specs.Prelude.{◌≡◌, ◌≢◌, ℕ, true, Some};
+ghost use Rattle.sched_model.specs.Actions.{IsOfPool, home_of};
+ghost use Rattle.sched_model.specs.Machine.{is_enabled, event_of, after};
+ghost use Rattle.sched_model.specs.Places.{at_place};
+ghost use Rattle.machine_parts.specs.Told.{told_more};
+ghost use Rattle.machine_parts.specs.Places.{AllStand, GoesOn, HasStepped, state_of};
+
+use crate::slot::PoolSlot;
+use crate::trail::Trail;
+use sched_base::Moment;
+use sched_model::action::Action;
+use sched_model::event::Event;
+
+/// An event of the pool i, where each of the 16 places is the part of its number in the machine, which stands where the trail leads. After
+/// it all places stand where the trail leads with the entry added, and the other places are as they were.
+pub fn perform_among(slots: &mut [PoolSlot], at: &Trail, i: u8, action: Action, t: Moment) -> Event
+    requires goes { GoesOn at.now }
+    requires now { t.0 ≡ (state_of at.now).now }
+    requires stand { AllStand at.now slots.old }
+    requires own { IsOfPool action }
+    requires enabled { is_enabled at.now.input (state_of at.now) (state_of at.now).now action
+        ≡ true }
+    requires home { home_of at.now.input.config.granularity (state_of at.now) action ≡ Some i }
+    ensures event { result ≡ event_of at.now.input (state_of at.now) (state_of at.now).now action }
+    ensures state { state_of (told_more at.now (record { at = t; event = result }))
+        ≡ after at.now.input (state_of at.now) (state_of at.now).now action }
+    ensures step { HasStepped at.now i (told_more at.now (record { at = t; event = result })) }
+    ensures stand { AllStand (told_more at.now (record { at = t; event = result })) slots.new }
+    ensures others { (k : ℕ) → k ≢ i → at_place slots.new k ≡ at_place slots.old k }
+{
+    slots[i as usize].perform(at, i, action, t)
+}

@@ -1,3 +1,0 @@
-pub mod Faces
-pub mod Steps
-pub mod Moves

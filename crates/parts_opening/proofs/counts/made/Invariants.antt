@@ -1,6 +1,0 @@
-use Rattle.std.proofs.Common.{◌≡◌, ◌≤◌, take}
-use Rattle.pool_slots.specs.Counts.{made_by}
-use Rattle.parts_opening.proofs.counts.made.Given as goal
-
-abbrev pub invariant-loop-line : goal.invariant-loop-line
-invariant-loop-line l = (l.count ≡ made_by l.kind (take l.line-index l.lines)) × (l.count ≤ l.line-index)

@@ -1,6 +1,0 @@
-use Rattle.std.proofs.Common.{◌≡◌}
-use Rattle.parts_opening.specs.OpeningShelves.{filled_shelves}
-use Rattle.parts_opening.proofs.spares.fill.Given as goal
-
-abbrev pub invariant-loop-i : goal.invariant-loop-i
-invariant-loop-i l = l.spares ≡ filled_shelves l.config l.kind l.i l.fn.spares

@@ -1,2 +1,0 @@
-pub mod OpeningPool
-pub mod OpeningShelves

@@ -1,5 +1,0 @@
-use Rattle.pool_opening.proofs.Joining.{IsBetween}
-use Rattle.pool_opening.proofs.domains.join_all.Given as goal
-
-abbrev pub invariant-loop-d : goal.invariant-loop-d
-invariant-loop-d g l = IsBetween l.config l.i l.home l.d l.initial.pool l.pool

@@ -1,0 +1,80 @@
+-- A search for a newline parts the bytes, and a text that begins with a line is parted in one way alone.
+use Rattle.std.proofs.Common.{◌≡◌, ◌≢◌, ℕ, suc, ◌+◌, ◌<◌, Bool, true, false, List, [], ◌∷◌, ◌++◌, Some, None, length, take, drop, refl, sym, ap, ◌∙◌, cond, arith, nat_lt, ◌==◌, subst, get_or, add-one, append_assoc}
+use Rattle.std.proofs.lemmas.Bool.{ltb-false, eqb-true}
+use Rattle.std.proofs.lemmas.List.{get_or-take, take-append-drop, length-take}
+use Rattle.std.proofs.Math.Seq.{drop-cons}
+use Rattle.std.specs.List.{position, position_or_len}
+use Rattle.std.proofs.lemmas.List.Sums.{fails_before_first}
+use Rattle.std.proofs.lemmas.List.Quantifiers.{position-Some}
+use Rattle.std.proofs.lemmas.List.Elements.{All-head, All-tail}
+use Rattle.sched_model.specs.declared.event.Entry.{Entry}
+use Rattle.sched_print.specs.Line.{words, line}
+use Rattle.sched_print.proofs.Texts.{lines_are_lines}
+use Rattle.sched_check.specs.Lines.{HasNone, IsParted}
+
+abbrev is_newline : ℕ → Bool
+is_newline b = b == 10
+
+not_newline : (b : ℕ) → is_newline b ≡ false → b ≢ 10
+not_newline b is_not same =
+    let bad : is_newline 10 ≡ false = subst (λ (z : ℕ). is_newline z ≡ false) same is_not in
+    cc
+
+none_by_test : (bytes : List ℕ) (found : Bool) → found ≡ nat_lt (position_or_len is_newline bytes) (length bytes) → cond found (Some (position_or_len is_newline bytes)) None ≡ None → HasNone bytes
+none_by_test bytes true e is = absurd (cc)
+none_by_test bytes false e is =
+    let past = ltb-false _ _ (sym e) in
+    λ k d l. not_newline (get_or bytes k d) (fails_before_first is_newline bytes k d (omega arith))
+
+-- where none is found, there is none
+pub found_none : (bytes : List ℕ) → position is_newline bytes ≡ None → HasNone bytes
+found_none bytes is = none_by_test bytes _ refl is
+
+-- the first one parts the bytes
+pub found_some : (bytes : List ℕ) (i : ℕ) → position is_newline bytes ≡ Some i → IsParted bytes (take i bytes) (drop (i + 1) bytes)
+found_some bytes i is =
+    let found = position-Some is_newline bytes i 0 is in
+    let at : get_or bytes i 0 ≡ 10 = eqb-true (get_or bytes i 0) 10 found.1 in
+    let behind : drop i bytes ≡ 10 ∷ drop (i + 1) bytes =
+    drop-cons bytes i 0 found.0 ∙ ap (λ (z : ℕ). z ∷ drop (suc i) bytes) at ∙ ap (λ (n : ℕ). 10 ∷ drop n bytes) (sym (add-one i)) in
+    record {
+      parts = sym (take-append-drop i bytes) ∙ ap (λ (z : List ℕ). take i bytes ++ z) behind;
+      inner = λ k d below.
+          let inside : k < i = omega (arith, below, length-take i bytes) in
+          not_newline (get_or (take i bytes) k d)
+          (ap is_newline (get_or-take i bytes k d inside) ∙ (position-Some is_newline bytes i d is).2 k inside);
+    }
+
+head_not : (b : ℕ) (bytes : List ℕ) → HasNone (b ∷ bytes) → b ≢ 10
+head_not b bytes h = All-head (λ z. z ≢ 10) b bytes h
+
+tail_none : (b : ℕ) (bytes : List ℕ) → HasNone (b ∷ bytes) → HasNone bytes
+tail_none b bytes h = All-tail (λ z. z ≢ 10) b bytes h
+
+-- two fronts without a newline before a newline are the same
+pub same_parts : (a b x y : List ℕ) → HasNone a → HasNone b → a ++ 10 ∷ x ≡ b ++ 10 ∷ y → (a ≡ b) × (x ≡ y)
+same_parts [] [] x y ha hb e = (refl, cc)
+same_parts [] (c ∷ b) x y ha hb e = absurd (head_not c b hb cc)
+same_parts (c ∷ a) [] x y ha hb e = absurd (head_not c a ha cc)
+same_parts (c ∷ a) (d ∷ b) x y ha hb e =
+    let first : c ≡ d = cc in
+    let rest = same_parts a b x y (tail_none c a ha) (tail_none d b hb) cc in
+    (let same : a ≡ b = rest.0 in cc, rest.1)
+
+-- a newline stands in a line with what follows it
+pub none_is_no_line : (front more : List ℕ) → HasNone (front ++ 10 ∷ more) → ⊥
+none_is_no_line [] more h = head_not 10 more h refl
+none_is_no_line (b ∷ front) more h = none_is_no_line front more (tail_none b (front ++ 10 ∷ more) h)
+
+pub nothing_is_no_line : (front more : List ℕ) → front ++ 10 ∷ more ≡ [] → ⊥
+nothing_is_no_line [] more e = cc
+nothing_is_no_line (b ∷ front) more e = cc
+
+-- a line with what follows it
+pub line_then : (e : Entry) (more : List ℕ) → line e ++ more ≡ words e ++ 10 ∷ more
+line_then e more = append_assoc (words e) (10 ∷ []) more
+
+-- what begins with a line is parted into its words and what follows
+pub parted_line : (rest front more : List ℕ) (e : Entry) (others : List ℕ) → IsParted rest front more → rest ≡ line e ++ others → (front ≡ words e) × (more ≡ others)
+parted_line rest front more e others parted same =
+    same_parts front (words e) more others parted.inner (lines_are_lines e) (sym parted.parts ∙ same ∙ line_then e others)

@@ -1,4 +1,0 @@
-pub mod Newlines
-pub mod NoRun
-pub mod SoFarLemmas
-pub mod OneVerdict

@@ -1,5 +1,0 @@
-use Rattle.sched_verdict.proofs.NoRun.{no_is_no_run}
-use Rattle.sched_verdict.proofs.laws.no_is_no_run.Goals as goal
-
-pub returns : goal.returns
-returns c = no_is_no_run

@@ -1,5 +1,0 @@
-use Rattle.sched_verdict.proofs.OneVerdict.{one_verdict}
-use Rattle.sched_verdict.proofs.laws.one_verdict.Goals as goal
-
-pub returns : goal.returns
-returns c = one_verdict

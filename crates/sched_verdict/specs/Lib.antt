@@ -1,4 +1,0 @@
-pub mod Lines
-pub mod Verdict
-pub mod Laws
-pub mod VerdictText

@@ -1,0 +1,5 @@
+pub mod Ranges
+pub mod Fits
+pub mod Budgets
+pub mod Records
+pub mod Counts
