@@ -38,13 +38,13 @@ macro_rules! call {
 
 impl AnyPolicy {
     ghost use Rattle.std.specs.Prelude.{◌≡◌};
-    ghost use Rattle.sched_model.specs.Policy.{kind_of};
+    ghost use Rattle.sched_model.specs.Policy.{records_kind};
     ghost use Rattle.sched_ops.specs.Seen.{bare_seen};
 
     /// The scheduler of this kind, with its default parameters. It has no domain and no place for one, and holds no memory yet.
     pub fn empty(kind: SchedKind) -> Self
         ensures seen { seen_of result ≡ bare_seen kind }
-        ensures kind { kind_of (seen_of result).scheduler.records ≡ kind }
+        ensures kind { records_kind (seen_of result).scheduler.records ≡ kind }
     {
         match kind {
             SchedKind::Credit2 => AnyPolicy::Credit2(Credit2::empty()),

@@ -8,8 +8,8 @@ use Rattle.sched_model.specs.declared.config.PoolParams.{PoolParams}
 use Rattle.sched_model.specs.declared.state.ArincRecords.{ArincRecords}
 use Rattle.sched_model.specs.declared.state.Records.{Records}
 use Rattle.sched_model.specs.declared.state.Records.TheVariants.{ArincPool}
-use Rattle.sched_model.specs.Places.{has_unit}
-use Rattle.sched_model.specs.Policy.{fresh_records}
+use Rattle.sched_model.specs.Places.{has_listed_unit}
+use Rattle.sched_model.specs.Policy.{empty_records}
 use Rattle.sched_laws.specs.RecordRanges.{IsFrame}
 use Rattle.sched_ops.specs.Conditions.{is_vacant}
 use Rattle.sched_ops.specs.Seen.{restarted_scheduler}
@@ -27,8 +27,8 @@ ready_installed frame t fits = record { frame = λ x e. (let same : frame ≡ x 
 
 -- a pool without domains, with a frame that is installed at 0
 pub begun_anew : (queue : List UnitId) (affinity : List (Option (List Cores))) (records : ArincRecords) (params : PoolParams) (frame : Option Frame)
-    → ((u : UnitId) → has_unit queue u ≡ true → is_member_among affinity u ≡ true) → is_vacant (scheduler_of queue affinity (ArincPool records)) ≡ true
-    → ((domains cores : ℕ) → fresh_records params domains cores ≡ ArincPool (record { frame = frame; installed = 0 }))
+    → ((u : UnitId) → has_listed_unit queue u ≡ true → is_member_among affinity u ≡ true) → is_vacant (scheduler_of queue affinity (ArincPool records)) ≡ true
+    → ((domains cores : ℕ) → empty_records params domains cores ≡ ArincPool (record { frame = frame; installed = 0 }))
     → scheduler_of queue affinity (ArincPool (record { frame = frame; installed = 0 })) ≡ restarted_scheduler params (scheduler_of queue affinity (ArincPool records))
 begun_anew queue affinity records params frame members vacant fresh =
     ap (λ (q : List UnitId). scheduler_of q affinity (ArincPool (record { frame = frame; installed = 0 }))) (queue_of_vacant queue affinity members vacant)

@@ -21,15 +21,15 @@ ghost use Rattle.std.specs.Prelude.{◌≡◌, ◌≤◌, ◌<◌, ℕ};
 ghost use Rattle.std.specs.Option.{ForSome};
 ghost use Rattle.sched_model.specs.declared.state.Records.TheVariants.{ArincPool};
 ghost use Rattle.sched_model.specs.declared.config.SchedKind.TheVariants.{Arinc653};
-ghost use Rattle.sched_model.specs.Arinc.{window_unit};
-ghost use Rattle.sched_model.specs.Policy.{better_waits, decision_of, fresh_records};
+ghost use Rattle.sched_model.specs.Arinc.{current_window_unit};
+ghost use Rattle.sched_model.specs.Policy.{has_better_waiting, decision_of, empty_records};
 ghost use Rattle.sched_model.specs.declared.state.ArincRecords.{ArincRecords as ArincRecord};
 ghost use Rattle.sched_laws.specs.RecordRanges.{IsFrame};
 ghost use Rattle.scheduler_records.specs.Parts.{scheduler_of};
 ghost use Rattle.sched_ops.specs.Conditions.{ArePoolParams};
 ghost use Rattle.sched_ops.specs.Seen.{Tells};
 ghost use Rattle.arinc_frame.specs.Frames.{IsPresent};
-ghost use Rattle.arinc_frame.specs.WaitingUnits.{awaited_unit as awaited_spec, chosen_unit as chosen_spec, if_allowed as if_allowed_spec, if_waits as if_waits_spec, is_other as is_other_spec};
+ghost use Rattle.arinc_frame.specs.WaitingUnits.{eligible_window_unit, chosen_window_unit, allowed_unit, queued_window_unit, is_another_unit};
 
 use crate::window::{Present, found_at, window_now};
 use pool_units::PoolUnits;
@@ -76,7 +76,7 @@ fn unit_now(records: &ArincRecords, present: Option<Present>, t: Moment) -> Opti
     requires frame { ForSome records.now.frame IsFrame }
     requires present { ForSome present (IsPresent records.now) }
     requires early { t.0 ≤ most_span }
-    ensures { result ≡ window_unit records.now t.0 }
+    ensures { result ≡ current_window_unit records.now t.0 }
 {
     match window_now(records, present, t) {
         None => None,
@@ -86,7 +86,7 @@ fn unit_now(records: &ArincRecords, present: Option<Present>, t: Moment) -> Opti
 
 /// Whether there is a unit, and another one than the core's own.
 fn is_other(unit: Option<UnitId>, own: UnitId) -> bool
-    ensures { result ≡ is_other_spec unit own }
+    ensures { result ≡ is_another_unit unit own }
 {
     match unit {
         None => false,
@@ -95,7 +95,7 @@ fn is_other(unit: Option<UnitId>, own: UnitId) -> bool
 }
 
 fn if_waits(units: &PoolUnits, unit: Option<UnitId>) -> Option<UnitId>
-    ensures { result ≡ if_waits_spec units.now unit }
+    ensures { result ≡ queued_window_unit units.now unit }
 {
     let u = unit?;
     if units.waits(u) { Some(u) } else { None }
@@ -104,7 +104,7 @@ fn if_waits(units: &PoolUnits, unit: Option<UnitId>) -> Option<UnitId>
 /// The unit, where it may have the core.
 fn if_allowed(units: &PoolUnits, unit: Option<UnitId>, home: Cores, core: ResId) -> Option<UnitId>
     requires { core.0 < 64 }
-    ensures { result ≡ if_allowed_spec units.now unit home.0 core.0 }
+    ensures { result ≡ allowed_unit units.now unit home.0 core.0 }
 {
     let u = unit?;
     if units.is_allowed(home, core, u) {
@@ -117,7 +117,7 @@ fn if_allowed(units: &PoolUnits, unit: Option<UnitId>, home: Cores, core: ResId)
 /// The window's unit, where it waits and may have the core.
 fn awaited(units: &PoolUnits, unit: Option<UnitId>, home: Cores, core: ResId) -> Option<UnitId>
     requires { core.0 < 64 }
-    ensures { result ≡ awaited_spec units.now unit home.0 core.0 }
+    ensures { result ≡ eligible_window_unit units.now unit home.0 core.0 }
 {
     if_allowed(units, if_waits(units, unit), home, core)
 }
@@ -133,8 +133,8 @@ fn is_wanted(
 ) -> bool
     requires { core.0 < 64 }
     ensures { (records : ArincRecord) (since t : ℕ) → waiting
-        ≡ if_waits_spec units.now (window_unit records t) → result
-        ≡ better_waits cur since t core.0 home.0
+        ≡ queued_window_unit units.now (current_window_unit records t) → result
+        ≡ has_better_waiting cur since t core.0 home.0
         (scheduler_of units.now.queue units.now.affinity (ArincPool records)) }
 {
     let here = if_allowed(units, waiting, home, core);
@@ -147,7 +147,7 @@ fn is_wanted(
 /// The window's unit, where it is the core's own and may go on, or waits.
 fn chosen(units: &PoolUnits, unit: Option<UnitId>, ask: &Ask) -> Option<UnitId>
     requires { ask.now.core.0 < 64 }
-    ensures { result ≡ chosen_spec units.now unit ask.now }
+    ensures { result ≡ chosen_window_unit units.now unit ask.now }
 {
     let u = unit?;
     if is_there(ask.cur, u) && ask.runnable {
@@ -159,7 +159,7 @@ fn chosen(units: &PoolUnits, unit: Option<UnitId>, ask: &Ask) -> Option<UnitId>
 fn frame_of(params: &PoolParams) -> Option<Frame>
     requires { ArePoolParams Arinc653 params.now }
     ensures frame { ForSome result IsFrame }
-    ensures records { (domains cores : ℕ) → fresh_records params.now domains cores
+    ensures records { (domains cores : ℕ) → empty_records params.now domains cores
         ≡ ArincPool (record { frame = result; installed = 0 }) }
 {
     match params {

@@ -3,7 +3,7 @@
 ghost use Rattle.sched_model.specs.CheckedMachine.{most_span};
 ghost use Rattle.std.specs.Prelude.{◌≡◌, ◌≤◌, option_map};
 ghost use Rattle.std.specs.Option.{ForSome};
-ghost use Rattle.sched_model.specs.Arinc.{present_window as present_window_spec};
+ghost use Rattle.sched_model.specs.Arinc.{current_window};
 ghost use Rattle.sched_laws.specs.RecordRanges.{IsFrame};
 ghost use Rattle.scheduler_records.specs.Frames.{window_of};
 ghost use Rattle.arinc_frame.specs.Frames.{IsPresent};
@@ -24,7 +24,7 @@ pub fn window_now(records: &ArincRecords, present: Option<Present>, t: Moment) -
     requires frame { ForSome records.now.frame IsFrame }
     requires present { ForSome present (IsPresent records.now) }
     requires early { t.0 ≤ most_span }
-    ensures { option_map window_of result ≡ present_window_spec records.now t.0 }
+    ensures { option_map window_of result ≡ current_window records.now t.0 }
 {
     if let Some(last) = present
         && last.from <= t.0

@@ -7,7 +7,7 @@ use Rattle.sched_base.proofs.Bools.{or_left, or_right}
 use Rattle.unit_ring.specs.declared.Node.{Node}
 use Rattle.unit_ring.specs.Lists.{Item, Lists, has_node, last_from, last_in, prev_from, prev_of, node, without_in}
 use Rattle.arrival_queue.specs.declared.key.Key.{Key}
-use Rattle.arrival_queue.specs.Queues.{Queued, queued_unit, is_less, goes_before}
+use Rattle.arrival_queue.specs.Queues.{Queued, queued_unit, is_lesser_key, goes_before}
 use Rattle.arrival_queue.specs.Order.{GoesBeforeAll, IsInOrder}
 use Rattle.arrival_queue.specs.Tables.{Apart, EachPasses, PassesOn, all_items, arrival_at, comes_before, first_node, key_at, rank, shown_unit}
 use Rattle.arrival_queue.proofs.Splits.{Apart-out, has_node-split}
@@ -161,7 +161,7 @@ module _ (keys : List Key) (arrivals : List ℕ) (items : List Item) (key : Key)
   each_after x (y ∷ xs) first all =
       let seen : Item → Queued = λ z. queued_unit z.unit (key_at keys z.node) (arrival_at arrivals z.node) in
       let next : goes_before (seen x) (seen y) ≡ true =
-      by_number (is_less (key_at keys x.node) (key_at keys y.node)) (is_less (key_at keys y.node) (key_at keys x.node))
+      by_number (is_lesser_key (key_at keys x.node) (key_at keys y.node)) (is_lesser_key (key_at keys y.node) (key_at keys x.node))
       (nat_lt (rank arrivals items (arrival_at arrivals x.node)) (rank arrivals items (arrival_at arrivals y.node)))
       (nat_lt (arrival_at arrivals x.node) (arrival_at arrivals y.node)) (by_arrival x y) all.0
       in

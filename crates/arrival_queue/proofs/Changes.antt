@@ -3,7 +3,7 @@ use Rattle.std.proofs.Common.{◌≡◌, ℕ, ◌+◌, ◌-◌, ◌<◌, List, [
 use Rattle.std.specs.Prelude.{◌==◌, ◌||◌, if◌then◌else◌, Option, Some, None, nat_lt}
 use Rattle.std.proofs.lemmas.List.{append-nil, length-map, map-append}
 use Rattle.sched_base.specs.declared.UnitId.{UnitId}
-use Rattle.unit_places.specs.Places.{number_of, has_place}
+use Rattle.unit_places.specs.Places.{number_of, has_unit_place}
 use Rattle.sched_base.proofs.Bools.{clash, or_left, or_right}
 use Rattle.unit_places.proofs.Placed.{same_number}
 use Rattle.unit_ring.specs.declared.Node.{Node}
@@ -291,18 +291,18 @@ found_low places next ns ring u n f t =
 
 -- a unit that has a node has a place
 pub found_place : (places next : ℕ) (ns : List ℕ) (ring : Lists) (u : UnitId) (n : Node) → Found ring u n → Tabled places next ns (all_items ring) → u.n < 256
-    → has_place u ≡ true
+    → has_unit_place u ≡ true
 found_place places next ns ring u n f t low =
     let mine = Tabled-mine places next ns f.lft f.rgt f.x (subst (Tabled places next ns) f.is t) in
-    subst (λ (w : UnitId). has_place w ≡ true) (sym (same_number u f.x.unit low mine.2 f.number)) mine.2
+    subst (λ (w : UnitId). has_unit_place w ≡ true) (sym (same_number u f.x.unit low mine.2 f.number)) mine.2
 
 -- a unit without a place is not among the items
-pub no_place : (places next : ℕ) (ns : List ℕ) (u : UnitId) (xs : List Item) → Tabled places next ns xs → u.n < 256 → has_place u ≡ false
+pub no_place : (places next : ℕ) (ns : List ℕ) (u : UnitId) (xs : List Item) → Tabled places next ns xs → u.n < 256 → has_unit_place u ≡ false
     → has_number (number_of u) xs ≡ false
 no_place places next ns u [] t low none = refl
 no_place places next ns u (x ∷ xs) t low none =
     let other : number_of x.unit ≡ number_of u → ⊥ = λ e.
-    clash (has_place u) (subst (λ (w : UnitId). has_place w ≡ true) (sym (same_number u x.unit low t.2 e)) t.2) none
+    clash (has_unit_place u) (subst (λ (w : UnitId). has_unit_place w ≡ true) (sym (same_number u x.unit low t.2 e)) t.2) none
     in
     ap (λ (b : Bool). b || has_number (number_of u) xs) (ne_eqb (number_of x.unit) (number_of u) other)
     ∙ no_place places next ns u xs t.3 low none

@@ -3,7 +3,7 @@ use Rattle.std.proofs.Common.{◌≡◌, ℕ, ◌+◌, ◌<◌, ◌≤◌, List,
 use Rattle.std.specs.Prelude.{Option, Some, None, slice_index_or}
 use Rattle.std.proofs.lemmas.Bool.{cases_eq}
 use Rattle.std.proofs.lemmas.List.{get_or-set_same, get_or-set_other}
-use Rattle.unit_places.specs.Places.{number_of, has_place, index_of}
+use Rattle.unit_places.specs.Places.{number_of, has_unit_place, unit_index}
 use Rattle.unit_places.proofs.Placed.{low_index, same_index, same_place}
 use Rattle.unit_ring.specs.declared.Node.{Node}
 use Rattle.unit_ring.specs.Lists.{Item, Lists, has_node, room_of}
@@ -27,8 +27,8 @@ pub kept_in : (ring after : Lists) (nodes : List (Option Node)) (keys : List Key
     → IsQueue ring nodes keys arrivals fresh next
     → all_items ring ≡ l ++ r → all_items after ≡ l ++ new ∷ r → ring.spare ≡ after.spare + 1
     → has_node new.node (all_items ring) ≡ false → has_number (number_of new.unit) (all_items ring) ≡ false
-    → new.node < room_of ring + 4 → has_place new.unit ≡ true → a < later → next ≤ later
-    → IsQueue after (set nodes (index_of new.unit) (Some (record { 0 = new.node }))) (set keys new.node key) (set arrivals new.node a) fresh later
+    → new.node < room_of ring + 4 → has_unit_place new.unit ≡ true → a < later → next ≤ later
+    → IsQueue after (set nodes (unit_index new.unit) (Some (record { 0 = new.node }))) (set keys new.node key) (set arrivals new.node a) fresh later
 kept_in ring after nodes keys arrivals fresh next later l r new key a q rest is spare no_node no_number low place arrival rise =
     let node_free : has_node new.node (l ++ r) ≡ false = subst (λ (xs : List Item). has_node new.node xs ≡ false) rest no_node in
     let number_free : has_number (number_of new.unit) (l ++ r) ≡ false = subst (λ (xs : List Item). has_number (number_of new.unit) xs ≡ false) rest no_number in
@@ -39,20 +39,20 @@ kept_in ring after nodes keys arrivals fresh next later l r new key a q rest is 
     let set_before : Tabled (length arrivals) later (set arrivals new.node a) (l ++ r) = Tabled-set (length arrivals) next later arrivals new.node a (l ++ r) before node_free rise in
     let tabled : Tabled (length arrivals) later (set arrivals new.node a) (l ++ new ∷ r) = Tabled-in (length arrivals) later (set arrivals new.node a) l r new set_before (omega (arith, low, q.room)) (omega (arith, mine, arrival)) place in
     let entry : Option Node = Some (record { 0 = new.node }) in
-    let k0 = index_of new.unit in
+    let k0 = unit_index new.unit in
     let within = low_index new.unit place in
     record {
       apart = subst Apart (sym is) (Apart-in l r new (subst Apart rest q.apart) node_free number_free);
       tabled = subst (Tabled (length (set arrivals new.node a)) later (set arrivals new.node a)) (sym is) (subst (λ (n : ℕ). Tabled n later (set arrivals new.node a) (l ++ new ∷ r)) (sym size) tabled);
       listed = λ u has.
-          elim (cases_eq (index_of u) k0) [
+          elim (cases_eq (unit_index u) k0) [
             | inl e ↦
                 ap (λ (j : ℕ). slice_index_or (set nodes k0 entry) j None) e
                 ∙ get_or-set_same nodes k0 entry None (omega (arith, within, q.places))
                 ∙ sym (ap (node_of (number_of new.unit)) is ∙ node_of-mine l r new number_free)
                 ∙ sym (ap (λ (k : ℕ). node_of k (all_items after)) (same_index u new.unit has place e))
             | inr ne ↦
-                get_or-set_other nodes k0 (index_of u) entry None ne
+                get_or-set_other nodes k0 (unit_index u) entry None ne
                 ∙ q.listed u has
                 ∙ ap (node_of (number_of u)) rest
                 ∙ sym (ap (node_of (number_of u)) is ∙ node_of-other (number_of u) l r new (λ e. ne (same_place u new.unit has place (sym e))))
@@ -68,24 +68,24 @@ pub kept_out : (ring after : Lists) (nodes : List (Option Node)) (keys : List Ke
     (l r : List Item) (old : Item)
     → IsQueue ring nodes keys arrivals fresh next
     → all_items ring ≡ l ++ old ∷ r → all_items after ≡ l ++ r → after.spare ≡ ring.spare + 1
-    → IsQueue after (set nodes (index_of old.unit) None) keys arrivals fresh next
+    → IsQueue after (set nodes (unit_index old.unit) None) keys arrivals fresh next
 kept_out ring after nodes keys arrivals fresh next l r old q is rest spare =
     let out : TakenOut l r old = Apart-out l r old (subst Apart is q.apart) in
-    let k0 = index_of old.unit in
+    let k0 = unit_index old.unit in
     let mine = Tabled-mine (length arrivals) next arrivals l r old (subst (Tabled (length arrivals) next arrivals) is q.tabled) in
     let within = low_index old.unit mine.2 in
     record {
       apart = subst Apart (sym rest) out.apart;
       tabled = subst (Tabled (length arrivals) next arrivals) (sym rest) (Tabled-out (length arrivals) next arrivals l r old (subst (Tabled (length arrivals) next arrivals) is q.tabled));
       listed = λ u has.
-          elim (cases_eq (index_of u) k0) [
+          elim (cases_eq (unit_index u) k0) [
             | inl e ↦
                 ap (λ (j : ℕ). slice_index_or (set nodes k0 None) j None) e
                 ∙ get_or-set_same nodes k0 None None (omega (arith, within, q.places))
                 ∙ sym (ap (node_of (number_of old.unit)) rest ∙ node_of-none (number_of old.unit) (l ++ r) out.number)
                 ∙ sym (ap (λ (k : ℕ). node_of k (all_items after)) (same_index u old.unit has mine.2 e))
             | inr ne ↦
-                get_or-set_other nodes k0 (index_of u) None None ne
+                get_or-set_other nodes k0 (unit_index u) None None ne
                 ∙ q.listed u has
                 ∙ ap (node_of (number_of u)) is
                 ∙ node_of-other (number_of u) l r old (λ e. ne (same_place u old.unit has mine.2 (sym e)))

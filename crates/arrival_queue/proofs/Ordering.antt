@@ -7,7 +7,7 @@ use Rattle.std.proofs.lemmas.List.Sorted.{IsStrictWeakOrder-by_number}
 use Rattle.std.proofs.lemmas.Bool.{cases_lt, cases_Bool, false_from_ne_true, lt-ltb, le-ltb}
 use Rattle.sched_base.proofs.Bools.{clash}
 use Rattle.arrival_queue.specs.declared.key.Key.{Key}
-use Rattle.arrival_queue.specs.Queues.{Queued, is_less, goes_before, closed_up}
+use Rattle.arrival_queue.specs.Queues.{Queued, is_lesser_key, goes_before, closed_up}
 
 int_order : IsStrictWeakOrder int_lt
 int_order = record {
@@ -53,20 +53,20 @@ module _ {X : Type 0} (lt lt2 : X → X → Bool) (o : IsStrictWeakOrder lt) (o2
   pub then_ties : (x y : X) → then_by x y ≡ false → then_by y x ≡ false → lt2 x y ≡ false
   then_ties x y a b = right (lt x y) (lt y x) (lt2 x y) a (left (lt y x) (lt x y) (lt2 y x) b)
 
-key_order : IsStrictWeakOrder is_less
+key_order : IsStrictWeakOrder is_lesser_key
 key_order =
     then_order (λ (a b : Key). int_lt a.first b.first) (λ (a b : Key). nat_lt a.second b.second)
     (record { one_way = λ a b. int_order.one_way a.first b.first; chain = λ a b c. int_order.chain a.first b.first c.first })
     (IsStrictWeakOrder-by_number (λ (a : Key). a.second))
 
-by_key : IsStrictWeakOrder (λ (a b : Queued). is_less a.key b.key)
+by_key : IsStrictWeakOrder (λ (a b : Queued). is_lesser_key a.key b.key)
 by_key = record { one_way = λ a b. key_order.one_way a.key b.key; chain = λ a b c. key_order.chain a.key b.key c.key }
 
 by_rank : IsStrictWeakOrder (λ (a b : Queued). nat_lt a.rank b.rank)
 by_rank = IsStrictWeakOrder-by_number (λ (a : Queued). a.rank)
 
 before_order : IsStrictWeakOrder goes_before
-before_order = then_order (λ (a b : Queued). is_less a.key b.key) (λ (a b : Queued). nat_lt a.rank b.rank) by_key by_rank
+before_order = then_order (λ (a b : Queued). is_lesser_key a.key b.key) (λ (a b : Queued). nat_lt a.rank b.rank) by_key by_rank
 
 pub before_trans : (a b c : Queued) → goes_before a b ≡ true → goes_before b c ≡ true → goes_before a c ≡ true
 before_trans a b c ab bc =
@@ -82,7 +82,7 @@ before_other a b neither other =
       | inl is ↦ is
       | inr none ↦
           let ties : (x y : Queued) → goes_before x y ≡ false → goes_before y x ≡ false → nat_lt x.rank y.rank ≡ false =
-          then_ties (λ (x y : Queued). is_less x.key y.key) (λ (x y : Queued). nat_lt x.rank y.rank) by_key by_rank
+          then_ties (λ (x y : Queued). is_lesser_key x.key y.key) (λ (x y : Queued). nat_lt x.rank y.rank) by_key by_rank
           in
           let ab = ties a b neither none in
           let ba = ties b a none neither in
@@ -135,4 +135,4 @@ closed-test r a b other_a other_b =
 
 pub closed_before : (r : ℕ) (a b : Queued) → (a.rank ≡ r → ⊥) → (b.rank ≡ r → ⊥) → goes_before (closed_up r a) (closed_up r b) ≡ goes_before a b
 closed_before r a b other_a other_b =
-    ap (λ (t : Bool). is_less a.key b.key || not (is_less b.key a.key) && t) (closed-test r a.rank b.rank other_a other_b)
+    ap (λ (t : Bool). is_lesser_key a.key b.key || not (is_lesser_key b.key a.key) && t) (closed-test r a.rank b.rank other_a other_b)

@@ -4,7 +4,7 @@ use Rattle.std.specs.Prelude.{◌==◌, ◌||◌, if◌then◌else◌, Option, S
 use Rattle.std.proofs.lemmas.Bool.{cases_eq, eq-eqb, ne_eqb}
 use Rattle.std.proofs.lemmas.List.{get_or-set_other}
 use Rattle.std.proofs.lemmas.List.Sums.{sum_by-append}
-use Rattle.unit_places.specs.Places.{number_of, has_place}
+use Rattle.unit_places.specs.Places.{number_of, has_unit_place}
 use Rattle.sched_base.proofs.Bools.{or_left, or_right}
 use Rattle.unit_ring.specs.declared.Node.{Node}
 use Rattle.unit_ring.specs.Lists.{Item, has_node}
@@ -112,12 +112,12 @@ Tabled-out places next arrivals [] r new t = t.3
 Tabled-out places next arrivals (x ∷ l) r new t = (t.0, t.1, t.2, Tabled-out places next arrivals l r new t.3)
 
 pub Tabled-mine : (places next : ℕ) (arrivals : List ℕ) (l r : List Item) (new : Item) → Tabled places next arrivals (l ++ new ∷ r)
-    → (new.node < places) × (arrival_at arrivals new.node < next) × (has_place new.unit ≡ true)
+    → (new.node < places) × (arrival_at arrivals new.node < next) × (has_unit_place new.unit ≡ true)
 Tabled-mine places next arrivals [] r new t = (t.0, t.1, t.2)
 Tabled-mine places next arrivals (x ∷ l) r new t = Tabled-mine places next arrivals l r new t.3
 
 pub Tabled-in : (places next : ℕ) (arrivals : List ℕ) (l r : List Item) (new : Item) → Tabled places next arrivals (l ++ r)
-    → new.node < places → arrival_at arrivals new.node < next → has_place new.unit ≡ true → Tabled places next arrivals (l ++ new ∷ r)
+    → new.node < places → arrival_at arrivals new.node < next → has_unit_place new.unit ≡ true → Tabled places next arrivals (l ++ new ∷ r)
 Tabled-in places next arrivals [] r new t node arrival number = (node, arrival, number, t)
 Tabled-in places next arrivals (x ∷ l) r new t node arrival number =
     (t.0, t.1, t.2, Tabled-in places next arrivals l r new t.3 node arrival number)

@@ -4,7 +4,7 @@ use Rattle.std.specs.Prelude.{◌==◌, ◌||◌, if◌then◌else◌, Option, S
 use Rattle.std.proofs.lemmas.Bool.{cases_eq, eq-eqb, ne_eqb}
 use Rattle.std.proofs.lemmas.List.{append-nil}
 use Rattle.sched_base.specs.declared.UnitId.{UnitId}
-use Rattle.unit_places.specs.Places.{number_of, has_place, index_of}
+use Rattle.unit_places.specs.Places.{number_of, has_unit_place, unit_index}
 use Rattle.sched_base.proofs.Bools.{or_right}
 use Rattle.unit_places.proofs.Placed.{same_place}
 use Rattle.unit_ring.specs.declared.Node.{Node}
@@ -63,11 +63,11 @@ found_ring p new ring (Some at) apart e =
 -- one item more, at its place or at the end of the others
 module _ (ring : Lists) (nodes : List (Option Node)) (keys : List Key) (ns fresh : List ℕ) (next : ℕ) (q : IsQueue ring nodes keys ns fresh next)
     (n : ℕ) (u : UnitId) (key : Key) (a : ℕ) (no_node : has_node n (all_items ring) ≡ false) (no_number : has_number (number_of u) (all_items ring) ≡ false)
-    (low : n < room_of ring + 4) (place : has_place u ≡ true) (arrived : a < next) (room : 0 < ring.spare) where
+    (low : n < room_of ring + 4) (place : has_unit_place u ≡ true) (arrived : a < next) (room : 0 < ring.spare) where
   spare_more : ring.spare ≡ (ring.spare - 1) + 1
   spare_more = omega (arith, room)
 
-  pub put_kept : (p : Item → Bool) → IsQueue (put_ring p (item n u) ring) (set nodes (index_of u) (Some (record { 0 = n }))) (set keys n key) (set ns n a) fresh next
+  pub put_kept : (p : Item → Bool) → IsQueue (put_ring p (item n u) ring) (set nodes (unit_index u) (Some (record { 0 = n }))) (set keys n key) (set ns n a) fresh next
   put_kept p =
       let s = put_split p (item n u) ring.first in
       let was : all_items ring ≡ s.lft ++ (s.rgt ++ ring.second) =
@@ -78,7 +78,7 @@ module _ (ring : Lists) (nodes : List (Option Node)) (keys : List Key) (ns fresh
       in
       kept_in ring (put_ring p (item n u) ring) nodes keys ns fresh next next s.lft (s.rgt ++ ring.second) (item n u) key a q was is spare_more no_node no_number low place arrived (omega arith)
 
-  pub append_kept : IsQueue (after_take (after_append ring 1 (item n u))) (set nodes (index_of u) (Some (record { 0 = n }))) (set keys n key) (set ns n a) fresh next
+  pub append_kept : IsQueue (after_take (after_append ring 1 (item n u))) (set nodes (unit_index u) (Some (record { 0 = n }))) (set keys n key) (set ns n a) fresh next
   append_kept =
       let was : all_items ring ≡ all_items ring ++ [] = sym (append-nil (all_items ring)) in
       let is : ring.first ++ (ring.second ++ item n u ∷ []) ≡ all_items ring ++ item n u ∷ [] = sym (append_assoc ring.first ring.second (item n u ∷ [])) in
@@ -144,8 +144,8 @@ found ring u n apart e =
     }
 
 pub take_kept : (ring : Lists) (nodes : List (Option Node)) (keys : List Key) (ns fresh : List ℕ) (next : ℕ) (u : UnitId) (n : Node)
-    → IsQueue ring nodes keys ns fresh next → Found ring u n → has_place u ≡ true
-    → IsQueue (after_give (l.lists_without ring n.0)) (set nodes (index_of u) None) keys ns fresh next
+    → IsQueue ring nodes keys ns fresh next → Found ring u n → has_unit_place u ≡ true
+    → IsQueue (after_give (l.lists_without ring n.0)) (set nodes (unit_index u) None) keys ns fresh next
 take_kept ring nodes keys ns fresh next u n q f place =
     let mine = Tabled-mine (length ns) next ns f.lft f.rgt f.x (subst (Tabled (length ns) next ns) f.is q.tabled) in
     subst (λ (k : ℕ). IsQueue (after_give (l.lists_without ring n.0)) (set nodes k None) keys ns fresh next) (same_place f.x.unit u mine.2 place f.number)

@@ -10,7 +10,7 @@ use Rattle.unit_ring.specs.declared.Node.{Node}
 use Rattle.unit_ring.specs.Lists as l
 use Rattle.unit_ring.specs.Lists.{Item, item, has_node}
 use Rattle.arrival_queue.specs.declared.key.Key.{Key}
-use Rattle.arrival_queue.specs.Queues.{Queued, queued_unit, is_less, goes_before, put_first, has_unit, rank_in, closed_up}
+use Rattle.arrival_queue.specs.Queues.{Queued, queued_unit, is_lesser_key, goes_before, put_first, has_unit, rank_in, closed_up}
 use Rattle.arrival_queue.specs.Tables.{Apart, Tabled, has_number, key_at, arrival_at, rank, shown_unit, comes_before, first_node}
 use Rattle.arrival_queue.proofs.Splits.{not_same}
 use Rattle.arrival_queue.proofs.Ranks.{arrival-set, rank-out, rank-test}
@@ -81,7 +81,7 @@ pub alike : (keys : List Key) (arrivals : List ℕ) (n : ℕ) (u : UnitId) (key 
 alike keys arrivals n u key a r places next all after [] t none same tests = tt
 alike keys arrivals n u key a r places next all after (x ∷ xs) t none same tests = (
   shown_kept keys arrivals n key a all after x (or_left (x.node == n) (has_node n xs) none) (same (arrival_at arrivals x.node) t.1),
-  ap (λ (test : Bool). is_less key (key_at keys x.node) || not (is_less (key_at keys x.node) key) && test) (tests (arrival_at arrivals x.node) t.1),
+  ap (λ (test : Bool). is_lesser_key key (key_at keys x.node) || not (is_lesser_key (key_at keys x.node) key) && test) (tests (arrival_at arrivals x.node) t.1),
   alike keys arrivals n u key a r places next all after xs t.3 (or_right (x.node == n) (has_node n xs) none) same tests,
 )
 

@@ -21,12 +21,12 @@ abbrev pub queued_unit : UnitId → Key → ℕ → Queued
 queued_unit u key rank = record { unit = u; key = key; rank = rank }
 
 -- whether a key is less than another: by its first part, then by its second
-abbrev pub is_less : Key → Key → Bool
-is_less a b = int_lt a.first b.first || not (int_lt b.first a.first) && nat_lt a.second b.second
+abbrev pub is_lesser_key : Key → Key → Bool
+is_lesser_key a b = int_lt a.first b.first || not (int_lt b.first a.first) && nat_lt a.second b.second
 
 -- whether one goes before another: by key, then by arrival
 abbrev pub goes_before : Queued → Queued → Bool
-goes_before a b = is_less a.key b.key || not (is_less b.key a.key) && nat_lt a.rank b.rank
+goes_before a b = is_lesser_key a.key b.key || not (is_lesser_key b.key a.key) && nat_lt a.rank b.rank
 
 -- an item put before the first that passes a test, or at the end
 abbrev pub put_first : {X : Type 0} → (X → Bool) → X → List X → List X

@@ -1,11 +1,11 @@
 -- How a queue keeps its units: a ring, and tables by place of unit and by number of node.
 use Rattle.std.specs.Prelude.{ℕ, ◌+◌, ◌-◌, ◌<◌, ◌≡◌, ◌==◌, ◌&&◌, ◌||◌, Bool, true, false, not, if◌then◌else◌, List, [], ◌∷◌, ◌++◌, Option, Some, None, length, map, count_by, nat_lt, slice_index, slice_index_or, pos}
 use Rattle.sched_base.specs.declared.UnitId.{UnitId}
-use Rattle.unit_places.specs.Places.{number_of, has_place, index_of}
+use Rattle.unit_places.specs.Places.{number_of, has_unit_place, unit_index}
 use Rattle.unit_ring.specs.declared.Node.{Node}
 use Rattle.unit_ring.specs.Lists.{Item, Lists, has_node, room_of, after_take, after_append, put_before}
 use Rattle.arrival_queue.specs.declared.key.Key.{Key}
-use Rattle.arrival_queue.specs.Queues.{Queued, Queues, queued_unit, is_less, put_first}
+use Rattle.arrival_queue.specs.Queues.{Queued, Queues, queued_unit, is_lesser_key, put_first}
 
 -- the key of a node, and the number of its arrival
 abbrev pub key_at : List Key → ℕ → Key
@@ -55,13 +55,13 @@ node_of k (x ∷ xs) = (if number_of x.unit == k then Some (record { 0 = x.node 
 abbrev pub Tabled : ℕ → ℕ → List ℕ → List Item → Type 0
 Tabled places next arrivals [] = Unit {0}
 Tabled places next arrivals (x ∷ xs) =
-    (x.node < places) × (arrival_at arrivals x.node < next) × (has_place x.unit ≡ true) × Tabled places next arrivals xs
+    (x.node < places) × (arrival_at arrivals x.node < next) × (has_unit_place x.unit ≡ true) × Tabled places next arrivals xs
 
 -- the tables are those of the ring
 pub record IsQueue (ring : Lists) (nodes : List (Option Node)) (keys : List Key) (arrivals fresh : List ℕ) (next : ℕ) : Type 0 where
   pub apart : Apart (all_items ring)
   pub tabled : Tabled (length arrivals) next arrivals (all_items ring)
-  pub listed : (u : UnitId) → has_place u ≡ true → slice_index_or nodes (index_of u) None ≡ node_of (number_of u) (all_items ring)
+  pub listed : (u : UnitId) → has_unit_place u ≡ true → slice_index_or nodes (unit_index u) None ≡ node_of (number_of u) (all_items ring)
   pub places : length nodes ≡ 2048
   pub room : length arrivals ≡ room_of ring + 4
   pub keys_room : length keys ≡ length arrivals
@@ -70,7 +70,7 @@ pub record IsQueue (ring : Lists) (nodes : List (Option Node)) (keys : List Key)
 -- whether a unit with that key and arrival goes before an item
 abbrev pub comes_before : List Key → List ℕ → Key → ℕ → Item → Bool
 comes_before keys arrivals key a x =
-    is_less key (key_at keys x.node) || not (is_less (key_at keys x.node) key) && nat_lt a (arrival_at arrivals x.node)
+    is_lesser_key key (key_at keys x.node) || not (is_lesser_key (key_at keys x.node) key) && nat_lt a (arrival_at arrivals x.node)
 
 -- the first node whose item passes a test
 abbrev pub first_node : (Item → Bool) → List Item → Option Node

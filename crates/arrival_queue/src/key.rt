@@ -1,7 +1,7 @@
 //! Keys of two parts.
 
 ghost use Rattle.std.specs.Prelude.{◌≡◌};
-ghost use Rattle.arrival_queue.specs.Queues.{is_less as less};
+ghost use Rattle.arrival_queue.specs.Queues.{is_lesser_key};
 
 /// What a queue is sorted by: the first part, then the second.
 #[derive(Clone, Copy)]
@@ -12,7 +12,7 @@ pub struct Key {
 
 /// Whether a key is less than another.
 pub fn is_less(a: Key, b: Key) -> bool
-    ensures { result ≡ less a b }
+    ensures { result ≡ is_lesser_key a b }
 {
     a.first < b.first || (!(b.first < a.first) && a.second < b.second)
 }

@@ -44,8 +44,8 @@ impl ArrivalQueue {
     ghost use Rattle.arrival_queue.specs.Queues.{holds, after_insert, after_append, after_remove, after_move, list_without, empty_queues};
     ghost use Rattle.arrival_queue.specs.Order.{IsOrdered};
     ghost use Rattle.std.specs.Bool.{OnTrue, OnFalse};
-    ghost use Rattle.unit_places.specs.Places.{has_place};
-    ghost use Rattle.arrival_queue.specs.Filters.{first_of, first_that, has_domain as domain_in, in_domains, may_run};
+    ghost use Rattle.unit_places.specs.Places.{has_unit_place};
+    ghost use Rattle.arrival_queue.specs.Filters.{first_of, first_that, has_core_bit, in_domains, may_run};
 
     /// A queue with room for so many units.
     pub fn room(alloc: Global, units: usize) -> Result<ArrivalQueue, NoMemory>
@@ -57,7 +57,7 @@ impl ArrivalQueue {
 
     /// A unit that is not here, and has a place in tables, arrives, and is put at its place.
     pub fn insert_counted<L: Ledger>(&mut self, u: UnitId, key: Key, steps: &mut Steps<L>)
-        requires place { has_place u ≡ true }
+        requires place { has_unit_place u ≡ true }
         requires absent { holds self.old u ≡ false }
         requires room { 0 < self.old.spare }
         ensures after { self.new ≡ after_insert self.old u key }
@@ -69,7 +69,7 @@ impl ArrivalQueue {
 
     /// A unit that is not here, and has a place in tables, arrives, and is put at the end of the others.
     pub fn append_counted<L: Ledger>(&mut self, u: UnitId, key: Key, steps: &mut Steps<L>)
-        requires place { has_place u ≡ true }
+        requires place { has_unit_place u ≡ true }
         requires absent { holds self.old u ≡ false }
         requires room { 0 < self.old.spare }
         ensures after { self.new ≡ after_append self.old u key }
@@ -135,7 +135,7 @@ impl ArrivalQueue {
         allowed: Allowed,
         steps: &mut Steps<L>,
     ) -> Option<UnitId>
-        ensures first { result ≡ first_that (λ u. domain_in allowed.0 u.dom.0) self.now.sorted }
+        ensures first { result ≡ first_that (λ u. has_core_bit allowed.0 u.dom.0) self.now.sorted }
         ensures cost { steps.new ≤ steps.old + length self.now.sorted + 1 }
     {
         walks::first_where(&self.tables.ring, allowed, steps)

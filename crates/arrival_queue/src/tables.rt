@@ -2,7 +2,7 @@
 
 ghost use Rattle.std.specs.Prelude.{◌≡◌, ℕ, ◌+◌, ◌<◌, ◌≤◌, false, true, length, map, slice_set, slice_index_or, Some, None, IfOk};
 ghost use Rattle.std.specs.Option.{ForSome};
-ghost use Rattle.unit_places.specs.Places.{number_of, has_place as placed, index_of as place_index};
+ghost use Rattle.unit_places.specs.Places.{number_of, has_unit_place, unit_index};
 ghost use Rattle.unit_ring.specs.Lists.{item, no_unit, has_node, is_live, lists_without as ring_without, after_give, after_take, after_append, empty_lists, room_of};
 ghost use Rattle.arrival_queue.specs.Tables.{all_items, arrival_at, count_below, comes_before, first_node, has_number, node_of, PassesOn, put_ring, ring_with, Tabled};
 ghost use Rattle.arrival_queue.specs.WholeTables.{IsTables, seen_queues};
@@ -121,9 +121,9 @@ fn enter(tables: &mut Tables, n: Node, u: UnitId, key: Key, arrival: u64)
     requires keys { n.0 < length tables.old.keys.items }
     requires arrivals { n.0 < length tables.old.arrivals.items }
     requires places { length tables.old.nodes.items ≡ 2048 }
-    requires place { placed u ≡ true }
+    requires place { has_unit_place u ≡ true }
     ensures ring { tables.new.ring ≡ tables.old.ring }
-    ensures nodes { tables.new.nodes.items ≡ slice_set tables.old.nodes.items (place_index u)
+    ensures nodes { tables.new.nodes.items ≡ slice_set tables.old.nodes.items (unit_index u)
         (Some n) }
     ensures keys { tables.new.keys.items ≡ slice_set tables.old.keys.items n.0 key }
     ensures arrivals { tables.new.arrivals.items ≡ slice_set tables.old.arrivals.items n.0 arrival }
@@ -159,7 +159,7 @@ pub fn put<L: Ledger>(
     steps: &mut Steps<L>,
 ) -> Node
     requires tables { IsTables tables.old }
-    requires place { placed u ≡ true }
+    requires place { has_unit_place u ≡ true }
     requires absent { has_number (number_of u) (all_items tables.old.ring) ≡ false }
     requires room { 0 < tables.old.ring.spare }
     requires arrived { arrival < tables.old.next }
@@ -192,7 +192,7 @@ pub fn append<L: Ledger>(
     steps: &mut Steps<L>,
 ) -> Node
     requires tables { IsTables tables.old }
-    requires place { placed u ≡ true }
+    requires place { has_unit_place u ≡ true }
     requires absent { has_number (number_of u) (all_items tables.old.ring) ≡ false }
     requires room { 0 < tables.old.ring.spare }
     requires arrived { arrival < tables.old.next }

@@ -1,7 +1,7 @@
 //! Searches along list 0 of a ring.
 
 ghost use Rattle.std.specs.Prelude.{◌≡◌, ◌+◌, ◌≤◌, ◌&&◌, length};
-ghost use Rattle.arrival_queue.specs.Filters.{has_domain as domain_in, in_domains, may_run};
+ghost use Rattle.arrival_queue.specs.Filters.{has_core_bit, in_domains, may_run};
 ghost use Rattle.arrival_queue.specs.Tables.{Apart, all_items, first_unit};
 
 use sched_base::{Cores, DomId, ResId, Steps, UnitId, has_core, is_allowed};
@@ -15,7 +15,7 @@ pub struct Allowed(pub u64);
 
 /// Whether a domain is in a set of domains, which has a bit for each as a set of cores has.
 pub fn has_domain(allowed: Allowed, d: DomId) -> bool
-    ensures { result ≡ domain_in allowed.0 d.0 }
+    ensures { result ≡ has_core_bit allowed.0 d.0 }
 {
     has_core(Cores(allowed.0), ResId(d.0))
 }
@@ -34,7 +34,7 @@ fn passes(domains: Option<Allowed>, masks: &Masks, core: ResId, home: Cores, u: 
 /// The first unit whose domain is in the set, in at most n + 1 steps, n the length of list 0.
 pub fn first_where<L: Ledger>(ring: &Ring, allowed: Allowed, steps: &mut Steps<L>) -> Option<UnitId>
     requires { Apart (all_items ring.now) }
-    ensures unit { result ≡ first_unit (λ u. domain_in allowed.0 u.dom.0) ring.now.first }
+    ensures unit { result ≡ first_unit (λ u. has_core_bit allowed.0 u.dom.0) ring.now.first }
     ensures cost { steps.new ≤ steps.old + length ring.now.first + 1 }
 {
     let mut at = ring.first(0, steps);

@@ -13,7 +13,7 @@ use Rattle.clap.specs.ValueTests.{is_numeral}
 use Rattle.clap.specs.Words.{ReadsOne, Text, found_of, one_text, rows_of}
 use Rattle.clap.specs.declared.parser.matches.ArgMatches.{ArgMatches}
 use Rattle.clap.proofs.WalkLemmas.{one_text-rows}
-use Rattle.command_line.specs.Entries.{flag_in, number_in, number_of, number_within}
+use Rattle.command_line.specs.Entries.{has_flag, entered_number, number_of, ranged_number}
 
 digits_from : (ds : List ℕ) → list_all (λ d. nat_lt (digit_value d) 10) ds ≡ true → AllDigits 10 ds
 digits_from [] e = tt
@@ -39,14 +39,14 @@ numeral_back : (ds : List ℕ) → IsNumeral 10 ds → is_numeral ds ≡ true
 numeral_back ds h = rw (lt-ltb _ _ h.0) (digits_back ds h.1)
 
 -- a number past the range is none
-past : (low high n : ℕ) → high < n → number_within low high n ≡ None
+past : (low high n : ℕ) → high < n → ranged_number low high n ≡ None
 past low high n over = go (nat_le low n)
   where
     go : (b : Bool) → cond (b && nat_le n high) (Some n) None ≡ None
     go true = rw (lt-leb _ _ over) refl
     go false = refl
 
-read_here : (t : Text) (low high n : ℕ) → (IsNumeral 10 (without_leading_plus t) × (digits_value 10 (without_leading_plus t) < 2 ^ 32)) × (n ≡ digits_value 10 (without_leading_plus t)) → number_of low high t ≡ number_within low high n
+read_here : (t : Text) (low high n : ℕ) → (IsNumeral 10 (without_leading_plus t) × (digits_value 10 (without_leading_plus t) < 2 ^ 32)) × (n ≡ digits_value 10 (without_leading_plus t)) → number_of low high t ≡ ranged_number low high n
 read_here t low high n p =
     let is : digits_value 10 (without_leading_plus t) ≡ n = sym p.1 in
     rw (numeral_back (without_leading_plus t) p.0.0, is) refl
@@ -54,7 +54,7 @@ read_here t low high n p =
 refused_here : (t : Text) (low high : ℕ) → high < 2 ^ 32 → (IsNumeral 10 (without_leading_plus t) × (digits_value 10 (without_leading_plus t) < 2 ^ 32) → ⊥) → number_of low high t ≡ None
 refused_here t low high small p = go (is_numeral (without_leading_plus t)) refl
   where
-    go : (b : Bool) → is_numeral (without_leading_plus t) ≡ b → cond b (number_within low high (digits_value 10 (without_leading_plus t))) None ≡ None
+    go : (b : Bool) → is_numeral (without_leading_plus t) ≡ b → cond b (ranged_number low high (digits_value 10 (without_leading_plus t))) None ≡ None
     go false is = refl
     go true is = elim (cases_lt (digits_value 10 (without_leading_plus t)) (2 ^ 32)) [
       | inl fits ↦ absurd (p (numeral_from _ is, fits))
@@ -64,19 +64,19 @@ refused_here t low high small p = go (is_numeral (without_leading_plus t)) refl
 -- the number that `get_one` reads as a `u32`, and the range
 pub number_reads : {E : Type 0} (gives : Text → Result ℕ E → Type 0) → ((t : Text) (x : Result ℕ E) → gives t x → ParsesUnsigned {E = E} 32 10 t x)
     → (m : ArgMatches) (id : Text) (low high : ℕ) (r : Option ℕ) → high < 2 ^ 32 → (one_text (found_of m) id ≡ None → r ≡ None)
-    → ((t : Text) → one_text (found_of m) id ≡ Some t → ReadsOne gives t r) → number_in low high id (rows_of (found_of m)) ≡ option_and_then (number_within low high) r
-unfolding number_in
+    → ((t : Text) → one_text (found_of m) id ≡ Some t → ReadsOne gives t r) → entered_number low high id (rows_of (found_of m)) ≡ option_and_then (ranged_number low high) r
+unfolding entered_number
 number_reads gives only m id low high r small none value = ap (option_and_then (number_of low high)) (sym (one_text-rows (found_of m) id)) ∙ go (one_text (found_of m) id) refl r refl
   where
-    go : (o : Option Text) → one_text (found_of m) id ≡ o → (s : Option ℕ) → r ≡ s → option_and_then (number_of low high) o ≡ option_and_then (number_within low high) s
+    go : (o : Option Text) → one_text (found_of m) id ≡ o → (s : Option ℕ) → r ≡ s → option_and_then (number_of low high) o ≡ option_and_then (ranged_number low high) s
     go None e s is = rw (sym is ∙ none e) refl
     go (Some t) e (Some n) is = read_here t low high n (only t (Ok n) (rw is at (value t e)))
     go (Some t) e None is = let error = rw is at (value t e) in refused_here t low high small (only t (Err error.0) error.1)
 
 -- the flag that `get_one` reads as a `bool`
 pub flag_reads : (E : Type 0) (m : ArgMatches) (id : Text) (r : Option Bool) → (one_text (found_of m) id ≡ None → r ≡ None)
-    → ((t : Text) → one_text (found_of m) id ≡ Some t → ReadsOne (ParsesBool {E = E}) t r) → unwrap_or r false ≡ flag_in id (rows_of (found_of m))
-unfolding flag_in
+    → ((t : Text) → one_text (found_of m) id ≡ Some t → ReadsOne (ParsesBool {E = E}) t r) → unwrap_or r false ≡ has_flag id (rows_of (found_of m))
+unfolding has_flag
 flag_reads E m id r none value = go (one_text (found_of m) id) refl r refl ∙ ap (λ o. option_map_or (λ text. bytes_eq text (codes "true")) o false) (one_text-rows (found_of m) id)
   where
     other : (t : Text) (b : Bool) → bytes_eq t (codes "true") ≡ b → (t ≡ codes "true" → ⊥) → false ≡ b

@@ -6,18 +6,18 @@ use Rattle.clap.specs.ValueTests.{is_numeral}
 use Rattle.clap.specs.Words.{Row, Text, one_of}
 
 -- the flag was given
-unfoldable pub flag_in : Text → List Row → Bool
-flag_in id rows = option_map_or (λ text. bytes_eq text (codes "true")) (one_of id rows) false
+unfoldable pub has_flag : Text → List Row → Bool
+has_flag id rows = option_map_or (λ text. bytes_eq text (codes "true")) (one_of id rows) false
 
 -- the number, where it is one from low to high
-abbrev pub number_within : ℕ → ℕ → ℕ → Option ℕ
-number_within low high n = if nat_le low n && nat_le n high then Some n else None
+abbrev pub ranged_number : ℕ → ℕ → ℕ → Option ℕ
+ranged_number low high n = if nat_le low n && nat_le n high then Some n else None
 
 -- the number that the text writes, where it is one from low to high: decimal digits, with a plus before them or none
 abbrev pub number_of : ℕ → ℕ → Text → Option ℕ
 number_of low high text =
-    if is_numeral (without_leading_plus text) then number_within low high (digits_value 10 (without_leading_plus text)) else None
+    if is_numeral (without_leading_plus text) then ranged_number low high (digits_value 10 (without_leading_plus text)) else None
 
 -- the number of an entry, where it is one from low to high
-unfoldable pub number_in : ℕ → ℕ → Text → List Row → Option ℕ
-number_in low high id rows = option_and_then (number_of low high) (one_of id rows)
+unfoldable pub entered_number : ℕ → ℕ → Text → List Row → Option ℕ
+entered_number low high id rows = option_and_then (number_of low high) (one_of id rows)

@@ -33,15 +33,15 @@ abbrev pub watch_app : App
 watch_app = with_rule (with_rule (with_rule (new_app (codes "watch")) events_rule) (name_rule (codes "domains"))) (name_rule (codes "work"))
 
 -- seeds, and counts of processors and domains
-abbrev pub seeds : ValueParser
-seeds = vp.Signed (pos 0) (pos 2147483647)
+abbrev pub seed_rule : ValueParser
+seed_rule = vp.Signed (pos 0) (pos 2147483647)
 
-abbrev pub counts : ValueParser
-counts = vp.Signed (pos 1) (pos 64)
+abbrev pub count_rule : ValueParser
+count_rule = vp.Signed (pos 1) (pos 64)
 
 -- a command with the numbers that texts are made from
 abbrev pub numbers_app : Text → App
-numbers_app command = with_rule (with_rule (with_rule (new_app command) (number_rule (codes "seed") seeds)) (number_rule (codes "processors") counts)) (number_rule (codes "domains") counts)
+numbers_app command = with_rule (with_rule (with_rule (new_app command) (number_rule (codes "seed") seed_rule)) (number_rule (codes "processors") count_rule)) (number_rule (codes "domains") count_rule)
 
 -- one of the two texts that are made from a number
 abbrev pub make_app : App
@@ -56,8 +56,8 @@ abbrev pub program_app : App
 program_app = on_top (λ s. record s { no_binary_name = true; subcommand_required = true; disable_help_flag = true; disable_help_subcommand = true }) (new_app (codes "xensched"))
 
 -- all commands
-unfoldable pub tree : App
-tree =
+unfoldable pub command_tree : App
+command_tree =
     with_subcommand (with_subcommand (with_subcommand (with_subcommand (with_subcommand (with_subcommand program_app
     (run_app (codes "run")).top) (run_app (codes "report")).top) watch_app.top) make_app.top) (numbers_app (codes "load")).top) check_app.top
 

@@ -22,7 +22,7 @@ pub enum Made {
 
 /// A command.
 #[derive(Clone, Copy)]
-pub enum Command<'a> {
+pub enum ProgramCommand<'a> {
     /// A run on two files, the ordered one or any, with at most `limit` entries, 1 to 4,000,000. A watched run is never the ordered one.
     Run {
         ordered: bool,

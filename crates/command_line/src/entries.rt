@@ -2,10 +2,10 @@
 
 ghost use Rattle.std.specs.Prelude.{◌≡◌, ◌≢◌, ◌≤◌, IfSome, option_map};
 ghost use Rattle.clap.specs.Words.{first_of, found_of, rows_of, subcommand_rows_of};
-ghost use Rattle.command_line.specs.Entries.{flag_in as flag_in_spec, number_in as number_in_spec, number_within as within_spec};
-ghost use Rattle.command_line.specs.Commands.{asked_of, files_in as files_in_spec, run_in as run_in_spec, run_of as run_of_spec, MayBe, numbers_in as numbers_in_spec, made_of as made_of_spec, make_in as make_in_spec, load_in as load_in_spec, check_in as check_in_spec, named_in as named_in_spec, command_in as command_in_spec, IsInRange};
+ghost use Rattle.command_line.specs.Entries.{has_flag, entered_number, ranged_number};
+ghost use Rattle.command_line.specs.Commands.{asked_of, entered_files, entered_run, asked_run, MayBe, entered_numbers, named_text, entered_make, entered_load, entered_check, command_by_name, entered_command, IsInRange};
 
-use crate::command::{Command, Form, Made};
+use crate::command::{Form, Made, ProgramCommand};
 use clap::ArgMatches;
 
 /// The text of an entry.
@@ -17,14 +17,14 @@ fn text_in<'a>(found: &ArgMatches<'a>, id: &str) -> Option<&'a str>
 
 /// Whether the flag was given.
 fn flag_in(found: &ArgMatches<'_>, id: &str) -> bool
-    ensures { result ≡ flag_in_spec id.now (rows_of (found_of found.now)) }
+    ensures { result ≡ has_flag id.now (rows_of (found_of found.now)) }
 {
     found.get_one::<bool>(id).unwrap_or(false)
 }
 
 /// The number, where it is one from `low` to `high`.
 fn within(low: u32, high: u32, n: u32) -> Option<u32>
-    ensures value { result ≡ within_spec low high n }
+    ensures value { result ≡ ranged_number low high n }
     ensures range { IfSome result (λ m. (low ≤ m) × (m ≤ high)) }
 {
     if low <= n && n <= high { Some(n) } else { None }
@@ -33,7 +33,7 @@ fn within(low: u32, high: u32, n: u32) -> Option<u32>
 /// The number of an entry, where it is one from `low` to `high`. `clap` has refused all others, but says so of the program's own arguments alone,
 /// and not of a command's.
 fn number_in(found: &ArgMatches<'_>, id: &str, low: u32, high: u32) -> Option<u32>
-    ensures value { result ≡ number_in_spec low high id.now (rows_of (found_of found.now)) }
+    ensures value { result ≡ entered_number low high id.now (rows_of (found_of found.now)) }
     ensures range { IfSome result (λ n. (low ≤ n) × (n ≤ high)) }
 {
     match found.get_one::<u32>(id) {
@@ -44,7 +44,7 @@ fn number_in(found: &ArgMatches<'_>, id: &str, low: u32, high: u32) -> Option<u3
 
 /// A number of processors or domains.
 fn count_in(found: &ArgMatches<'_>, id: &str) -> Option<u8>
-    ensures value { result ≡ number_in_spec 1 64 id.now (rows_of (found_of found.now)) }
+    ensures value { result ≡ entered_number 1 64 id.now (rows_of (found_of found.now)) }
     ensures range { IfSome result (λ n. (1 ≤ n) × (n ≤ 64)) }
 {
     Some(number_in(found, id, 1, 64)? as u8)
@@ -53,21 +53,21 @@ fn count_in(found: &ArgMatches<'_>, id: &str) -> Option<u8>
 /// The names of the domain file and of the work file.
 fn files_in<'a>(found: &ArgMatches<'a>) -> Option<(&'a str, &'a str)>
     ensures { option_map (λ f. (f.0.now, f.1.now)) result
-        ≡ files_in_spec (rows_of (found_of found.now)) }
+        ≡ entered_files (rows_of (found_of found.now)) }
 {
     Some((text_in(found, "domains")?, text_in(found, "work")?))
 }
 
 /// A run on two named files, the ordered one where that is asked.
-fn run_of<'a>(ordered: bool, form: Form, found: &ArgMatches<'a>) -> Option<Command<'a>>
+fn run_of<'a>(ordered: bool, form: Form, found: &ArgMatches<'a>) -> Option<ProgramCommand<'a>>
     requires form { MayBe ordered form }
     ensures value { option_map asked_of result
-        ≡ run_of_spec ordered form (rows_of (found_of found.now)) }
+        ≡ asked_run ordered form (rows_of (found_of found.now)) }
     ensures ranges { IfSome result IsInRange }
 {
     let limit = number_in(found, "events", 1, 4_000_000)?;
     let (domains, work) = files_in(found)?;
-    Some(Command::Run {
+    Some(ProgramCommand::Run {
         ordered,
         form,
         limit,
@@ -77,9 +77,9 @@ fn run_of<'a>(ordered: bool, form: Form, found: &ArgMatches<'a>) -> Option<Comma
 }
 
 /// A run on two named files, the ordered one where the flag was given. It is not watched.
-fn run_in<'a>(form: Form, found: &ArgMatches<'a>) -> Option<Command<'a>>
+fn run_in<'a>(form: Form, found: &ArgMatches<'a>) -> Option<ProgramCommand<'a>>
     requires form { form ≢ Form.Watch }
-    ensures value { option_map asked_of result ≡ run_in_spec form (rows_of (found_of found.now)) }
+    ensures value { option_map asked_of result ≡ entered_run form (rows_of (found_of found.now)) }
     ensures ranges { IfSome result IsInRange }
 {
     run_of(flag_in(found, "ordered"), form, found)
@@ -87,7 +87,7 @@ fn run_in<'a>(form: Form, found: &ArgMatches<'a>) -> Option<Command<'a>>
 
 /// Seed, processors and domains.
 fn numbers_in(found: &ArgMatches<'_>) -> Option<(u32, (u8, u8))>
-    ensures value { result ≡ numbers_in_spec (rows_of (found_of found.now)) }
+    ensures value { result ≡ entered_numbers (rows_of (found_of found.now)) }
     ensures ranges { IfSome result (λ n. (n.0 ≤ 2147483647) × (1 ≤ n.1.0) × (n.1.0 ≤ 64)
         × (1 ≤ n.1.1) × (n.1.1 ≤ 64)) }
 {
@@ -99,7 +99,7 @@ fn numbers_in(found: &ArgMatches<'_>) -> Option<(u32, (u8, u8))>
 
 /// The text that the word names.
 fn made_of(word: &str) -> Option<Made>
-    ensures { result ≡ made_of_spec word.now }
+    ensures { result ≡ named_text word.now }
 {
     if word == "domains" {
         Some(Made::Domains)
@@ -111,12 +111,12 @@ fn made_of(word: &str) -> Option<Made>
 }
 
 /// One of the two texts that are made from a number.
-fn make_in<'a>(found: &ArgMatches<'a>) -> Option<Command<'a>>
-    ensures value { option_map asked_of result ≡ make_in_spec (rows_of (found_of found.now)) }
+fn make_in<'a>(found: &ArgMatches<'a>) -> Option<ProgramCommand<'a>>
+    ensures value { option_map asked_of result ≡ entered_make (rows_of (found_of found.now)) }
     ensures ranges { IfSome result IsInRange }
 {
     let (seed, (processors, domains)) = numbers_in(found)?;
-    Some(Command::Make {
+    Some(ProgramCommand::Make {
         seed,
         processors,
         domains,
@@ -125,12 +125,12 @@ fn make_in<'a>(found: &ArgMatches<'a>) -> Option<Command<'a>>
 }
 
 /// The report of the run on both.
-fn load_in<'a>(found: &ArgMatches<'a>) -> Option<Command<'a>>
-    ensures value { option_map asked_of result ≡ load_in_spec (rows_of (found_of found.now)) }
+fn load_in<'a>(found: &ArgMatches<'a>) -> Option<ProgramCommand<'a>>
+    ensures value { option_map asked_of result ≡ entered_load (rows_of (found_of found.now)) }
     ensures ranges { IfSome result IsInRange }
 {
     let (seed, (processors, domains)) = numbers_in(found)?;
-    Some(Command::Load {
+    Some(ProgramCommand::Load {
         seed,
         processors,
         domains,
@@ -138,14 +138,14 @@ fn load_in<'a>(found: &ArgMatches<'a>) -> Option<Command<'a>>
 }
 
 /// Whether a schedule is a run on two files.
-fn check_in<'a>(found: &ArgMatches<'a>) -> Option<Command<'a>>
-    ensures value { option_map asked_of result ≡ check_in_spec (rows_of (found_of found.now)) }
+fn check_in<'a>(found: &ArgMatches<'a>) -> Option<ProgramCommand<'a>>
+    ensures value { option_map asked_of result ≡ entered_check (rows_of (found_of found.now)) }
     ensures ranges { IfSome result IsInRange }
 {
     let (domains, work) = files_in(found)?;
     let schedule = text_in(found, "schedule")?;
     let ordered = flag_in(found, "ordered");
-    Some(Command::Check {
+    Some(ProgramCommand::Check {
         ordered,
         domains,
         work,
@@ -154,9 +154,9 @@ fn check_in<'a>(found: &ArgMatches<'a>) -> Option<Command<'a>>
 }
 
 /// The command of this name.
-fn named_in<'a>(name: &str, found: &ArgMatches<'a>) -> Option<Command<'a>>
+fn named_in<'a>(name: &str, found: &ArgMatches<'a>) -> Option<ProgramCommand<'a>>
     ensures value { option_map asked_of result
-        ≡ named_in_spec name.now (rows_of (found_of found.now)) }
+        ≡ command_by_name name.now (rows_of (found_of found.now)) }
     ensures ranges { IfSome result IsInRange }
 {
     if name == "run" {
@@ -177,8 +177,8 @@ fn named_in<'a>(name: &str, found: &ArgMatches<'a>) -> Option<Command<'a>>
 }
 
 /// The command that the words named, with what they said of it.
-pub fn command_in<'a>(matches: &ArgMatches<'a>) -> Option<Command<'a>>
-    ensures value { option_map asked_of result ≡ command_in_spec (subcommand_rows_of matches.now) }
+pub fn command_in<'a>(matches: &ArgMatches<'a>) -> Option<ProgramCommand<'a>>
+    ensures value { option_map asked_of result ≡ entered_command (subcommand_rows_of matches.now) }
     ensures ranges { IfSome result IsInRange }
 {
     let (name, found) = matches.subcommand()?;

@@ -7,23 +7,23 @@
 #![tactic(auto)]
 
 ghost use Rattle.std.specs.Prelude.{◌≡◌, IfOk, IfSome, option_map};
-ghost use Rattle.command_line.specs.Commands.{asked_of, IsInRange, command_of as command_of_spec};
+ghost use Rattle.command_line.specs.Commands.{asked_of, IsInRange, asked_command};
 
 pub mod command;
 mod entries;
 mod tree;
 
 use clap::error::ErrorKind;
-pub use command::{Command, Form, Made};
+pub use command::{Form, Made, ProgramCommand};
 use entries::command_in;
 use sched_base::NoMemory;
 use std::alloc::Global;
 use tree::tree;
 
 /// The command that the words behind the program's own name are, or none where they are no command. An error says that memory was wanted.
-pub fn command_of(alloc: Global, words: &[String]) -> Result<Option<Command<'_>>, NoMemory>
+pub fn command_of(alloc: Global, words: &[String]) -> Result<Option<ProgramCommand<'_>>, NoMemory>
     ensures value { IfOk result
-        (λ command. option_map asked_of command ≡ command_of_spec words.now) }
+        (λ command. option_map asked_of command ≡ asked_command words.now) }
     ensures ranges { IfOk result (λ command. IfSome command IsInRange) }
 {
     match tree(alloc)?.try_get_matches_from(words) {

@@ -2,7 +2,7 @@
 
 ghost use Rattle.std.specs.Prelude.{◌≡◌, IfOk, false};
 ghost use Rattle.clap.specs.Words.{App, Rule, rule_of, with_rule, with_subcommand};
-ghost use Rattle.command_line.specs.Tree.{IsTree, ordered_rule, events_rule, name_rule, number_rule, run_app, watch_app, numbers_app, make_app, check_app, program_app, tree as tree_spec};
+ghost use Rattle.command_line.specs.Tree.{IsTree, ordered_rule, events_rule, name_rule, number_rule, run_app, watch_app, numbers_app, make_app, check_app, program_app, command_tree};
 
 use clap::builder::ValueParser;
 use clap::{Arg, ArgAction, Command};
@@ -131,7 +131,7 @@ fn program<'a>(alloc: Global) -> Command<'a>
 
 /// All commands.
 pub fn tree<'a>(alloc: Global) -> Result<Command<'a>, NoMemory>
-    ensures { IfOk result (IsTree tree_spec) }
+    ensures { IfOk result (IsTree command_tree) }
 {
     let program = with_command(Ok(program(alloc)), run(alloc, "run"));
     let program = with_command(program, run(alloc, "report"));

@@ -17,23 +17,23 @@ use Rattle.sched_model.specs.declared.state.Resource.{Resource}
 use Rattle.sched_model.specs.declared.state.State.{State}
 use Rattle.sched_model.specs.Places.{at_place, test_at, first_place}
 use Rattle.sched_model.specs.Pool.{enabled_in}
-use Rattle.sched_model.specs.Actions.{IsOfPool, home_of, home_of_core, home_of_domain}
+use Rattle.sched_model.specs.Actions.{IsOfPool, home_pool_of_action, home_pool_of_core, home_pool_of_domain}
 use Rattle.sched_model.specs.CheckedMachine.{IsChecked, IsGranularity}
-use Rattle.sched_model.specs.Machine.{is_enabled}
+use Rattle.sched_model.specs.Machine.{is_action_enabled}
 use Rattle.sched_model.specs.Runs.{IsRun}
 use Rattle.sched_laws.specs.StateLaws.{state_after}
 use Rattle.sched_base.proofs.Bools.{and_left, and_right, clash}
 use Rattle.sched_laws.proofs.EachPlace.{found_at}
 use Rattle.sched_laws.proofs.Lists.{is_some_at, some-test_at, test_at-some}
 use Rattle.sched_laws.proofs.Reached.{is_apart}
-use Rattle.journal_core.specs.Parts.{UnderWay, core_to, domain_to, under_way_of}
+use Rattle.journal_core.specs.Parts.{UnderWay, core_to, domain_to, state_under_way}
 use Rattle.pool_laws.specs.Order.{IsNotAfter}
 use Rattle.pool_laws.specs.Actors.{IsFirstBy, is_by, is_by_domain, is_by_processor, is_lowest, leads}
 use Rattle.composition_laws.proofs.Candidates.{is_candidate}
 use Rattle.composition_laws.proofs.FirstByOrder.{first_by_order}
 use Rattle.composition_laws.proofs.Home.{pool_is_home}
 use Rattle.composition_laws.proofs.MoveLaw.{has_one_move}
-use Rattle.composition_laws.specs.WholeFirst.{move_first, tool_first}
+use Rattle.composition_laws.specs.WholeFirst.{first_tool_move, first_tool_action}
 use Rattle.composition_laws.specs.Actors.{is_tool, is_by_at_home, is_by_actor, first_by, has_actor}
 use Rattle.composition_laws.proofs.WholeFirst.{chosen, by_tool, only_pools}
 
@@ -73,14 +73,14 @@ by_home m s actor action own on = on
 record AtHome (g : ℕ) (s : State) (actor : Actor) (b : Action) : Type 0 where
   place : ℕ
   pool : Pool
-  home : home_of g s b ≡ Some place
+  home : home_pool_of_action g s b ≡ Some place
   at : at_place s.pools place ≡ Some pool
   by : is_by g pool actor b ≡ true
 
 at_home : (m : Machine) (s : State) (actor : Actor) (b : Action) → is_by_at_home m s actor b ≡ true → AtHome m.config.granularity s actor b
-at_home m s actor b on = by_place (home_of m.config.granularity s b) refl on
+at_home m s actor b on = by_place (home_pool_of_action m.config.granularity s b) refl on
   where
-    by_place : (o : Option ℕ) → home_of m.config.granularity s b ≡ o → elim o as (λ _. Bool) [ None ↦ false | Some i ↦ test_at s.pools i (λ pool. is_by m.config.granularity pool actor b) ] ≡ true → AtHome m.config.granularity s actor b
+    by_place : (o : Option ℕ) → home_pool_of_action m.config.granularity s b ≡ o → elim o as (λ _. Bool) [ None ↦ false | Some i ↦ test_at s.pools i (λ pool. is_by m.config.granularity pool actor b) ] ≡ true → AtHome m.config.granularity s actor b
     by_place None is e = absurd (cc)
     by_place (Some i) is e = (let p = some-test_at s.pools i (λ pool. is_by m.config.granularity pool actor b) e in record { place = i; pool = p.0; home = is; at = p.1; by = p.2 })
 
@@ -95,26 +95,26 @@ module _ (m : Machine) (checked : IsChecked m) (entries : List Entry) (run : IsR
   of = checked.config.granularity
 
   -- whoever does the event of a pool, the pool has
-  has_its_core : (i r : ℕ) (pool : Pool) → at_place s.pools i ≡ Some pool → home_of_core s r ≡ Some i → is_some (at_place pool.resources r) ≡ true
+  has_its_core : (i r : ℕ) (pool : Pool) → at_place s.pools i ≡ Some pool → home_pool_of_core s r ≡ Some i → is_some (at_place pool.resources r) ≡ true
   has_its_core i r pool at home =
       let f = found_at i (λ (p : Pool). is_some (at_place p.resources r)) s.pools home in
       let same : f.0 ≡ pool = (let x = f.1 in cc) in
       subst (λ (p : Pool). is_some (at_place p.resources r) ≡ true) same f.2
 
-  has_its_domain : (i d : ℕ) (pool : Pool) → at_place s.pools i ≡ Some pool → home_of_domain s d ≡ Some i → is_some (at_place pool.domains d) ≡ true
+  has_its_domain : (i d : ℕ) (pool : Pool) → at_place s.pools i ≡ Some pool → home_pool_of_domain s d ≡ Some i → is_some (at_place pool.domains d) ≡ true
   has_its_domain i d pool at home =
       let f = found_at i (λ (p : Pool). is_some (at_place p.domains d)) s.pools home in
       let same : f.0 ≡ pool = (let x = f.1 in cc) in
       subst (λ (p : Pool). is_some (at_place p.domains d) ≡ true) same f.2
 
   -- the event of a processor, and of the core whose first it is
-  by_itself : (i p q : ℕ) (pool : Pool) → at_place s.pools i ≡ Some pool → home_of_core s (q / g) ≡ Some i → (p == q) ≡ true → is_some (at_place pool.resources (p / g)) ≡ true
-  by_itself i p q pool at home on = (let same = eqb-true p q on in has_its_core i (p / g) pool at (subst (λ (n : ℕ). home_of_core s (n / g) ≡ Some i) (sym same) home))
+  by_itself : (i p q : ℕ) (pool : Pool) → at_place s.pools i ≡ Some pool → home_pool_of_core s (q / g) ≡ Some i → (p == q) ≡ true → is_some (at_place pool.resources (p / g)) ≡ true
+  by_itself i p q pool at home on = (let same = eqb-true p q on in has_its_core i (p / g) pool at (subst (λ (n : ℕ). home_pool_of_core s (n / g) ≡ Some i) (sym same) home))
 
-  by_first : (i p r : ℕ) (pool : Pool) → at_place s.pools i ≡ Some pool → home_of_core s r ≡ Some i → leads g r p ≡ true → is_some (at_place pool.resources (p / g)) ≡ true
-  by_first i p r pool at home on = has_its_core i (p / g) pool at (subst (λ (n : ℕ). home_of_core s n ≡ Some i) (core_of_first g r p of on) home)
+  by_first : (i p r : ℕ) (pool : Pool) → at_place s.pools i ≡ Some pool → home_pool_of_core s r ≡ Some i → leads g r p ≡ true → is_some (at_place pool.resources (p / g)) ≡ true
+  by_first i p r pool at home on = has_its_core i (p / g) pool at (subst (λ (n : ℕ). home_pool_of_core s n ≡ Some i) (core_of_first g r p of on) home)
 
-  has_processor : (i : ℕ) (p : ProcId) (pool : Pool) → at_place s.pools i ≡ Some pool → (b : Action) → home_of g s b ≡ Some i → is_by_processor g pool p.0 b ≡ true → has_actor g pool (Proc p) ≡ true
+  has_processor : (i : ℕ) (p : ProcId) (pool : Pool) → at_place s.pools i ≡ Some pool → (b : Action) → home_pool_of_action g s b ≡ Some i → is_by_processor g pool p.0 b ≡ true → has_actor g pool (Proc p) ≡ true
   has_processor i p pool at (Block q) home on = by_itself i p.0 q.0 pool at home on
   has_processor i p pool at (Slice r) home on = by_first i p.0 r.0 pool at home on
   has_processor i p pool at (Repl u) home on = has_lowest g p.0 pool of on
@@ -125,11 +125,11 @@ module _ (m : Machine) (checked : IsChecked m) (entries : List Entry) (run : IsR
   has_processor i p pool at (Save r) home on = by_first i p.0 r.0 pool at home on
   has_processor i p pool at action home on = absurd (cc)
 
-  has_domain : (i : ℕ) (d : DomId) (pool : Pool) → at_place s.pools i ≡ Some pool → (b : Action) → home_of g s b ≡ Some i → is_by_domain d.0 b ≡ true → has_actor g pool (Dom d) ≡ true
-  has_domain i d pool at (Wake v) home on = (let same = eqb-true v.dom.0 d.0 on in has_its_domain i d.0 pool at (subst (λ (n : ℕ). home_of_domain s n ≡ Some i) same home))
+  has_domain : (i : ℕ) (d : DomId) (pool : Pool) → at_place s.pools i ≡ Some pool → (b : Action) → home_pool_of_action g s b ≡ Some i → is_by_domain d.0 b ≡ true → has_actor g pool (Dom d) ≡ true
+  has_domain i d pool at (Wake v) home on = (let same = eqb-true v.dom.0 d.0 on in has_its_domain i d.0 pool at (subst (λ (n : ℕ). home_pool_of_domain s n ≡ Some i) same home))
   has_domain i d pool at action home on = absurd (cc)
 
-  has_doer : (i : ℕ) (actor : Actor) (pool : Pool) → at_place s.pools i ≡ Some pool → (b : Action) → home_of g s b ≡ Some i → is_by g pool actor b ≡ true → has_actor g pool actor ≡ true
+  has_doer : (i : ℕ) (actor : Actor) (pool : Pool) → at_place s.pools i ≡ Some pool → (b : Action) → home_pool_of_action g s b ≡ Some i → is_by g pool actor b ≡ true → has_actor g pool actor ≡ true
   has_doer i (Proc p) pool at b home on = has_processor i p pool at b home on
   has_doer i (Dom d) pool at b home on = has_domain i d pool at b home on
   has_doer i Tool pool at b home on = absurd (cc)
@@ -145,20 +145,20 @@ module _ (m : Machine) (checked : IsChecked m) (entries : List Entry) (run : IsR
   one_pool Tool i j a b at_i at_j in_a in_b = absurd (cc)
 
   abbrev test : Actor → Action → Bool
-  test actor action = is_by_actor m s actor action && is_enabled m s s.now action
+  test actor action = is_by_actor m s actor action && is_action_enabled m s s.now action
 
   -- no action that may come is the actor's; or it is the first of those
-  none_by : (actor : Actor) → ((b : Action) → is_by_actor m s actor b ≡ true → is_enabled m s s.now b ≡ true → ⊥) → first_by m s actor ≡ None
+  none_by : (actor : Actor) → ((b : Action) → is_by_actor m s actor b ≡ true → is_action_enabled m s s.now b ≡ true → ⊥) → first_by m s actor ≡ None
   none_by actor none =
       (first_by_order m.config (test actor) None).0
       (λ b there. elim (cases_Bool (test actor b)) [ inl on ↦ absurd (none b (and_left (is_by_actor m s actor b) _ on) (and_right (is_by_actor m s actor b) _ on)) | inr off ↦ off ])
 
-  some_by : (actor : Actor) (a : Action) → is_by_actor m s actor a ≡ true → is_enabled m s s.now a ≡ true → ((b : Action) → is_by_actor m s actor b ≡ true → is_enabled m s s.now b ≡ true → IsNotAfter a b) → first_by m s actor ≡ Some a
+  some_by : (actor : Actor) (a : Action) → is_by_actor m s actor a ≡ true → is_action_enabled m s s.now a ≡ true → ((b : Action) → is_by_actor m s actor b ≡ true → is_action_enabled m s s.now b ≡ true → IsNotAfter a b) → first_by m s actor ≡ Some a
   some_by actor a own on first =
       (first_by_order m.config (test actor) (Some a)).0
       (record {
         there = is_candidate m checked entries run s.now a on;
-        passes = and_from (is_by_actor m s actor a) (is_enabled m s s.now a) own on;
+        passes = and_from (is_by_actor m s actor a) (is_action_enabled m s s.now a) own on;
         first = λ b there pass. first b (and_left (is_by_actor m s actor b) _ pass) (and_right (is_by_actor m s actor b) _ pass);
       })
 
@@ -175,7 +175,7 @@ module _ (m : Machine) (checked : IsChecked m) (entries : List Entry) (run : IsR
     record Here (b : Action) : Type 0 where
       of_pool : IsOfPool b
       by : is_by g pool actor b ≡ true
-      home : home_of g s b ≡ Some i
+      home : home_pool_of_action g s b ≡ Some i
 
     here : (b : Action) → is_by_actor m s actor b ≡ true → Here b
     here b on =
@@ -183,9 +183,9 @@ module _ (m : Machine) (checked : IsChecked m) (entries : List Entry) (run : IsR
         let h = at_home m s actor b o.1 in
         let same : i ≡ h.place = one_pool actor i h.place pool h.pool at h.at has (has_doer h.place actor h.pool h.at b h.home h.by) in
         let same_pool : h.pool ≡ pool = (let x = h.at in let y = subst (λ (n : ℕ). at_place s.pools n ≡ Some pool) same at in cc) in
-        record { of_pool = o.0; by = subst (λ (p : Pool). is_by g p actor b ≡ true) same_pool h.by; home = subst (λ (n : ℕ). home_of g s b ≡ Some n) (sym same) h.home }
+        record { of_pool = o.0; by = subst (λ (p : Pool). is_by g p actor b ≡ true) same_pool h.by; home = subst (λ (n : ℕ). home_pool_of_action g s b ≡ Some n) (sym same) h.home }
 
-    comes_here : (b : Action) → Here b → is_enabled m s s.now b ≡ true → enabled_in g s.now pool b ≡ true
+    comes_here : (b : Action) → Here b → is_action_enabled m s s.now b ≡ true → enabled_in g s.now pool b ≡ true
     comes_here b h on =
         let c = (pool_is_home m checked entries run i s.now b).1 (record { home = h.home; enabled = on }) in
         let same : c.pool ≡ pool = (let x = c.at in cc) in
@@ -220,26 +220,26 @@ module _ (m : Machine) (checked : IsChecked m) (entries : List Entry) (run : IsR
   tool_event action own on = (let h = at_home m s Tool action on in let x = h.by in cc)
 
   -- and its first action is one of its own
-  tool_move : (way : Option UnderWay) (a : Action) → move_first m s s.now way ≡ Some a → is_by_actor m s Tool a ≡ true
+  tool_move : (way : Option UnderWay) (a : Action) → first_tool_move m s s.now way ≡ Some a → is_by_actor m s Tool a ≡ true
   tool_move None a is = absurd (cc)
   tool_move (Some (core_to r to)) a is = (let c = chosen m s s.now (Moved (core_number r)) a is in subst (λ (x : Action). is_by_actor m s Tool x ≡ true) c.1 refl)
   tool_move (Some (domain_to d i)) a is = (let c = chosen m s s.now (DomMoved (domain d)) a is in subst (λ (x : Action). is_by_actor m s Tool x ≡ true) c.1 refl)
 
-  tool_own : (a : Action) → tool_first m s s.now ≡ Some a → is_by_actor m s Tool a ≡ true
+  tool_own : (a : Action) → first_tool_action m s s.now ≡ Some a → is_by_actor m s Tool a ≡ true
   tool_own a is =
-      let from_move : Option Action = move_first m s s.now (under_way_of s) in
-      elim (is_enabled m s s.now Stall) as (λ b. cond b (Some Stall) (cond (is_enabled m s s.now Xl) (Some Xl) from_move) ≡ Some a → is_by_actor m s Tool a ≡ true) [
+      let from_move : Option Action = first_tool_move m s s.now (state_under_way s) in
+      elim (is_action_enabled m s s.now Stall) as (λ b. cond b (Some Stall) (cond (is_action_enabled m s s.now Xl) (Some Xl) from_move) ≡ Some a → is_by_actor m s Tool a ≡ true) [
         | true ↦ λ e. (let same : Stall ≡ a = cc in subst (λ (x : Action). is_by_actor m s Tool x ≡ true) same refl)
-        | false ↦ elim (is_enabled m s s.now Xl) as (λ b. cond b (Some Xl) from_move ≡ Some a → is_by_actor m s Tool a ≡ true) [
+        | false ↦ elim (is_action_enabled m s s.now Xl) as (λ b. cond b (Some Xl) from_move ≡ Some a → is_by_actor m s Tool a ≡ true) [
           | true ↦ λ e. (let same : Xl ≡ a = cc in subst (λ (x : Action). is_by_actor m s Tool x ≡ true) same refl)
-          | false ↦ λ e. tool_move (under_way_of s) a e
+          | false ↦ λ e. tool_move (state_under_way s) a e
         ]
       ] is
 
-  pub tool_is_first : first_by m s Tool ≡ tool_first m s s.now
+  pub tool_is_first : first_by m s Tool ≡ first_tool_action m s s.now
   tool_is_first =
       let one = has_one_move m checked entries run in
-      elim (tool_first m s s.now) as (λ o. tool_first m s s.now ≡ o → first_by m s Tool ≡ o) [
+      elim (first_tool_action m s s.now) as (λ o. first_tool_action m s s.now ≡ o → first_by m s Tool ≡ o) [
         | None ↦ λ is. none_by Tool (λ b own on. tool_event b (only_pools m s s.now one is b on) own)
         | Some a ↦ λ is. (let f = by_tool m s s.now one a is in some_by Tool a (tool_own a is) f.0 (λ b own on. f.1 b on))
       ] refl

@@ -14,11 +14,11 @@ use Rattle.sched_model.specs.declared.state.Pool.{Pool}
 use Rattle.sched_model.specs.declared.state.State.{State}
 use Rattle.sched_model.specs.declared.action.Action.{Action}
 use Rattle.sched_model.specs.Places.{at_place, change_at, change_item}
-use Rattle.sched_model.specs.Actions.{home_of, home_of_core, home_of_domain, change_pool}
+use Rattle.sched_model.specs.Actions.{home_pool_of_action, home_pool_of_core, home_pool_of_domain, change_pool}
 use Rattle.sched_model.specs.Pool.{settled_pool, after_in, change_processor}
-use Rattle.sched_model.specs.Commands.{change_home, set_rtds, set_rtds_unit}
-use Rattle.sched_model.specs.Policy.{rtds_record}
-use Rattle.sched_model.specs.Machine.{after_at_home, after_stall, with_stall_end, stall_end_of, settled_at}
+use Rattle.sched_model.specs.Commands.{change_home, pool_with_rtds, pool_with_rtds_unit}
+use Rattle.sched_model.specs.Policy.{unit_rtds_record}
+use Rattle.sched_model.specs.Machine.{after_at_home, after_stall, state_with_stall, later_stall_end, settled_at}
 use Rattle.sched_laws.proofs.EachPlace.{by_option}
 use Rattle.composition_laws.proofs.Places.{seen_change_at, at_place-change_at, at_place-change_at_other}
 use Rattle.composition_laws.proofs.Looks.{LooksLike, has_core_in, moving_in, looks_change_each, looks_parts, looks_set_params}
@@ -80,26 +80,26 @@ keeps_event : (g t : ℕ) (action : Action) (pool : Pool) → Keeps (λ p. settl
 keeps_event g t action pool = looks_change_each (has_core_in pool) (moving_in pool) _ (after_in g t pool action) (kept_by_parts (looks_parts (has_core_in pool) (moving_in pool) g t) pool action tt (looks_itself pool))
 
 pub alike_at_home : (g t : ℕ) (action : Action) (s : State) → Alike s (after_at_home g s t action)
-alike_at_home g t action s = by_option (Alike s) (home_of g s action) _ _ (λ is. alike_itself s) (λ i is. alike_change i (λ p. settled_pool t (after_in g t p action)) s (λ pool at. keeps_event g t action pool))
+alike_at_home g t action s = by_option (Alike s) (home_pool_of_action g s action) _ _ (λ is. alike_itself s) (λ i is. alike_change i (λ p. settled_pool t (after_in g t p action)) s (λ pool at. keeps_event g t action pool))
 
-pub alike_stalled : (g p end : ℕ) (s : State) → Alike s (with_stall_end g p end s)
+pub alike_stalled : (g p end : ℕ) (s : State) → Alike s (state_with_stall g p end s)
 alike_stalled g p end s =
-    by_option (Alike s) (home_of_core s (p / g)) _ _
+    by_option (Alike s) (home_pool_of_core s (p / g)) _ _
     (λ is. record { pools = λ i. at_itself (at_place s.pools i); free = λ r. seen_change_at (p / g) r (λ (c : FreeCore). record c { stall_ends = change_item (p % g) (λ old. moment end) c.stall_ends }) (λ (c : FreeCore). c.target) (λ c. refl) s.free })
     (λ i is. alike_change i (change_processor g p (λ q. record q { stall_end = moment end })) s (λ pool at. kept_processor (looks_parts (has_core_in pool) (moving_in pool) g 0) p _ pool (looks_itself pool)))
 
 pub alike_stall : (g t : ℕ) (line : StallLine) (s : State) → Alike s (after_stall g t line s)
-alike_stall g t line s = let a = alike_stalled g line.cpu.0 (stall_end_of g s line.cpu.0 (t + line.span.0)) s in record { pools = a.pools; free = a.free }
+alike_stall g t line s = let a = alike_stalled g line.cpu.0 (later_stall_end g s line.cpu.0 (t + line.span.0)) s in record { pools = a.pools; free = a.free }
 
 pub alike_change_home : (d : ℕ) (f : Pool → Pool) (s : State) → ((pool : Pool) → Keeps f pool) → Alike s (change_home d f s)
-alike_change_home d f s keeps = by_option (Alike s) (home_of_domain s d) _ _ (λ is. alike_itself s) (λ i is. alike_change i f s (λ pool at. keeps pool))
+alike_change_home d f s keeps = by_option (Alike s) (home_pool_of_domain s d) _ _ (λ is. alike_itself s) (λ i is. alike_change i f s (λ pool at. keeps pool))
 
 module _ (C : ℕ → Bool) (D : ℕ → Option (Option PoolId)) where
-  looks_rtds_unit : (t : ℕ) (period budget : Option Span) (extra : Option Bool) (u : UnitId) (pool : Pool) → LooksLike C D pool → LooksLike C D (set_rtds_unit t period budget extra u pool)
-  looks_rtds_unit t period budget extra u pool looks = by_option (LooksLike C D) (rtds_record pool.scheduler.records u) _ _ (λ is. looks)
+  looks_rtds_unit : (t : ℕ) (period budget : Option Span) (extra : Option Bool) (u : UnitId) (pool : Pool) → LooksLike C D pool → LooksLike C D (pool_with_rtds_unit t period budget extra u pool)
+  looks_rtds_unit t period budget extra u pool looks = by_option (LooksLike C D) (unit_rtds_record pool.scheduler.records u) _ _ (λ is. looks)
       (λ x is. looks_set_params C D (changes.«Unit» u (unwrap_or period (span x.next_period)) (unwrap_or budget (span x.next_budget)) (unwrap_or extra x.next_extra)) t pool looks)
 
-  pub looks_rtds : (t d : ℕ) (period budget : Option Span) (extra : Option Bool) (units : List ℕ) (pool : Pool) → LooksLike C D pool → LooksLike C D (set_rtds t d period budget extra units pool)
+  pub looks_rtds : (t d : ℕ) (period budget : Option Span) (extra : Option Bool) (units : List ℕ) (pool : Pool) → LooksLike C D pool → LooksLike C D (pool_with_rtds t d period budget extra units pool)
   looks_rtds t d period budget extra [] pool looks = looks
   looks_rtds t d period budget extra (n ∷ ns) pool looks =
       looks_rtds t d period budget extra ns _ (looks_rtds_unit t period budget extra (record { dom = domain_number d; n = n }) pool looks)

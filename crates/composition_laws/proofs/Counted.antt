@@ -9,7 +9,7 @@ use Rattle.sched_model.specs.declared.state.Pool.{Pool}
 use Rattle.sched_model.specs.declared.state.Resource.{Resource}
 use Rattle.sched_model.specs.declared.state.State.{State}
 use Rattle.sched_model.specs.Places.{numbered_items}
-use Rattle.sched_model.specs.Machine.{is_move_under_way}
+use Rattle.sched_model.specs.Machine.{has_move_under_way}
 use Rattle.sched_laws.specs.EachPlace.{EachPlace}
 use Rattle.sched_base.proofs.Bools.{or_left, or_right}
 use Rattle.sched_laws.proofs.Counts.{total_is, total_none, total_at, some_numbered}
@@ -65,7 +65,7 @@ none_from pool none =
     omega (arith, a, b)
 
 -- where nothing is on its way the count is 0
-pub none_in_all : (s : State) → is_move_under_way s ≡ false → in_all s ≡ 0
+pub none_in_all : (s : State) → has_move_under_way s ≡ false → in_all s ≡ 0
 none_in_all s none =
     let pools = or_left (goes_from_pools s) (goes_from_free s) none in
     let free = or_right (goes_from_pools s) (goes_from_free s) none in
@@ -81,12 +81,12 @@ some_from pool some = elim (or_cases (list_any (λ (c : ℕ × Resource). c.1.le
   | inr domain ↦ (let p = some_numbered (λ (x : Domain). is_some x.moving) 0 pool.domains domain in let one : moves p.1 ≡ 1 = ap one_if p.3 in let a = total_at moves p.0 p.1 pool.domains p.2 in omega (arith, one, a))
 ]
 
-some_in_all : (s : State) → is_move_under_way s ≡ true → 1 ≤ in_all s
+some_in_all : (s : State) → has_move_under_way s ≡ true → 1 ≤ in_all s
 some_in_all s some = elim (or_cases (goes_from_pools s) (goes_from_free s) some) [
   | inl pool ↦ (let p = some_numbered goes_from 0 s.pools pool in let one = some_from p.1 p.3 in let a = total_at from_pool p.0 p.1 s.pools p.2 in omega (arith, one, a))
   | inr free ↦ (let p = some_numbered (λ (c : FreeCore). is_some c.target) 0 s.free free in let one : joins p.1 ≡ 1 = ap one_if p.3 in let a = total_at joins p.0 p.1 s.free p.2 in omega (arith, one, a))
 ]
 
 -- where the count is 0 nothing is on its way
-pub none_under_way : (s : State) → in_all s ≡ 0 → is_move_under_way s ≡ false
-none_under_way s none = elim (cases_Bool (is_move_under_way s)) [ inl some ↦ (let a = some_in_all s some in absurd (omega (arith, a, none))) | inr is ↦ is ]
+pub none_under_way : (s : State) → in_all s ≡ 0 → has_move_under_way s ≡ false
+none_under_way s none = elim (cases_Bool (has_move_under_way s)) [ inl some ↦ (let a = some_in_all s some in absurd (omega (arith, a, none))) | inr is ↦ is ]

@@ -14,8 +14,8 @@ use Rattle.sched_model.specs.Places.{at_place, put_at, change_at, change_each, c
 use Rattle.sched_model.specs.declared.ask.Ask.{Ask}
 use Rattle.sched_model.specs.EligibleUnits.{Decision}
 use Rattle.sched_model.specs.Policy as policy
-use Rattle.sched_model.specs.Policy.{kind_of, decision_of, after_decision}
-use Rattle.sched_model.specs.Pool.{after_in, settled_pool, reconsidered_core, change_core, change_processor, change_vcpu, with_doing, woken_vcpu, put_to_sleep, stopped_vcpu, started_on, vcpu_for, ask_of, decided_core, same_choice, open_if_left, after_arrive, after_decide, after_leave, saved_core, with_records, due_within, guest_of, is_held, home_cores, set_pending}
+use Rattle.sched_model.specs.Policy.{records_kind, decision_of, after_decision}
+use Rattle.sched_model.specs.Pool.{after_in, settled_pool, reconsidered_core, change_core, change_processor, change_vcpu, with_doing, woken_vcpu, put_to_sleep, stopped_vcpu, started_on, vcpu_to_run, core_ask, decided_core, same_choice, reopened_core, after_arrive, after_decide, after_leave, saved_core, with_records, due_within, running_guest, is_held_back, pool_core_set, pending_core}
 use Rattle.std.specs.List.{list_any}
 use Rattle.sched_model.specs.declared.state.Doing.TheVariants.{Guest, Idle, Held}
 use Rattle.sched_laws.proofs.EachPlace.{by_option, by_cond, by_test}
@@ -46,12 +46,12 @@ seen_put_at see zero x y (p ∷ places) at keeps =
 seen_put_at see (suc i) x y (p ∷ places) at keeps = ap (λ ys. option_map see p ∷ ys) (seen_put_at see i x y places at keeps)
 
 -- the face by its parts
-face_is : (pool next : Pool) → kind_of next.scheduler.records ≡ kind_of pool.scheduler.records → map (option_map is_leaving) next.resources ≡ map (option_map is_leaving) pool.resources
+face_is : (pool next : Pool) → records_kind next.scheduler.records ≡ records_kind pool.scheduler.records → map (option_map is_leaving) next.resources ≡ map (option_map is_leaving) pool.resources
     → map (option_map domain_face) next.domains ≡ map (option_map domain_face) pool.domains → face_of next ≡ face_of pool
 face_is pool next kind cores domains =
     ap (λ (k : SchedKind). record { kind = k; cores = map (option_map is_leaving) next.resources; domains = map (option_map domain_face) next.domains }) kind
-    ∙ ap (λ (cs : List (Option Bool)). record { kind = kind_of pool.scheduler.records; cores = cs; domains = map (option_map domain_face) next.domains }) cores
-    ∙ ap (λ (ds : List (Option DomainFace)). record { kind = kind_of pool.scheduler.records; cores = map (option_map is_leaving) pool.resources; domains = ds }) domains
+    ∙ ap (λ (cs : List (Option Bool)). record { kind = records_kind pool.scheduler.records; cores = cs; domains = map (option_map domain_face) next.domains }) cores
+    ∙ ap (λ (ds : List (Option DomainFace)). record { kind = records_kind pool.scheduler.records; cores = map (option_map is_leaving) pool.resources; domains = ds }) domains
 
 face_core : (r : ℕ) (f : Resource → Resource) (pool : Pool) → ((c : Resource) → (f c).leaving ≡ c.leaving) → face_of (change_core r f pool) ≡ face_of pool
 face_core r f pool keeps = face_is pool (change_core r f pool) refl (seen_change_at is_leaving r f pool.resources keeps) refl
@@ -65,19 +65,19 @@ face_vcpu v f pool =
     (seen_change_at domain_face v.dom.0 (λ d. record d { vcpus = change_item v.n f d.vcpus }) pool.domains
     (λ d. ap (λ (k : ℕ). record { vcpus = k; moving = d.moving }) (length_change_item v.n f d.vcpus)))
 
-face_records : (records : Records) (pool : Pool) → kind_of records ≡ kind_of pool.scheduler.records → face_of (with_records records pool) ≡ face_of pool
+face_records : (records : Records) (pool : Pool) → records_kind records ≡ records_kind pool.scheduler.records → face_of (with_records records pool) ≡ face_of pool
 face_records records pool kind = face_is pool (with_records records pool) kind refl refl
 
 -- a scheduler keeps its kind
-kind_decided : (ask : Ask) (scheduler : Scheduler) → kind_of (after_decision (decision_of ask scheduler) scheduler).records ≡ kind_of scheduler.records
-kind_decided ask scheduler = same_decision kind_of (λ a b. refl) (λ a b. refl) (λ a b. refl) scheduler.records ask scheduler refl
+kind_decided : (ask : Ask) (scheduler : Scheduler) → records_kind (after_decision (decision_of ask scheduler) scheduler).records ≡ records_kind scheduler.records
+kind_decided ask scheduler = same_decision records_kind (λ a b. refl) (λ a b. refl) (λ a b. refl) scheduler.records ask scheduler refl
 
 -- looking at the cores
 leaving_kept : (t home : ℕ) (scheduler : Scheduler) (r : ℕ) (c : Resource) → (reconsidered_core t home scheduler r c).leaving ≡ c.leaving
 leaving_kept t home scheduler r c = by_cond (λ (d : Resource). d.leaving ≡ c.leaving) c.leaving _ _ (λ is. refl) (λ is. refl)
 
 face_settled : (t : ℕ) (pool : Pool) → face_of (settled_pool t pool) ≡ face_of pool
-face_settled t pool = face_is pool (settled_pool t pool) refl (seen_change_each is_leaving 0 (reconsidered_core t (home_cores pool) pool.scheduler) pool.resources (leaving_kept t (home_cores pool) pool.scheduler)) refl
+face_settled t pool = face_is pool (settled_pool t pool) refl (seen_change_each is_leaving 0 (reconsidered_core t (pool_core_set pool) pool.scheduler) pool.resources (leaving_kept t (pool_core_set pool) pool.scheduler)) refl
 
 -- the events
 module _ (g t : ℕ) where
@@ -86,7 +86,7 @@ module _ (g t : ℕ) where
 
   face_arrive : (n : ℕ) (pool : Pool) → face_of (after_arrive g t n pool) ≡ face_of pool
   face_arrive n pool =
-      by_option (λ (next : Pool). face_of (change_processor g n (with_doing Held) next) ≡ face_of pool) (guest_of g pool n) _ _
+      by_option (λ (next : Pool). face_of (change_processor g n (with_doing Held) next) ≡ face_of pool) (running_guest g pool n) _ _
       (λ none. face_processor g n (with_doing Held) pool)
       (λ v is. face_processor g n (with_doing Held) (change_vcpu v (stopped_vcpu t) pool) ∙ face_vcpu v (stopped_vcpu t) pool)
 
@@ -95,21 +95,21 @@ module _ (g t : ℕ) where
 
   face_decide : (r : ℕ) (c : Resource) (pool : Pool) → at_place pool.resources r ≡ Some c → face_of (after_decide g t r c pool) ≡ face_of pool
   face_decide r c pool at =
-      face_is pool (after_decide g t r c pool) (kind_decided (ask_of g t pool r c) pool.scheduler)
-      (seen_put_at is_leaving r c (decided_core t (decision_of (ask_of g t pool r c) pool.scheduler) c) pool.resources at (leaving_decided (decision_of (ask_of g t pool r c) pool.scheduler) c)) refl
+      face_is pool (after_decide g t r c pool) (kind_decided (core_ask g t pool r c) pool.scheduler)
+      (seen_put_at is_leaving r c (decided_core t (decision_of (core_ask g t pool r c) pool.scheduler) c) pool.resources at (leaving_decided (decision_of (core_ask g t pool r c) pool.scheduler) c)) refl
 
-  leaving_open : (c : Resource) → (open_if_left c).leaving ≡ c.leaving
-  leaving_open c = by_cond (λ (d : Resource). d.leaving ≡ c.leaving) (list_any is_held c.processors) _ _ (λ some. refl) (λ none. refl)
+  leaving_open : (c : Resource) → (reopened_core c).leaving ≡ c.leaving
+  leaving_open c = by_cond (λ (d : Resource). d.leaving ≡ c.leaving) (list_any is_held_back c.processors) _ _ (λ some. refl) (λ none. refl)
 
   face_leave : (n : ℕ) (c : Resource) (pool : Pool) → face_of (after_leave g t n c pool) ≡ face_of pool
   face_leave n c pool =
-      by_option (λ (next : Pool). face_of (change_core (n / g) open_if_left next) ≡ face_of pool) (vcpu_for g pool c (n % g)) _ _
-      (λ none. face_core (n / g) open_if_left (change_processor g n (with_doing Idle) pool) leaving_open ∙ face_processor g n (with_doing Idle) pool)
-      (λ v is. face_core (n / g) open_if_left (started_on g t n v pool) leaving_open ∙ face_started n v pool)
+      by_option (λ (next : Pool). face_of (change_core (n / g) reopened_core next) ≡ face_of pool) (vcpu_to_run g pool c (n % g)) _ _
+      (λ none. face_core (n / g) reopened_core (change_processor g n (with_doing Idle) pool) leaving_open ∙ face_processor g n (with_doing Idle) pool)
+      (λ v is. face_core (n / g) reopened_core (started_on g t n v pool) leaving_open ∙ face_started n v pool)
 
   face_steps : (face : Face) → KeptBySteps g t Anyway (λ next. face_of next ≡ face)
   face_steps face = record {
-    pends = λ r pool same. face_core r set_pending pool (λ c. refl) ∙ same;
+    pends = λ r pool same. face_core r pending_core pool (λ c. refl) ∙ same;
     queues = λ u pool runs same. same;
     wakes = λ v pool on same. face_vcpu v woken_vcpu pool ∙ same;
     joins = λ v r q pool is is2 idle awake same. face_started (r * g + v.n % g) v pool ∙ same;
@@ -118,9 +118,9 @@ module _ (g t : ℕ) where
     decides = λ r c pool at on same. face_decide r c pool at ∙ same;
     leaves = λ p c pool at on same. face_leave p c pool ∙ same;
     saves = λ r c u pool at is on same. face_core r saved_core pool (λ x. refl) ∙ same;
-    replenishes = λ u pool on same. face_records (policy.replenish pool.scheduler.records t u) pool (same_replenish kind_of (λ a b. refl) (λ a b. refl) pool.scheduler.records t u) ∙ same;
+    replenishes = λ u pool on same. face_records (policy.records_after_replenish pool.scheduler.records t u) pool (same_replenish records_kind (λ a b. refl) (λ a b. refl) pool.scheduler.records t u) ∙ same;
     dues = λ r u x old pool on is same. face_core r (due_within t x.budget) pool (λ c. refl) ∙ same;
-    refills = λ d pool on same. face_records (policy.refill pool.scheduler.records t d) pool (same_refill kind_of (λ a b. refl) (λ a b. refl) pool.scheduler.records t d) ∙ same;
+    refills = λ d pool on same. face_records (policy.records_after_refill pool.scheduler.records t d) pool (same_refill records_kind (λ a b. refl) (λ a b. refl) pool.scheduler.records t d) ∙ same;
   }
 
   -- an event of a pool, after which its cores are looked at

@@ -15,9 +15,9 @@ use Rattle.sched_model.specs.declared.state.Pool.{Pool}
 use Rattle.sched_model.specs.declared.state.State.{State}
 use Rattle.sched_model.specs.Places.{at_place, test_at}
 use Rattle.sched_model.specs.Pool.{enabled_in}
-use Rattle.sched_model.specs.Actions.{home_of, home_of_core, home_of_domain}
+use Rattle.sched_model.specs.Actions.{home_pool_of_action, home_pool_of_core, home_pool_of_domain}
 use Rattle.sched_model.specs.CheckedMachine.{IsChecked}
-use Rattle.sched_model.specs.Machine.{is_enabled, enabled_at_home, free_ready}
+use Rattle.sched_model.specs.Machine.{is_action_enabled, enabled_at_home, is_free_core_ready}
 use Rattle.sched_model.specs.Runs.{IsRun}
 use Rattle.sched_laws.specs.StateLaws.{state_after}
 use Rattle.sched_laws.proofs.Choices.{at_unit}
@@ -42,10 +42,10 @@ is_of_pool domains (Credit2Pool records) d others has =
 is_of_pool domains records d others has = absurd has
 
 -- what may come by the pool of its subject may come
-by_home : (m : Machine) (s : State) (t : ℕ) (action : Action) → enabled_at_home m s t action ≡ true → is_enabled m s t action ≡ true
+by_home : (m : Machine) (s : State) (t : ℕ) (action : Action) → enabled_at_home m s t action ≡ true → is_action_enabled m s t action ≡ true
 by_home m s t Stall on = absurd (cc)
 by_home m s t Xl on = absurd (cc)
-by_home m s t (Moved r) on = either_way (test_at s.free r.0 (free_ready t)) (enabled_at_home m s t (Moved r)) on
+by_home m s t (Moved r) on = either_way (test_at s.free r.0 (is_free_core_ready t)) (enabled_at_home m s t (Moved r)) on
   where
     either_way : (a b : Bool) → b ≡ true → (a || b) ≡ true
     either_way true b is = refl
@@ -62,21 +62,21 @@ module _ (m : Machine) (checked : IsChecked m) (entries : List Entry) (run : IsR
   own : UnitsAreOwn pool
   own = units_are_own m checked entries run i pool at
 
-  home_of_core_at : (r : ℕ) (c : Resource) → at_place pool.resources r ≡ Some c → home_of_core s r ≡ Some i
+  home_of_core_at : (r : ℕ) (c : Resource) → at_place pool.resources r ≡ Some c → home_pool_of_core s r ≡ Some i
   home_of_core_at r c has =
       home_of_its_core m checked entries run i r (test_at-some s.pools i (λ p. is_some (at_place p.resources r)) pool at (is_some_at (at_place pool.resources r) c has))
 
-  home_of_domain_at : (d : ℕ) (x : Domain) → at_place pool.domains d ≡ Some x → home_of_domain s d ≡ Some i
+  home_of_domain_at : (d : ℕ) (x : Domain) → at_place pool.domains d ≡ Some x → home_pool_of_domain s d ≡ Some i
   home_of_domain_at d x has =
       home_of_its_domain m checked entries run i d (test_at-some s.pools i (λ p. is_some (at_place p.domains d)) pool at (is_some_at (at_place pool.domains d) x has))
 
-  home_if_there : (u : UnitId) → IsThere pool.domains u → home_of_domain s u.dom.0 ≡ Some i
+  home_if_there : (u : UnitId) → IsThere pool.domains u → home_pool_of_domain s u.dom.0 ≡ Some i
   home_if_there u there = (let f = some-test_at pool.domains u.dom.0 (λ d. true) there in home_of_domain_at u.dom.0 f.0 f.1)
 
-  home_if_runs : (u : UnitId) → RunsUnit g t pool u → home_of_domain s u.dom.0 ≡ Some i
+  home_if_runs : (u : UnitId) → RunsUnit g t pool u → home_pool_of_domain s u.dom.0 ≡ Some i
   home_if_runs u runs = home_if_there u (subst (IfUnit (IsThere pool.domains)) runs.3 (own.cores runs.0 runs.1 runs.2).cur)
 
-  home : (action : Action) → HasSubject g t pool action → home_of g s action ≡ Some i
+  home : (action : Action) → HasSubject g t pool action → home_pool_of_action g s action ≡ Some i
   home (Moved r) has = home_of_core_at r.0 has.0 has.1
   home (DomMoved d) has = home_of_domain_at d.0 has.0 has.1
   home (Wake v) has = home_of_domain_at v.dom.0 has.0 has.1
@@ -96,7 +96,7 @@ module _ (m : Machine) (checked : IsChecked m) (entries : List Entry) (run : IsR
 
   comes_at_home : (action : Action) → enabled_in g t pool action ≡ true → ComesAtHome m s t i action
   comes_at_home action on =
-      let is : home_of g s action ≡ Some i = home action (has_subject g t pool action on) in
+      let is : home_pool_of_action g s action ≡ Some i = home action (has_subject g t pool action on) in
       record {
         home = is;
         enabled = by_home m s t action
@@ -106,7 +106,7 @@ module _ (m : Machine) (checked : IsChecked m) (entries : List Entry) (run : IsR
 
 -- what may come at its home may come in that pool; a free core has no home
 module _ (m : Machine) (checked : IsChecked m) (entries : List Entry) (run : IsRun m entries) (i t : ℕ) where
-  in_home : (action : Action) → home_of m.config.granularity (state_after m entries) action ≡ Some i → enabled_at_home m (state_after m entries) t action ≡ true → ComesInPool m (state_after m entries) t i action
+  in_home : (action : Action) → home_pool_of_action m.config.granularity (state_after m entries) action ≡ Some i → enabled_at_home m (state_after m entries) t action ≡ true → ComesInPool m (state_after m entries) t i action
   in_home action is on =
       let pools : List (Option Pool) = (state_after m entries).pools in
       let test : Pool → Bool = λ pool. enabled_in m.config.granularity t pool action in
@@ -114,12 +114,12 @@ module _ (m : Machine) (checked : IsChecked m) (entries : List Entry) (run : IsR
       let f = some-test_at pools i test here in
       record { pool = f.0; at = f.1; enabled = f.2 }
 
-  comes_in_pool : (action : Action) → home_of m.config.granularity (state_after m entries) action ≡ Some i → is_enabled m (state_after m entries) t action ≡ true → ComesInPool m (state_after m entries) t i action
+  comes_in_pool : (action : Action) → home_pool_of_action m.config.granularity (state_after m entries) action ≡ Some i → is_action_enabled m (state_after m entries) t action ≡ true → ComesInPool m (state_after m entries) t i action
   comes_in_pool Stall is on = absurd (cc)
   comes_in_pool Xl is on = absurd (cc)
-  comes_in_pool (Moved r) is on = elim (or_cases (test_at (state_after m entries).free r.0 (free_ready t)) (enabled_at_home m (state_after m entries) t (Moved r)) on) [
+  comes_in_pool (Moved r) is on = elim (or_cases (test_at (state_after m entries).free r.0 (is_free_core_ready t)) (enabled_at_home m (state_after m entries) t (Moved r)) on) [
     | inl free ↦ absurd (
-        let c = some-test_at (state_after m entries).free r.0 (free_ready t) free in
+        let c = some-test_at (state_after m entries).free r.0 (is_free_core_ready t) free in
         let none = (pools_keep_their_own m checked entries run).free r.0 c.0 c.1 in
         cc)
     | inr home ↦ in_home (Moved r) is home

@@ -21,12 +21,12 @@ use Rattle.sched_model.specs.declared.state.Pool.{Pool}
 use Rattle.sched_model.specs.declared.state.Resource.{Resource}
 use Rattle.sched_model.specs.declared.state.State.{State}
 use Rattle.sched_model.specs.Places.{at_place, put_at, clear_at, change_at, numbered_items, numbers_from}
-use Rattle.sched_model.specs.Opening.{core_count, empty_pool}
-use Rattle.sched_model.specs.Pool.{change_domain, pause, unpause, set_params, set_leaving, set_moving}
+use Rattle.sched_model.specs.Opening.{machine_core_count, fresh_pool}
+use Rattle.sched_model.specs.Pool.{change_domain, paused_pool, unpaused_pool, changed_pool, pool_with_leaving, pool_with_moving}
 use Rattle.sched_model.specs.Actions.{change_pool}
-use Rattle.sched_model.specs.Commands.{carried_out, change_home, set_rtds, pool_of_plan, cores_in, domains_in}
-use Rattle.sched_model.specs.Policy.{default_pool_params}
-use Rattle.sched_model.specs.Machine.{is_move_under_way, verdict, settled_at, after_command}
+use Rattle.sched_model.specs.Commands.{carried_out, change_home, pool_with_rtds, plan_pool, cores_in, domains_in}
+use Rattle.sched_model.specs.Policy.{standard_pool_params}
+use Rattle.sched_model.specs.Machine.{has_move_under_way, line_verdict, settled_at, after_command}
 use Rattle.sched_model.proofs.PlaceLemmas.{is_some-option_map}
 use Rattle.sched_laws.specs.EachPlace.{EachPlace}
 use Rattle.sched_laws.proofs.EachPlace.{by_cond, at_place-put_at_other, at_place-clear_at_other, at_place-clear_at, EachPlace-empty, is_empty}
@@ -38,7 +38,7 @@ use Rattle.composition_laws.proofs.Alike.{core_of, mover_of, target_of, Alike, a
 
 -- each core is free or in a pool, each domain is in a pool, and what is on its way goes to a pool that is there, a domain to another than its own
 pub record Housed (m : Machine) (s : State) : Type 0 where
-  pub cores : (r : ℕ) → r < core_count m.config → (is_some (at_place s.free r) ≡ true) ⊎ ((i : ℕ) × (core_of (at_place s.pools i) r ≡ true))
+  pub cores : (r : ℕ) → r < machine_core_count m.config → (is_some (at_place s.free r) ≡ true) ⊎ ((i : ℕ) × (core_of (at_place s.pools i) r ≡ true))
   pub domains : (d : ℕ) → d < length m.config.domains → (i : ℕ) × (is_some (mover_of (at_place s.pools i) d) ≡ true)
   pub aims : (r i : ℕ) → target_of s r ≡ Some (Some i) → is_some (at_place s.pools i) ≡ true
   pub movers : (i d : ℕ) (j : PoolId) → mover_of (at_place s.pools i) d ≡ Some (Some j) → is_some (at_place s.pools j.0) ≡ true
@@ -77,7 +77,7 @@ no_mover : (o : Option Pool) (d : ℕ) (j : PoolId) → ((pool : Pool) → o ≡
 no_mover None d j none is = absurd (cc)
 no_mover (Some pool) d j none is = no_mover_in pool (at_place pool.domains d) j (λ x at. none pool refl d x at) is
 
-pub no_moves : (s : State) → is_move_under_way s ≡ false → NoMoves s
+pub no_moves : (s : State) → has_move_under_way s ≡ false → NoMoves s
 no_moves s none =
     let pools = or_left (list_any (λ e. list_any (λ c. c.1.leaving) (numbered_items 0 e.1.resources) || list_any (λ d. is_some d.1.moving) (numbered_items 0 e.1.domains)) (numbered_items 0 s.pools)) (list_any (λ e. is_some e.1.target) (numbered_items 0 s.free)) none in
     let free = or_right (list_any (λ e. list_any (λ c. c.1.leaving) (numbered_items 0 e.1.resources) || list_any (λ d. is_some d.1.moving) (numbered_items 0 e.1.domains)) (numbered_items 0 s.pools)) (list_any (λ e. is_some e.1.target) (numbered_items 0 s.free)) none in
@@ -99,7 +99,7 @@ empty_numbered n zero (None ∷ places) none = refl
 empty_numbered n (suc r) (None ∷ places) none = empty_numbered (suc n) r places none
 empty_numbered n r (Some x ∷ places) none = absurd (grind (arith, none))
 
-in_empty_domain : (m : Machine) (params : PoolParams) (d : ℕ) → moving_in (empty_pool m.config params) d ≡ None
+in_empty_domain : (m : Machine) (params : PoolParams) (d : ℕ) → moving_in (fresh_pool m.config params) d ≡ None
 in_empty_domain m params d = ap (option_map (λ (x : Domain). x.moving)) (is_empty (at_place (replicate (length m.config.domains) None) d) (λ x at. EachPlace-empty {X = Domain} (λ y. ⊥) (length m.config.domains) d x at))
 
 -- what stands there after something was put at i: what was put, or what stood there
@@ -123,13 +123,13 @@ pub never : {X : Type 0} (x : X) → None ≡ Some x → ⊥
 never x is = absurd (cc)
 
 -- a pool is made where there was none
-housed_created : (m : Machine) (i : ℕ) (params : PoolParams) (s next : State) → next.pools ≡ put_at i (empty_pool m.config params) s.pools → next.free ≡ s.free → at_place s.pools i ≡ None → Housed m s → Housed m next
+housed_created : (m : Machine) (i : ℕ) (params : PoolParams) (s next : State) → next.pools ≡ put_at i (fresh_pool m.config params) s.pools → next.free ≡ s.free → at_place s.pools i ≡ None → Housed m s → Housed m next
 housed_created m i params s next pools free none h =
-    let put : List (Option Pool) = put_at i (empty_pool m.config params) s.pools in
+    let put : List (Option Pool) = put_at i (fresh_pool m.config params) s.pools in
     let other : (k : ℕ) → is_some (at_place s.pools k) ≡ true → at_place next.pools k ≡ at_place s.pools k =
-    λ k is. ap (λ (l : List (Option Pool)). at_place l k) pools ∙ at_place-put_at_other i k (empty_pool m.config params) s.pools (λ e. clash (is_some (at_place s.pools k)) is (ap is_some (ap (at_place s.pools) e ∙ none))) in
+    λ k is. ap (λ (l : List (Option Pool)). at_place l k) pools ∙ at_place-put_at_other i k (fresh_pool m.config params) s.pools (λ e. clash (is_some (at_place s.pools k)) is (ap is_some (ap (at_place s.pools) e ∙ none))) in
     let here : (k : ℕ) → is_some (at_place s.pools k) ≡ true → is_some (at_place next.pools k) ≡ true = λ k is. ap is_some (other k is) ∙ is in
-    let moved : (k d : ℕ) (j : PoolId) → mover_of (at_place next.pools k) d ≡ Some (Some j) → mover_of (at_place s.pools k) d ≡ Some (Some j) = λ k d j is. elim (after_put i k (empty_pool m.config params) s.pools) [
+    let moved : (k d : ℕ) (j : PoolId) → mover_of (at_place next.pools k) d ≡ Some (Some j) → mover_of (at_place s.pools k) d ≡ Some (Some j) = λ k d j is. elim (after_put i k (fresh_pool m.config params) s.pools) [
       | inl was ↦ ap (λ o. mover_of o d) (sym was) ∙ ap (λ (l : List (Option Pool)). mover_of (at_place l k) d) (sym pools) ∙ is
       | inr new ↦ absurd (never (Some j) (sym (in_empty_domain m params d) ∙ ap (λ o. mover_of o d) (sym new.1) ∙ ap (λ (l : List (Option Pool)). mover_of (at_place l k) d) (sym pools) ∙ is))
     ] in
@@ -197,7 +197,7 @@ at_change i k f pools = dite (ℕ_discrete k i)
     (λ ne. inl (at_place-change_at_other i k f pools ne))
 
 -- a domain is to move to a pool that is there
-movers_set : (d e : ℕ) (i : ℕ) (pool : Pool) (j : PoolId) → moving_in (set_moving d i pool) e ≡ Some (Some j) → (j.0 ≡ i) ⊎ (moving_in pool e ≡ Some (Some j))
+movers_set : (d e : ℕ) (i : ℕ) (pool : Pool) (j : PoolId) → moving_in (pool_with_moving d i pool) e ≡ Some (Some j) → (j.0 ≡ i) ⊎ (moving_in pool e ≡ Some (Some j))
 movers_set d e i pool j is =
     let f : Domain → Domain = λ x. record x { moving = Some (pool_number i) } in
     dite (ℕ_discrete e d)
@@ -208,15 +208,15 @@ movers_set d e i pool j is =
     moved None is = absurd (cc)
     moved (Some x) is = cc
 
-some_moving : (d e i : ℕ) (pool : Pool) → is_some (moving_in (set_moving d i pool) e) ≡ is_some (moving_in pool e)
+some_moving : (d e i : ℕ) (pool : Pool) → is_some (moving_in (pool_with_moving d i pool) e) ≡ is_some (moving_in pool e)
 some_moving d e i pool =
     let f : Domain → Domain = λ x. record x { moving = Some (pool_number i) } in
     is_some-option_map (λ (x : Domain). x.moving) (at_place (change_at d f pool.domains) e) ∙ some_change_at d e f pool.domains ∙ sym (is_some-option_map (λ (x : Domain). x.moving) (at_place pool.domains e))
 
 -- a domain of the pool i is to move to another, which is there
-housed_moving : (m : Machine) (d i j : ℕ) (s : State) → is_some (at_place s.pools j) ≡ true → j ≢ i → Housed m s → Housed m (change_pool i (set_moving d j) s)
+housed_moving : (m : Machine) (d i j : ℕ) (s : State) → is_some (at_place s.pools j) ≡ true → j ≢ i → Housed m s → Housed m (change_pool i (pool_with_moving d j) s)
 housed_moving m d i j s there apart h =
-    let f : Pool → Pool = set_moving d j in
+    let f : Pool → Pool = pool_with_moving d j in
     let here : (k : ℕ) → is_some (at_place (change_at i f s.pools) k) ≡ is_some (at_place s.pools k) = λ k. some_change_at i k f s.pools in
     record {
       cores = λ r low. elim (h.cores r low) [
@@ -247,45 +247,45 @@ housed_moving m d i j s there apart h =
       ];
     }
   where
-    core_moving : (o : Option Pool) (r : ℕ) → core_of (option_map (set_moving d j) o) r ≡ core_of o r
+    core_moving : (o : Option Pool) (r : ℕ) → core_of (option_map (pool_with_moving d j) o) r ≡ core_of o r
     core_moving None r = refl
     core_moving (Some pool) r = (looks_withdrawn (has_core_in pool) (λ e. moving_in (change_domain d (λ x. record x { moving = Some (pool_number j) }) pool) e) d (change_domain d (λ x. record x { moving = Some (pool_number j) }) pool) (record { cores = λ q. refl; domains = λ e. refl })).cores r
 
-    domain_moving : (o : Option Pool) (e : ℕ) → is_some (mover_of (option_map (set_moving d j) o) e) ≡ is_some (mover_of o e)
+    domain_moving : (o : Option Pool) (e : ℕ) → is_some (mover_of (option_map (pool_with_moving d j) o) e) ≡ is_some (mover_of o e)
     domain_moving None e = refl
     domain_moving (Some pool) e = some_moving d e j pool
 
-    mover_moving : (o : Option Pool) (e : ℕ) (t : PoolId) → mover_of (option_map (set_moving d j) o) e ≡ Some (Some t) → (t.0 ≡ j) ⊎ (mover_of o e ≡ Some (Some t))
+    mover_moving : (o : Option Pool) (e : ℕ) (t : PoolId) → mover_of (option_map (pool_with_moving d j) o) e ≡ Some (Some t) → (t.0 ≡ j) ⊎ (mover_of o e ≡ Some (Some t))
     mover_moving None e t is = absurd (cc)
     mover_moving (Some pool) e t is = movers_set d e j pool t is
 
-of_params : (m : Machine) (t d : ℕ) (change : ParamChange) (s : State) → Housed m s → Housed m (change_home d (set_params change t) s)
-of_params m t d change s h = housed_alike m s (change_home d (set_params change t) s) (alike_change_home d (set_params change t) s (λ pool. looks_set_params (has_core_in pool) (moving_in pool) change t pool (looks_itself pool))) h
+of_params : (m : Machine) (t d : ℕ) (change : ParamChange) (s : State) → Housed m s → Housed m (change_home d (changed_pool change t) s)
+of_params m t d change s h = housed_alike m s (change_home d (changed_pool change t) s) (alike_change_home d (changed_pool change t) s (λ pool. looks_set_params (has_core_in pool) (moving_in pool) change t pool (looks_itself pool))) h
 
 -- an accepted command
 housed_plan : (m : Machine) (t : ℕ) (p : Plan) (s : State) → Fits s p → NoMoves s → Housed m s → Housed m (carried_out m t p s)
 housed_plan m t (plan.PoolList pool answer) s meets still h = h
-housed_plan m t (plan.PoolCreate i name kind answer) s meets still h = housed_created m i.0 (default_pool_params kind) s (carried_out m t (plan.PoolCreate i name kind answer) s) refl refl meets.0 h
+housed_plan m t (plan.PoolCreate i name kind answer) s meets still h = housed_created m i.0 (standard_pool_params kind) s (carried_out m t (plan.PoolCreate i name kind answer) s) refl refl meets.0 h
 housed_plan m t (plan.PoolDestroy i answer) s meets still h = housed_destroyed m i.0 s (carried_out m t (plan.PoolDestroy i answer) s) refl refl meets still h
 housed_plan m t (plan.PoolRename i name answer) s meets still h = housed_alike m s (carried_out m t (plan.PoolRename i name answer) s) (record { pools = λ k. at_itself (at_place s.pools k); free = λ r. refl }) h
 housed_plan m t (plan.CpuAdd i core answer) s meets still h = housed_aimed m i.0 core.0 s meets h
 housed_plan m t (plan.CpuRemove i core answer) s meets still h =
-    housed_alike m s (carried_out m t (plan.CpuRemove i core answer) s) (alike_change i.0 (set_leaving core.0) s (λ pool at. looks_change_core (has_core_in pool) (moving_in pool) core.0 _ pool (looks_itself pool))) h
+    housed_alike m s (carried_out m t (plan.CpuRemove i core answer) s) (alike_change i.0 (pool_with_leaving core.0) s (λ pool at. looks_change_core (has_core_in pool) (moving_in pool) core.0 _ pool (looks_itself pool))) h
 housed_plan m t (plan.Migrate d i j answer) s meets still h =
-    by_cond (Housed m) (i.0 == j.0) s (change_pool i.0 (set_moving d.0 j.0) s) (λ is. h) (λ is. housed_moving m d.0 i.0 j.0 s meets (λ same. absurd (grind (arith, is, same))) h)
+    by_cond (Housed m) (i.0 == j.0) s (change_pool i.0 (pool_with_moving d.0 j.0) s) (λ is. h) (λ is. housed_moving m d.0 i.0 j.0 s meets (λ same. absurd (grind (arith, is, same))) h)
 housed_plan m t (plan.Credit2Dom d weight percent answer) s meets still h = of_params m t d.0 (changes.Dom d weight percent) s h
 housed_plan m t (plan.Credit2Pool i None answer) s meets still h = h
 housed_plan m t (plan.Credit2Pool i (Some us) answer) s meets still h =
-    housed_alike m s (carried_out m t (plan.Credit2Pool i (Some us) answer) s) (alike_change i.0 (set_params (changes.Rate us) t) s (λ pool at. looks_set_params (has_core_in pool) (moving_in pool) (changes.Rate us) t pool (looks_itself pool))) h
+    housed_alike m s (carried_out m t (plan.Credit2Pool i (Some us) answer) s) (alike_change i.0 (changed_pool (changes.Rate us) t) s (λ pool at. looks_set_params (has_core_in pool) (moving_in pool) (changes.Rate us) t pool (looks_itself pool))) h
 housed_plan m t (plan.RtdsDom d first count period budget extra answer) s meets still h =
     housed_alike m s (carried_out m t (plan.RtdsDom d first count period budget extra answer) s)
-    (alike_change_home d.0 (set_rtds t d.0 period budget extra (numbers_from first count)) s (λ pool. looks_rtds (has_core_in pool) (moving_in pool) t d.0 period budget extra (numbers_from first count) pool (looks_itself pool))) h
+    (alike_change_home d.0 (pool_with_rtds t d.0 period budget extra (numbers_from first count)) s (λ pool. looks_rtds (has_core_in pool) (moving_in pool) t d.0 period budget extra (numbers_from first count) pool (looks_itself pool))) h
 housed_plan m t (plan.Pause d answer) s meets still h =
-    housed_alike m s (carried_out m t (plan.Pause d answer) s) (alike_change_home d.0 (pause d.0) s (λ pool. looks_pause (has_core_in pool) (moving_in pool) d.0 pool (looks_itself pool))) h
+    housed_alike m s (carried_out m t (plan.Pause d answer) s) (alike_change_home d.0 (paused_pool d.0) s (λ pool. looks_pause (has_core_in pool) (moving_in pool) d.0 pool (looks_itself pool))) h
 housed_plan m t (plan.Unpause d answer) s meets still h =
-    housed_alike m s (carried_out m t (plan.Unpause d answer) s) (alike_change_home d.0 (unpause m.config.granularity d.0) s (λ pool. looks_unpause (has_core_in pool) (moving_in pool) m.config.granularity d.0 pool (looks_itself pool))) h
+    housed_alike m s (carried_out m t (plan.Unpause d answer) s) (alike_change_home d.0 (unpaused_pool m.config.granularity d.0) s (λ pool. looks_unpause (has_core_in pool) (moving_in pool) m.config.granularity d.0 pool (looks_itself pool))) h
 housed_plan m t (plan.ArincSet i frame answer) s meets still h =
-    housed_alike m s (carried_out m t (plan.ArincSet i frame answer) s) (alike_change i.0 (set_params (changes.Frame frame) t) s (λ pool at. looks_set_params (has_core_in pool) (moving_in pool) (changes.Frame frame) t pool (looks_itself pool))) h
+    housed_alike m s (carried_out m t (plan.ArincSet i frame answer) s) (alike_change i.0 (changed_pool (changes.Frame frame) t) s (λ pool at. looks_set_params (has_core_in pool) (moving_in pool) (changes.Frame frame) t pool (looks_itself pool))) h
 housed_plan m t (plan.Pin d unit cores answer) s meets still h = of_params m t d.0 (changes.Pin d unit cores) s h
 
 -- a line with a command, where nothing is on its way
@@ -295,12 +295,12 @@ housed_line m t line s still h =
     let next : State = record s { next_command = k } in
     let here : Housed m next = record { cores = h.cores; domains = h.domains; aims = h.aims; movers = h.movers; away = h.away } in
     let none : NoMoves next = record { aims = still.aims; movers = still.movers } in
-    elim (verdict m s line) as (λ v. verdict m s line ≡ v → Housed m (elim v as (λ _. State) [ Err fault ↦ record s { next_command = suc s.next_command } | Ok p ↦ settled_at t (pool_of_plan s p) (carried_out m t p (record s { next_command = suc s.next_command })) ])) [
+    elim (line_verdict m s line) as (λ v. line_verdict m s line ≡ v → Housed m (elim v as (λ _. State) [ Err fault ↦ record s { next_command = suc s.next_command } | Ok p ↦ settled_at t (plan_pool s p) (carried_out m t p (record s { next_command = suc s.next_command })) ])) [
       | Err fault ↦ λ is. here
-      | Ok p ↦ λ is. housed_alike m (carried_out m t p next) (settled_at t (pool_of_plan s p) (carried_out m t p next)) (alike_settled_at t (pool_of_plan s p) (carried_out m t p next)) (housed_plan m t p next (verdict_fits_next m s line k p is) none here)
+      | Ok p ↦ λ is. housed_alike m (carried_out m t p next) (settled_at t (plan_pool s p) (carried_out m t p next)) (alike_settled_at t (plan_pool s p) (carried_out m t p next)) (housed_plan m t p next (verdict_fits_next m s line k p is) none here)
     ] refl
 
-pub housed_command : (m : Machine) (t : ℕ) (line : Option CommandLine) (s : State) → elim line [ None ↦ false | Some l ↦ nat_le l.at.0 t && not (is_move_under_way s) ] ≡ true → Housed m s
+pub housed_command : (m : Machine) (t : ℕ) (line : Option CommandLine) (s : State) → elim line [ None ↦ false | Some l ↦ nat_le l.at.0 t && not (has_move_under_way s) ] ≡ true → Housed m s
     → Housed m (elim line as (λ _. State) [ None ↦ s | Some l ↦ after_command m t l s ])
 housed_command m t None s on h = h
-housed_command m t (Some l) s on h = housed_line m t l s (no_moves s (not-true (is_move_under_way s) (and_right (nat_le l.at.0 t) (not (is_move_under_way s)) on))) h
+housed_command m t (Some l) s on h = housed_line m t l s (no_moves s (not-true (has_move_under_way s) (and_right (nat_le l.at.0 t) (not (has_move_under_way s)) on))) h

@@ -11,11 +11,11 @@ use Rattle.sched_model.specs.declared.state.Pool.{Pool}
 use Rattle.sched_model.specs.declared.state.Resource.{Resource}
 use Rattle.sched_model.specs.declared.state.State.{State}
 use Rattle.sched_model.specs.Places.{at_place, put_at, clear_at, change_at}
-use Rattle.sched_model.specs.Opening.{core_count, fresh_core}
-use Rattle.sched_model.specs.Pool.{settled_pool, with_domain, without_domain}
-use Rattle.sched_model.specs.Policy.{default_dom_params}
-use Rattle.sched_model.specs.Actions.{home_of_core, home_of_domain, change_pool}
-use Rattle.sched_model.specs.Machine.{with_core_in, without_core_in, left_by, joined_by, is_null, after_moved, after_dom_moved}
+use Rattle.sched_model.specs.Opening.{machine_core_count, joined_core}
+use Rattle.sched_model.specs.Pool.{settled_pool, pool_with_domain, pool_without_domain}
+use Rattle.sched_model.specs.Policy.{standard_dom_params}
+use Rattle.sched_model.specs.Actions.{home_pool_of_core, home_pool_of_domain, change_pool}
+use Rattle.sched_model.specs.Machine.{with_core_in, without_core_in, left_by, joined_by, is_null_pool, state_after_moved, after_dom_moved}
 use Rattle.sched_laws.specs.EachPlace.{EachPlace}
 use Rattle.sched_laws.proofs.EachPlace.{by_option, by_cond, at_place-put_at, at_place-put_at_other, at_place-clear_at, at_place-clear_at_other, place_below, length_set}
 use Rattle.sched_laws.proofs.Opened.{with_domain-domains, with_domain-resources}
@@ -26,8 +26,8 @@ use Rattle.composition_laws.proofs.Housed.{Housed, at_change, never}
 
 -- the pools have a place for each core and each domain of the machine, and so have the free cores
 pub record HasPlaces (m : Machine) (s : State) : Type 0 where
-  pub free : length s.free ≡ core_count m.config
-  pub cores : EachPlace (λ (pool : Pool). length pool.resources ≡ core_count m.config) s.pools
+  pub free : length s.free ≡ machine_core_count m.config
+  pub cores : EachPlace (λ (pool : Pool). length pool.resources ≡ machine_core_count m.config) s.pools
   pub domains : EachPlace (λ (pool : Pool). length pool.domains ≡ length m.config.domains) s.pools
 
 core_settled : (t r : ℕ) (pool : Pool) → has_core_in (settled_pool t pool) r ≡ has_core_in pool r
@@ -75,11 +75,11 @@ housed_core m r i f s next leaves pools free here aimless h =
 -- a free core joins the pool i, which is there
 housed_attached : (m : Machine) (t r i : ℕ) (c : FreeCore) (s : State) → HasPlaces m s → at_place s.free r ≡ Some c → is_some (at_place s.pools i) ≡ true → Housed m s → Housed m (with_core_in t r i c s)
 housed_attached m t r i c s places is there h =
-    let f : Pool → Pool = λ pool. settled_pool t (record pool { resources = put_at r (fresh_core c.stall_ends) pool.resources }) in
-    let low : r < core_count m.config = (let b = place_below s.free r c is in let e = places.free in omega (arith, b, e)) in
+    let f : Pool → Pool = λ pool. settled_pool t (record pool { resources = put_at r (joined_core c.stall_ends) pool.resources }) in
+    let low : r < machine_core_count m.config = (let b = place_below s.free r c is in let e = places.free in omega (arith, b, e)) in
     housed_core m r i f s (with_core_in t r i c s)
     (record {
-      cores = λ pool q ne. core_settled t q (record pool { resources = put_at r (fresh_core c.stall_ends) pool.resources }) ∙ ap is_some (at_place-put_at_other r q (fresh_core c.stall_ends) pool.resources ne);
+      cores = λ pool q ne. core_settled t q (record pool { resources = put_at r (joined_core c.stall_ends) pool.resources }) ∙ ap is_some (at_place-put_at_other r q (joined_core c.stall_ends) pool.resources ne);
       domains = λ pool d. refl;
     })
     refl
@@ -88,16 +88,16 @@ housed_attached m t r i c s places is there h =
     (λ j aim. never (Some j) (ap (option_map (λ (c : FreeCore). c.target)) (sym (at_place-clear_at r s.free)) ∙ aim))
     h
   where
-    joined : (o : Option Pool) → at_place s.pools i ≡ o → is_some o ≡ true → r < core_count m.config → core_of (option_map (λ (pool : Pool). settled_pool t (record pool { resources = put_at r (fresh_core c.stall_ends) pool.resources })) o) r ≡ true
+    joined : (o : Option Pool) → at_place s.pools i ≡ o → is_some o ≡ true → r < machine_core_count m.config → core_of (option_map (λ (pool : Pool). settled_pool t (record pool { resources = put_at r (joined_core c.stall_ends) pool.resources })) o) r ≡ true
     joined None at is low = is
     joined (Some pool) at is low =
-        core_settled t r (record pool { resources = put_at r (fresh_core c.stall_ends) pool.resources })
-        ∙ ap is_some (at_place-put_at r (fresh_core c.stall_ends) pool.resources (let e = places.cores i pool at in omega (arith, low, e)))
+        core_settled t r (record pool { resources = put_at r (joined_core c.stall_ends) pool.resources })
+        ∙ ap is_some (at_place-put_at r (joined_core c.stall_ends) pool.resources (let e = places.cores i pool at in omega (arith, low, e)))
 
 -- a core of the pool i becomes free
 housed_detached : (m : Machine) (t r i : ℕ) (c : Resource) (pool : Pool) (s : State) → HasPlaces m s → at_place s.pools i ≡ Some pool → at_place pool.resources r ≡ Some c → Housed m s → Housed m (without_core_in t r i c s)
 housed_detached m t r i c pool s places at has h =
-    let low : r < core_count m.config = (let b = place_below pool.resources r c has in let e = places.cores i pool at in omega (arith, b, e)) in
+    let low : r < machine_core_count m.config = (let b = place_below pool.resources r c has in let e = places.cores i pool at in omega (arith, b, e)) in
     let x : FreeCore = record { target = None; stall_ends = map (λ p. p.stall_end) c.processors } in
     let put : at_place (put_at r x s.free) r ≡ Some x = at_place-put_at r x s.free (let e = places.free in omega (arith, low, e)) in
     housed_core m r i (λ p. settled_pool t (record p { resources = clear_at r p.resources })) s (without_core_in t r i c s)
@@ -111,10 +111,10 @@ housed_detached m t r i c pool s places at has h =
     (λ j aim. let e : Some None ≡ Some (Some j) = ap (option_map (λ (c : FreeCore). c.target)) (sym put) ∙ aim in absurd (cc))
     h
 
-pub housed_moved : (m : Machine) (t r : ℕ) (s : State) → HasPlaces m s → Housed m s → Housed m (after_moved t r s)
+pub housed_moved : (m : Machine) (t r : ℕ) (s : State) → HasPlaces m s → Housed m s → Housed m (state_after_moved t r s)
 housed_moved m t r s places h =
     by_option (Housed m) (at_place s.free r) _ _
-    (λ is. by_option (Housed m) (home_of_core s r) _ _ (λ is2. h)
+    (λ is. by_option (Housed m) (home_pool_of_core s r) _ _ (λ is2. h)
     (λ i is2. by_option (Housed m) (at_place s.pools i) _ _ (λ is3. h)
     (λ pool at. by_option (Housed m) (at_place pool.resources r) _ _ (λ is4. h) (λ c has. housed_detached m t r i c pool s places at has h))))
     (λ c is. by_option (Housed m) c.target _ _ (λ is2. h)
@@ -141,26 +141,26 @@ pools_but d i f pools keeps k = dite (ℕ_discrete k i)
 
 left_keeps : (t d : ℕ) → KeepsBut d (left_by t d)
 left_keeps t d = record {
-  cores = λ pool r. by_cond (λ (p : Pool). has_core_in p r ≡ has_core_in pool r) (is_null pool.scheduler.records) (settled_pool t (without_domain d pool)) (without_domain d pool) (λ is. core_settled t r (without_domain d pool)) (λ is. refl);
+  cores = λ pool r. by_cond (λ (p : Pool). has_core_in p r ≡ has_core_in pool r) (is_null_pool pool.scheduler.records) (settled_pool t (pool_without_domain d pool)) (pool_without_domain d pool) (λ is. core_settled t r (pool_without_domain d pool)) (λ is. refl);
   domains = λ pool e ne. (
-      let other : moving_in (without_domain d pool) e ≡ moving_in pool e = ap (option_map (λ (x : Domain). x.moving)) (at_place-clear_at_other d e pool.domains ne) in
-      by_cond (λ (p : Pool). moving_in p e ≡ moving_in pool e) (is_null pool.scheduler.records) (settled_pool t (without_domain d pool)) (without_domain d pool) (λ is. other) (λ is. other));
+      let other : moving_in (pool_without_domain d pool) e ≡ moving_in pool e = ap (option_map (λ (x : Domain). x.moving)) (at_place-clear_at_other d e pool.domains ne) in
+      by_cond (λ (p : Pool). moving_in p e ≡ moving_in pool e) (is_null_pool pool.scheduler.records) (settled_pool t (pool_without_domain d pool)) (pool_without_domain d pool) (λ is. other) (λ is. other));
 }
 
 left_gone : (t d : ℕ) (pool : Pool) → at_place (left_by t d pool).domains d ≡ None
-left_gone t d pool = by_cond (λ (p : Pool). at_place p.domains d ≡ None) (is_null pool.scheduler.records) (settled_pool t (without_domain d pool)) (without_domain d pool) (λ is. at_place-clear_at d pool.domains) (λ is. at_place-clear_at d pool.domains)
+left_gone t d pool = by_cond (λ (p : Pool). at_place p.domains d ≡ None) (is_null_pool pool.scheduler.records) (settled_pool t (pool_without_domain d pool)) (pool_without_domain d pool) (λ is. at_place-clear_at d pool.domains) (λ is. at_place-clear_at d pool.domains)
 
 pub left_length : (t d : ℕ) (pool : Pool) → length (left_by t d pool).domains ≡ length pool.domains
-left_length t d pool = by_cond (λ (p : Pool). length p.domains ≡ length pool.domains) (is_null pool.scheduler.records) (settled_pool t (without_domain d pool)) (without_domain d pool) (λ is. length_set d None pool.domains) (λ is. length_set d None pool.domains)
+left_length t d pool = by_cond (λ (p : Pool). length p.domains ≡ length pool.domains) (is_null_pool pool.scheduler.records) (settled_pool t (pool_without_domain d pool)) (pool_without_domain d pool) (λ is. length_set d None pool.domains) (λ is. length_set d None pool.domains)
 
 module _ (g t d : ℕ) (x : Domain) where
   come_domains : (pool : Pool) → (joined_by g t d x pool).domains ≡ put_at d (record x { moving = None }) pool.domains
-  come_domains pool = with_domain-domains g t d (record x { moving = None }) (default_dom_params pool.scheduler.records) pool
+  come_domains pool = with_domain-domains g t d (record x { moving = None }) (standard_dom_params pool.scheduler.records) pool
 
   joined_keeps : KeepsBut d (joined_by g t d x)
   joined_keeps = record {
-    cores = λ pool r. core_settled t r (with_domain g t d (record x { moving = None }) (default_dom_params pool.scheduler.records) pool)
-        ∙ ap (λ (l : List (Option Resource)). is_some (at_place l r)) (with_domain-resources g t d (record x { moving = None }) (default_dom_params pool.scheduler.records) pool);
+    cores = λ pool r. core_settled t r (pool_with_domain g t d (record x { moving = None }) (standard_dom_params pool.scheduler.records) pool)
+        ∙ ap (λ (l : List (Option Resource)). is_some (at_place l r)) (with_domain-resources g t d (record x { moving = None }) (standard_dom_params pool.scheduler.records) pool);
     domains = λ pool e ne. ap (λ (l : List (Option Domain)). option_map (λ (y : Domain). y.moving) (at_place l e)) (come_domains pool) ∙ ap (option_map (λ (y : Domain). y.moving)) (at_place-put_at_other d e (record x { moving = None }) pool.domains ne);
   }
 
@@ -219,7 +219,7 @@ housed_dom m g t d i j pool x s places at has moves h =
 
 pub housed_dom_moved : (m : Machine) (g t d : ℕ) (s : State) → HasPlaces m s → Housed m s → Housed m (after_dom_moved g t d s)
 housed_dom_moved m g t d s places h =
-    by_option (Housed m) (home_of_domain s d) _ _ (λ is. h)
+    by_option (Housed m) (home_pool_of_domain s d) _ _ (λ is. h)
     (λ i is. by_option (Housed m) (at_place s.pools i) _ _ (λ is2. h)
     (λ pool at. by_option (Housed m) (at_place pool.domains d) _ _ (λ is3. h)
     (λ x has. by_option (Housed m) x.moving _ _ (λ is4. h) (λ j moves. housed_dom m g t d i j pool x s places at has moves h))))

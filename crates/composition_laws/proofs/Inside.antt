@@ -15,13 +15,13 @@ use Rattle.sched_model.specs.declared.state.Domain.{Domain}
 use Rattle.sched_model.specs.declared.state.Pool.{Pool}
 use Rattle.sched_model.specs.declared.state.Resource.{Resource}
 use Rattle.sched_model.specs.Places.{at_place, put_at, clear_at, change_each, test_at, numbers_from}
-use Rattle.sched_model.specs.Opening.{core_count, empty_pool, fresh_core}
+use Rattle.sched_model.specs.Opening.{machine_core_count, fresh_pool, joined_core}
 use Rattle.sched_model.specs.Policy as policy
-use Rattle.sched_model.specs.Policy.{dequeue_domain, default_dom_params, rtds_record}
+use Rattle.sched_model.specs.Policy.{scheduler_without_queued, standard_dom_params, unit_rtds_record}
 use Rattle.sched_model.specs.Pool as pools
-use Rattle.sched_model.specs.Pool.{after_in, settled_pool, reconsidered_core, home_cores, change_core, change_cores_of, change_domain, is_of_domain, set_pending, set_leaving, set_moving, set_params, pause, unpause, queue_units, unit_count, with_domain, without_domain}
-use Rattle.sched_model.specs.Commands.{set_rtds, set_rtds_unit}
-use Rattle.sched_model.specs.Machine.{is_null, left_by, joined_by}
+use Rattle.sched_model.specs.Pool.{after_in, settled_pool, reconsidered_core, pool_core_set, change_core, change_cores_of, change_domain, is_domain_unit, pending_core, pool_with_leaving, pool_with_moving, changed_pool, paused_pool, unpaused_pool, pool_with_queued_units, domain_unit_count, pool_with_domain, pool_without_domain}
+use Rattle.sched_model.specs.Commands.{pool_with_rtds, pool_with_rtds_unit}
+use Rattle.sched_model.specs.Machine.{is_null_pool, left_by, joined_by}
 use Rattle.sched_laws.proofs.Counts.{total_none, total-change_at_same, total-change_each, total-clear_at}
 use Rattle.sched_laws.specs.Counts.{total}
 use Rattle.sched_laws.proofs.EachPlace.{by_option, by_cond, EachPlace-empty}
@@ -43,7 +43,7 @@ same_domain : (d : ℕ) (f : Domain → Domain) (pool : Pool) → ((x : Domain) 
 same_domain d f pool same = ap (λ n. total leaves pool.resources + n) (total-change_at_same moves d f pool.domains (λ x at. ap (λ o. one_if (is_some o)) (same x)))
 
 pub same_settled : (t : ℕ) (pool : Pool) → from_pool (settled_pool t pool) ≡ from_pool pool
-same_settled t pool = same_each (reconsidered_core t (home_cores pool) pool.scheduler) pool (λ r c. by_cond (λ (x : Resource). x.leaving ≡ c.leaving) c.leaving _ _ (λ is. refl) (λ is. refl))
+same_settled t pool = same_each (reconsidered_core t (pool_core_set pool) pool.scheduler) pool (λ r c. by_cond (λ (x : Resource). x.leaving ≡ c.leaving) c.leaving _ _ (λ is. refl) (λ is. refl))
 
 -- an event of the pool leaves its face, which tells the count
 abbrev by_face : Face → ℕ
@@ -59,27 +59,27 @@ same_event g t pool action = face_tells (settled_pool t (after_in g t pool actio
 
 -- what a command changes inside of a pool, but for the two that send something on its way
 same_cores_of : (d : ℕ) (f : Resource → Resource) (pool : Pool) → ((c : Resource) → (f c).leaving ≡ c.leaving) → from_pool (change_cores_of d f pool) ≡ from_pool pool
-same_cores_of d f pool same = same_each _ pool (λ r c. by_cond (λ (x : Resource). x.leaving ≡ c.leaving) (is_of_domain d c.cur) (f c) c (λ is. same c) (λ is. refl))
+same_cores_of d f pool same = same_each _ pool (λ r c. by_cond (λ (x : Resource). x.leaving ≡ c.leaving) (is_domain_unit d c.cur) (f c) c (λ is. same c) (λ is. refl))
 
 same_withdrawn : (d : ℕ) (pool : Pool) → from_pool (pools.withdrawn_pool d pool) ≡ from_pool pool
-same_withdrawn d pool = same_cores_of d set_pending (record pool { scheduler = dequeue_domain d pool.scheduler }) (λ c. refl)
+same_withdrawn d pool = same_cores_of d pending_core (record pool { scheduler = scheduler_without_queued d pool.scheduler }) (λ c. refl)
 
-same_queued : (g d : ℕ) (units : List ℕ) (pool : Pool) → from_pool (queue_units g d units pool) ≡ from_pool pool
+same_queued : (g d : ℕ) (units : List ℕ) (pool : Pool) → from_pool (pool_with_queued_units g d units pool) ≡ from_pool pool
 same_queued g d units pool =
-    let cores : total leaves (queue_units g d units pool).resources ≡ total leaves pool.resources = ap (total leaves) (queue_units-resources g d units pool) in
-    let domains : total moves (queue_units g d units pool).domains ≡ total moves pool.domains = ap (total moves) (queue_units-domains g d units pool) in
+    let cores : total leaves (pool_with_queued_units g d units pool).resources ≡ total leaves pool.resources = ap (total leaves) (queue_units-resources g d units pool) in
+    let domains : total moves (pool_with_queued_units g d units pool).domains ≡ total moves pool.domains = ap (total moves) (queue_units-domains g d units pool) in
     omega (arith, cores, domains)
 
-pub same_pause : (d : ℕ) (pool : Pool) → from_pool (pause d pool) ≡ from_pool pool
+pub same_pause : (d : ℕ) (pool : Pool) → from_pool (paused_pool d pool) ≡ from_pool pool
 same_pause d pool =
     let f : Domain → Domain = λ domain. record domain { paused = true } in
     by_cond (λ (next : Pool). from_pool next ≡ from_pool pool) (test_at pool.domains d (λ domain. domain.paused)) pool (pools.withdrawn_pool d (change_domain d f pool))
     (λ is. refl) (λ is. same_withdrawn d (change_domain d f pool) ∙ same_domain d f pool (λ x. refl))
 
-pub same_unpause : (g d : ℕ) (pool : Pool) → from_pool (unpause g d pool) ≡ from_pool pool
+pub same_unpause : (g d : ℕ) (pool : Pool) → from_pool (unpaused_pool g d pool) ≡ from_pool pool
 same_unpause g d pool = by_option (λ (next : Pool). from_pool next ≡ from_pool pool) (at_place pool.domains d) _ _ (λ is. refl)
     (λ domain is. by_cond (λ (next : Pool). from_pool next ≡ from_pool pool) domain.paused _ _
-    (λ is2. same_queued g d (numbers_from 0 (unit_count g domain)) _ ∙ same_domain d (λ x. record x { paused = false }) pool (λ x. refl)) (λ is2. refl))
+    (λ is2. same_queued g d (numbers_from 0 (domain_unit_count g domain)) _ ∙ same_domain d (λ x. record x { paused = false }) pool (λ x. refl)) (λ is2. refl))
 
 same_marked : (change : ParamChange) (t : ℕ) (pool : Pool) → from_pool (pools.marked_pool change t pool) ≡ from_pool pool
 same_marked (changes.Dom d weight (Some cap)) t pool = same_cores_of d.0 _ pool (λ c. refl)
@@ -87,46 +87,46 @@ same_marked (changes.«Unit» u period budget extra) t pool = refl
 same_marked (changes.Frame frame) t pool = same_each _ pool (λ n c. refl)
 same_marked other t pool = refl
 
-pub same_params : (change : ParamChange) (t : ℕ) (pool : Pool) → from_pool (set_params change t pool) ≡ from_pool pool
-same_params change t pool = same_marked change t (record pool { scheduler = policy.set_params change t pool.scheduler })
+pub same_params : (change : ParamChange) (t : ℕ) (pool : Pool) → from_pool (changed_pool change t pool) ≡ from_pool pool
+same_params change t pool = same_marked change t (record pool { scheduler = policy.changed_scheduler change t pool.scheduler })
 
-same_rtds_unit : (t : ℕ) (period budget : Option Span) (extra : Option Bool) (u : UnitId) (pool : Pool) → from_pool (set_rtds_unit t period budget extra u pool) ≡ from_pool pool
-same_rtds_unit t period budget extra u pool = by_option (λ (next : Pool). from_pool next ≡ from_pool pool) (rtds_record pool.scheduler.records u) _ _ (λ is. refl)
+same_rtds_unit : (t : ℕ) (period budget : Option Span) (extra : Option Bool) (u : UnitId) (pool : Pool) → from_pool (pool_with_rtds_unit t period budget extra u pool) ≡ from_pool pool
+same_rtds_unit t period budget extra u pool = by_option (λ (next : Pool). from_pool next ≡ from_pool pool) (unit_rtds_record pool.scheduler.records u) _ _ (λ is. refl)
     (λ x is. same_params (changes.«Unit» u (unwrap_or period (span x.next_period)) (unwrap_or budget (span x.next_budget)) (unwrap_or extra x.next_extra)) t pool)
 
-pub same_rtds : (t d : ℕ) (period budget : Option Span) (extra : Option Bool) (units : List ℕ) (pool : Pool) → from_pool (set_rtds t d period budget extra units pool) ≡ from_pool pool
+pub same_rtds : (t d : ℕ) (period budget : Option Span) (extra : Option Bool) (units : List ℕ) (pool : Pool) → from_pool (pool_with_rtds t d period budget extra units pool) ≡ from_pool pool
 same_rtds t d period budget extra [] pool = refl
 same_rtds t d period budget extra (n ∷ ns) pool =
     same_rtds t d period budget extra ns _ ∙ same_rtds_unit t period budget extra (record { dom = domain_number d; n = n }) pool
 
 -- the commands that send a core or a domain on its way
-pub more_leaving : (r : ℕ) (pool : Pool) → from_pool (set_leaving r pool) ≤ 1 + from_pool pool
+pub more_leaving : (r : ℕ) (pool : Pool) → from_pool (pool_with_leaving r pool) ≤ 1 + from_pool pool
 more_leaving r pool =
     let f : Resource → Resource = λ c. record c { leaving = true; pending = c.pending || is_some c.cur } in
-    let a : total leaves (set_leaving r pool).resources ≤ 1 + total leaves pool.resources = total-change_at_more leaves 1 r f pool.resources (λ c. omega arith) in
+    let a : total leaves (pool_with_leaving r pool).resources ≤ 1 + total leaves pool.resources = total-change_at_more leaves 1 r f pool.resources (λ c. omega arith) in
     omega (arith, a)
 
-pub more_moving : (d i : ℕ) (pool : Pool) → from_pool (set_moving d i pool) ≤ 1 + from_pool pool
+pub more_moving : (d i : ℕ) (pool : Pool) → from_pool (pool_with_moving d i pool) ≤ 1 + from_pool pool
 more_moving d i pool =
     let f : Domain → Domain = λ x. record x { moving = Some (pool_number i) } in
     let next : Pool = change_domain d f pool in
-    let same : from_pool (set_moving d i pool) ≡ total leaves pool.resources + total moves next.domains = same_withdrawn d next in
+    let same : from_pool (pool_with_moving d i pool) ≡ total leaves pool.resources + total moves next.domains = same_withdrawn d next in
     let a : total moves next.domains ≤ 1 + total moves pool.domains = total-change_at_more moves 1 d f pool.domains (λ x. omega arith) in
     omega (arith, same, a)
 
 -- a pool without cores and domains
-pub from_empty : (config : Config) (params : PoolParams) → from_pool (empty_pool config params) ≡ 0
+pub from_empty : (config : Config) (params : PoolParams) → from_pool (fresh_pool config params) ≡ 0
 from_empty config params =
-    let a : total leaves (empty_pool config params).resources ≡ 0 = total_none leaves (empty_pool config params).resources (λ r c at. absurd (EachPlace-empty {X = Resource} (λ y. ⊥) (core_count config) r c at)) in
-    let b : total moves (empty_pool config params).domains ≡ 0 = total_none moves (empty_pool config params).domains (λ d x at. absurd (EachPlace-empty {X = Domain} (λ y. ⊥) (length config.domains) d x at)) in
+    let a : total leaves (fresh_pool config params).resources ≡ 0 = total_none leaves (fresh_pool config params).resources (λ r c at. absurd (EachPlace-empty {X = Resource} (λ y. ⊥) (machine_core_count config) r c at)) in
+    let b : total moves (fresh_pool config params).domains ≡ 0 = total_none moves (fresh_pool config params).domains (λ d x at. absurd (EachPlace-empty {X = Domain} (λ y. ⊥) (length config.domains) d x at)) in
     omega (arith, a, b)
 
 -- a core comes, and one that is leaving goes
-pub core_comes : (t r : ℕ) (ends : List Moment) (pool : Pool) → from_pool (settled_pool t (record pool { resources = put_at r (fresh_core ends) pool.resources })) ≤ 0 + from_pool pool
+pub core_comes : (t r : ℕ) (ends : List Moment) (pool : Pool) → from_pool (settled_pool t (record pool { resources = put_at r (joined_core ends) pool.resources })) ≤ 0 + from_pool pool
 core_comes t r ends pool =
-    let cores : List (Option Resource) = put_at r (fresh_core ends) pool.resources in
+    let cores : List (Option Resource) = put_at r (joined_core ends) pool.resources in
     let same : from_pool (settled_pool t (record pool { resources = cores })) ≡ total leaves cores + total moves pool.domains = same_settled t (record pool { resources = cores }) in
-    let a : total leaves cores ≤ 0 + total leaves pool.resources = total-put_at_more leaves r (fresh_core ends) pool.resources in
+    let a : total leaves cores ≤ 0 + total leaves pool.resources = total-put_at_more leaves r (joined_core ends) pool.resources in
     omega (arith, same, a)
 
 pub core_goes : (t r : ℕ) (c : Resource) (pool : Pool) → at_place pool.resources r ≡ Some c → c.leaving ≡ true → 1 + from_pool (settled_pool t (record pool { resources = clear_at r pool.resources })) ≡ from_pool pool
@@ -138,25 +138,25 @@ core_goes t r c pool at leaving =
     omega (arith, same, a, one)
 
 -- a domain comes, which does not move any more, and one that is moving goes
-pub domain_comes : (g t d : ℕ) (x : Domain) (params : DomParams) (pool : Pool) → x.moving ≡ None → from_pool (with_domain g t d x params pool) ≤ from_pool pool
+pub domain_comes : (g t d : ℕ) (x : Domain) (params : DomParams) (pool : Pool) → x.moving ≡ None → from_pool (pool_with_domain g t d x params pool) ≤ from_pool pool
 domain_comes g t d x params pool still =
-    let cores : total leaves (with_domain g t d x params pool).resources ≡ total leaves pool.resources = ap (total leaves) (with_domain-resources g t d x params pool) in
-    let domains : total moves (with_domain g t d x params pool).domains ≡ total moves (put_at d x pool.domains) = ap (total moves) (with_domain-domains g t d x params pool) in
+    let cores : total leaves (pool_with_domain g t d x params pool).resources ≡ total leaves pool.resources = ap (total leaves) (with_domain-resources g t d x params pool) in
+    let domains : total moves (pool_with_domain g t d x params pool).domains ≡ total moves (put_at d x pool.domains) = ap (total moves) (with_domain-domains g t d x params pool) in
     let a : total moves (put_at d x pool.domains) ≤ moves x + total moves pool.domains = total-put_at_more moves d x pool.domains in
     let none : moves x ≡ 0 = ap (λ o. one_if (is_some o)) still in
     omega (arith, cores, domains, a, none)
 
 pub domain_joins : (g t d : ℕ) (x : Domain) (pool : Pool) → from_pool (joined_by g t d x pool) ≤ 0 + from_pool pool
 domain_joins g t d x pool =
-    let next : Pool = with_domain g t d (record x { moving = None }) (default_dom_params pool.scheduler.records) pool in
+    let next : Pool = pool_with_domain g t d (record x { moving = None }) (standard_dom_params pool.scheduler.records) pool in
     let same : from_pool (joined_by g t d x pool) ≡ from_pool next = same_settled t next in
-    let a : from_pool next ≤ from_pool pool = domain_comes g t d (record x { moving = None }) (default_dom_params pool.scheduler.records) pool refl in
+    let a : from_pool next ≤ from_pool pool = domain_comes g t d (record x { moving = None }) (standard_dom_params pool.scheduler.records) pool refl in
     omega (arith, same, a)
 
 pub domain_goes : (t d : ℕ) (x : Domain) (pool : Pool) → at_place pool.domains d ≡ Some x → is_some x.moving ≡ true → 1 + from_pool (left_by t d pool) ≡ from_pool pool
 domain_goes t d x pool at moving =
     let a : total moves (clear_at d pool.domains) + moves x ≡ total moves pool.domains = total-clear_at moves d x pool.domains at in
     let one : moves x ≡ 1 = ap one_if moving in
-    let gone : 1 + from_pool (without_domain d pool) ≡ from_pool pool = omega (arith, a, one) in
-    by_cond (λ (next : Pool). 1 + from_pool next ≡ from_pool pool) (is_null pool.scheduler.records) (settled_pool t (without_domain d pool)) (without_domain d pool)
-    (λ is. ap (λ n. 1 + n) (same_settled t (without_domain d pool)) ∙ gone) (λ is. gone)
+    let gone : 1 + from_pool (pool_without_domain d pool) ≡ from_pool pool = omega (arith, a, one) in
+    by_cond (λ (next : Pool). 1 + from_pool next ≡ from_pool pool) (is_null_pool pool.scheduler.records) (settled_pool t (pool_without_domain d pool)) (pool_without_domain d pool)
+    (λ is. ap (λ n. 1 + n) (same_settled t (pool_without_domain d pool)) ∙ gone) (λ is. gone)

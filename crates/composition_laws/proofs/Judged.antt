@@ -18,9 +18,9 @@ use Rattle.sched_model.specs.declared.state.State.{State}
 use Rattle.sched_model.specs.declared.work.CommandLine.{CommandLine}
 use Rattle.sched_model.specs.Places.{at_place}
 use Rattle.sched_model.specs.CheckedMachine.{IsChecked, IsGranularity, IsWithin}
-use Rattle.sched_model.specs.Pool.{unit_count}
+use Rattle.sched_model.specs.Pool.{domain_unit_count}
 use Rattle.sched_model.specs.Commands.{in_range, rtds_fault, rtds_units}
-use Rattle.sched_model.specs.Machine.{verdict}
+use Rattle.sched_model.specs.Machine.{line_verdict}
 use Rattle.sched_laws.proofs.Lists.{is_some_at}
 use Rattle.composition_laws.proofs.Housed.{empty_numbered}
 use Rattle.composition_laws.specs.Plans.{IsThere, FindsPool, FindsDomain, HasNothing, given_or, IsTermInMicroseconds, Finds}
@@ -74,7 +74,7 @@ module _ (m : Machine) (checked : IsChecked m) (s : State) where
   domain_found : {P : Pool → Domain → Type 0} (Q : Pool → Domain → Type 0) (d : ℕ) (found : FindsDomain s d P) → Q found.pool found.domain → FindsDomain s d Q
   domain_found Q d found meets = record { home = found.home; pool = found.pool; domain = found.domain; is_home = found.is_home; at = found.at; has = found.has; meets = meets }
 
-  inside : (domain : Domain) (first count : ℕ) → AreUnits m.config.granularity domain first count → first + count ≤ unit_count m.config.granularity domain
+  inside : (domain : Domain) (first count : ℕ) → AreUnits m.config.granularity domain first count → first + count ≤ domain_unit_count m.config.granularity domain
   inside domain first count (inl all) = (let a = all.0 in let b = all.1 in omega (arith, a, b))
   inside domain first count (inr (v, low, is, one)) = (let l = unit_below m.config.granularity (length domain.vcpus) v checked.config.granularity low in omega (arith, l, is, one))
 
@@ -108,8 +108,8 @@ module _ (m : Machine) (checked : IsChecked m) (s : State) where
       let within = found.1.1 in
       pool_found _ i.0 passed (found.0, record { some_span = (let l = within.least in omega (arith, l)); fits = found.1.0; bounded = within.most }))
   finds c (plan.Pin d unit cores answer) passed =
-      domain_found _ d.0 passed (for_if unit (λ (n : ℕ). n < unit_count m.config.granularity passed.domain) (IfSome_then unit passed.meets (λ n is. subst (λ k. k < unit_count m.config.granularity passed.domain) (sym is.1)
+      domain_found _ d.0 passed (for_if unit (λ (n : ℕ). n < domain_unit_count m.config.granularity passed.domain) (IfSome_then unit passed.meets (λ n is. subst (λ k. k < domain_unit_count m.config.granularity passed.domain) (sym is.1)
       (unit_below m.config.granularity (length passed.domain.vcpus) is.0 checked.config.granularity is.2))))
 
-pub plan_finds : (m : Machine) → IsChecked m → (s : State) (line : CommandLine) (p : Plan) → verdict m s line ≡ Ok p → Finds m s p
+pub plan_finds : (m : Machine) → IsChecked m → (s : State) (line : CommandLine) (p : Plan) → line_verdict m s line ≡ Ok p → Finds m s p
 plan_finds m checked s line p is = (let passed = verdict_passed m s line p is in finds m checked s passed.0 p passed.2)

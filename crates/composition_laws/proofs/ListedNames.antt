@@ -11,7 +11,7 @@ use Rattle.sched_model.specs.declared.state.Pool.{Pool}
 use Rattle.sched_model.specs.declared.state.Resource.{Resource}
 use Rattle.sched_model.specs.declared.state.State.{State}
 use Rattle.sched_model.specs.Places.{at_place}
-use Rattle.sched_model.specs.Opening.{empty_pool, core_count}
+use Rattle.sched_model.specs.Opening.{fresh_pool, machine_core_count}
 use Rattle.sched_model.specs.Pool.{settled_pool}
 use Rattle.sched_model.proofs.PlaceLemmas.{is_some-option_map}
 use Rattle.journal_core.specs.Parts.{StatePart, pool_part, tool_part, tool_of, part_of, lists, pool_lists}
@@ -72,8 +72,8 @@ names_none n pool cores domains = by_kind (nat_lt n 64) refl
     by_kind true low = core_name n pool low ∙ cores
     by_kind false high = domain_name n pool high ∙ domains
 
-pub names_empty : (n : ℕ) (config : Config) (params : PoolParams) → pool_lists n (empty_pool config params) ≡ false
-names_empty n config params = names_none n (empty_pool config params) (none_in Resource (core_count config) n) (none_in Domain (length config.domains) (n - 64))
+pub names_empty : (n : ℕ) (config : Config) (params : PoolParams) → pool_lists n (fresh_pool config params) ≡ false
+names_empty n config params = names_none n (fresh_pool config params) (none_in Resource (machine_core_count config) n) (none_in Domain (length config.domains) (n - 64))
 
 -- what stands at a place for a pool lists the name as before
 pub names_changed : (n : ℕ) (f : Pool → Pool) (o : Option Pool) → ((pool : Pool) → pool_lists n (f pool) ≡ pool_lists n pool) → lists (pool_part (option_map f o)) n ≡ lists (pool_part o) n

@@ -10,7 +10,7 @@ use Rattle.sched_model.specs.declared.state.Pool.{Pool}
 use Rattle.sched_model.specs.declared.state.Scheduler.{Scheduler}
 use Rattle.sched_model.specs.Policy as policy
 use Rattle.sched_model.specs.Pool as pools
-use Rattle.sched_model.specs.Pool.{change_core, change_domain, pause, unpause, set_params}
+use Rattle.sched_model.specs.Pool.{change_core, change_domain, paused_pool, unpaused_pool, changed_pool}
 use Rattle.sched_laws.proofs.Events.{like_look, KeepsCore, Anyway, KeptByCommands, KeptByParts, commands_of, kept_withdrawn, kept_pause, kept_unpause, kept_marked}
 use Rattle.composition_laws.proofs.Places.{some_change_at, seen_change_at, some_change_each, some_put_at}
 
@@ -62,11 +62,11 @@ module _ (C : ℕ → Bool) (D : ℕ → Option (Option PoolId)) where
   pub looks_withdrawn : (d : ℕ) (pool : Pool) → Looks pool → Looks (pools.withdrawn_pool d pool)
   looks_withdrawn = kept_withdrawn (looks_commands 1)
 
-  pub looks_pause : (d : ℕ) (pool : Pool) → Looks pool → Looks (pause d pool)
+  pub looks_pause : (d : ℕ) (pool : Pool) → Looks pool → Looks (paused_pool d pool)
   looks_pause = kept_pause (looks_commands 1)
 
-  pub looks_unpause : (g d : ℕ) (pool : Pool) → Looks pool → Looks (unpause g d pool)
+  pub looks_unpause : (g d : ℕ) (pool : Pool) → Looks pool → Looks (unpaused_pool g d pool)
   looks_unpause g = kept_unpause (looks_commands g)
 
-  pub looks_set_params : (change : ParamChange) (t : ℕ) (pool : Pool) → Looks pool → Looks (set_params change t pool)
-  looks_set_params change t pool looks = kept_marked (looks_commands 1) t (λ d next. looks_change_each _ next) change _ (looks_scheduler (policy.set_params change t pool.scheduler) pool looks)
+  pub looks_set_params : (change : ParamChange) (t : ℕ) (pool : Pool) → Looks pool → Looks (changed_pool change t pool)
+  looks_set_params change t pool looks = kept_marked (looks_commands 1) t (λ d next. looks_change_each _ next) change _ (looks_scheduler (policy.changed_scheduler change t pool.scheduler) pool looks)

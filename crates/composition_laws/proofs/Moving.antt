@@ -16,11 +16,11 @@ use Rattle.sched_model.specs.declared.state.Resource.{Resource}
 use Rattle.sched_model.specs.declared.state.State.{State}
 use Rattle.sched_model.specs.Places.{at_place, put_at, clear_at}
 use Rattle.sched_model.specs.CheckedMachine.{IsChecked, IsGranularity}
-use Rattle.sched_model.specs.Opening.{core_count, fresh_core}
-use Rattle.sched_model.specs.Policy.{default_dom_params}
-use Rattle.sched_model.specs.Pool.{settled_pool, with_domain, without_domain}
-use Rattle.sched_model.specs.Actions.{home_of_core, home_of_domain, change_pool}
-use Rattle.sched_model.specs.Machine.{after, with_core, without_core, left_by, joined_by, is_null}
+use Rattle.sched_model.specs.Opening.{machine_core_count, joined_core}
+use Rattle.sched_model.specs.Policy.{standard_dom_params}
+use Rattle.sched_model.specs.Pool.{settled_pool, pool_with_domain, pool_without_domain}
+use Rattle.sched_model.specs.Actions.{home_pool_of_core, home_pool_of_domain, change_pool}
+use Rattle.sched_model.specs.Machine.{after, pool_with_core, without_core, left_by, joined_by, is_null_pool}
 use Rattle.sched_model.specs.Runs.{IsRun, run_start}
 use Rattle.sched_laws.specs.EachPlace.{EachPlace}
 use Rattle.sched_laws.specs.StateLaws.{state_after}
@@ -54,7 +54,7 @@ is_high n high = grind (arith, high)
 
 -- what is known of a state of a run
 pub record IsKnown (m : Machine) (s : State) : Type 0 where
-  pub few_cores : core_count m.config ≤ 64
+  pub few_cores : machine_core_count m.config ≤ 64
   pub pool_places : length s.pools ≡ 16
   pub places : HasPlaces m s
   pub housed : Housed m s
@@ -83,30 +83,30 @@ module _ (m : Machine) (s : State) (t : ℕ) (known : IsKnown m s) where
       let steps : JoinSteps m s t r c i = join_steps m s t r c i at aims in
       let there : is_some (at_place s.pools i) ≡ true = known.housed.aims r i (ap (option_map (λ (x : FreeCore). x.target)) at ∙ ap (λ o. Some o) aims) in
       let pool = some_is (at_place s.pools i) there in
-      let inside : r < core_count m.config = (let b = place_below s.free r c at in let e = known.places.free in omega (arith, b, e)) in
+      let inside : r < machine_core_count m.config = (let b = place_below s.free r c at in let e = known.places.free in omega (arith, b, e)) in
       let low : nat_lt r 64 ≡ true = low_name r (let few = known.few_cores in omega (arith, inside, few)) in
       let room : r < length pool.0.resources = (let e = known.places.cores i pool.0 pool.1 in omega (arith, inside, e)) in
-      let comes : pool_lists r (with_core t r c.stall_ends pool.0) ≡ true =
-      names_settled t r (record pool.0 { resources = put_at r (fresh_core c.stall_ends) pool.0.resources }) ∙ core_name r (record pool.0 { resources = put_at r (fresh_core c.stall_ends) pool.0.resources }) low
-      ∙ ap is_some (at_place-put_at r (fresh_core c.stall_ends) pool.0.resources room) in
+      let comes : pool_lists r (pool_with_core t r c.stall_ends pool.0) ≡ true =
+      names_settled t r (record pool.0 { resources = put_at r (joined_core c.stall_ends) pool.0.resources }) ∙ core_name r (record pool.0 { resources = put_at r (joined_core c.stall_ends) pool.0.resources }) low
+      ∙ ap is_some (at_place-put_at r (joined_core c.stall_ends) pool.0.resources room) in
       let cleared : at_place next.free r ≡ None = ap (λ (l : List (Option FreeCore)). at_place l r) steps.free ∙ at_place-clear_at r s.free in
       record {
         had = tool_lists s r ∙ and_from (nat_lt r 64) (is_some (at_place s.free r)) low (is_some_at (at_place s.free r) c at);
-        has = part_lists next i r (is_pool i there) ∙ ap (λ (o : Option Pool). lists (pool_part o) r) (steps.own.own ∙ ap (option_map (with_core t r c.stall_ends)) pool.1) ∙ comes;
+        has = part_lists next i r (is_pool i there) ∙ ap (λ (o : Option Pool). lists (pool_part o) r) (steps.own.own ∙ ap (option_map (pool_with_core t r c.stall_ends)) pool.1) ∙ comes;
         gone = λ apart. tool_lists next r ∙ and_right (nat_lt r 64) (is_some (at_place next.free r)) (ap is_some cleared);
         elsewhere = λ k not_tool ne. part_lists next k r not_tool ∙ ap (λ (o : Option Pool). lists (pool_part o) r) (steps.own.others k ne) ∙ sym (part_lists s k r not_tool);
         others = λ k n ne. same_lists s next k n
-            (at_each s next i n k (with_core t r c.stall_ends) steps.own (λ p. core_elsewhere t r n p (put_at r (fresh_core c.stall_ends) p.resources) (at_place-put_at_other r n (fresh_core c.stall_ends) p.resources ne)))
+            (at_each s next i n k (pool_with_core t r c.stall_ends) steps.own (λ p. core_elsewhere t r n p (put_at r (joined_core c.stall_ends) p.resources) (at_place-put_at_other r n (joined_core c.stall_ends) p.resources ne)))
             (ap (λ (l : List (Option FreeCore)). is_some (at_place l n)) steps.free ∙ ap is_some (at_place-clear_at_other r n s.free ne));
       }
 
-  leave_hands : (r i : ℕ) (pool : Pool) (c : Resource) → at_place s.free r ≡ None → home_of_core s r ≡ Some i → at_place s.pools i ≡ Some pool → at_place pool.resources r ≡ Some c → HandsOver s (after m s t (Moved (core r))) r i 16
+  leave_hands : (r i : ℕ) (pool : Pool) (c : Resource) → at_place s.free r ≡ None → home_pool_of_core s r ≡ Some i → at_place s.pools i ≡ Some pool → at_place pool.resources r ≡ Some c → HandsOver s (after m s t (Moved (core r))) r i 16
   leave_hands r i pool c not_free home at has =
       let next : State = after m s t (Moved (core r)) in
       let steps : LeaveSteps m s t r i c = leave_steps m s t r i pool c not_free home at has in
       let x : FreeCore = record { target = None; stall_ends = map (λ p. p.stall_end) c.processors } in
       let ne16 : i ≢ 16 = is_pool i (is_some_at (at_place s.pools i) pool at) in
-      let inside : r < core_count m.config = (let b = place_below pool.resources r c has in let e = known.places.cores i pool at in omega (arith, b, e)) in
+      let inside : r < machine_core_count m.config = (let b = place_below pool.resources r c has in let e = known.places.cores i pool at in omega (arith, b, e)) in
       let low : nat_lt r 64 ≡ true = low_name r (let few = known.few_cores in omega (arith, inside, few)) in
       let room : r < length s.free = (let e = known.places.free in omega (arith, inside, e)) in
       let put : at_place next.free r ≡ Some x = ap (λ (l : List (Option FreeCore)). at_place l r) steps.free ∙ at_place-put_at r x s.free room in
@@ -124,8 +124,8 @@ module _ (m : Machine) (s : State) (t : ℕ) (known : IsKnown m s) where
 
 -- a domain's pools
 module _ (g t d : ℕ) where
-  left_is : (P : Pool → Type 0) (pool : Pool) → P (settled_pool t (without_domain d pool)) → P (without_domain d pool) → P (left_by t d pool)
-  left_is P pool settles leaves = by_cond P (is_null pool.scheduler.records) (settled_pool t (without_domain d pool)) (without_domain d pool) (λ is. settles) (λ is. leaves)
+  left_is : (P : Pool → Type 0) (pool : Pool) → P (settled_pool t (pool_without_domain d pool)) → P (pool_without_domain d pool) → P (left_by t d pool)
+  left_is P pool settles leaves = by_cond P (is_null_pool pool.scheduler.records) (settled_pool t (pool_without_domain d pool)) (pool_without_domain d pool) (λ is. settles) (λ is. leaves)
 
   -- the name of the domain
   named : (pool : Pool) → pool_lists (64 + d) pool ≡ is_some (at_place pool.domains d)
@@ -133,33 +133,33 @@ module _ (g t d : ℕ) where
 
   left_gone : (pool : Pool) → pool_lists (64 + d) (left_by t d pool) ≡ false
   left_gone pool =
-      let gone : pool_lists (64 + d) (without_domain d pool) ≡ false = named (without_domain d pool) ∙ ap is_some (at_place-clear_at d pool.domains) in
-      left_is (λ (q : Pool). pool_lists (64 + d) q ≡ false) pool (names_settled t (64 + d) (without_domain d pool) ∙ gone) gone
+      let gone : pool_lists (64 + d) (pool_without_domain d pool) ≡ false = named (pool_without_domain d pool) ∙ ap is_some (at_place-clear_at d pool.domains) in
+      left_is (λ (q : Pool). pool_lists (64 + d) q ≡ false) pool (names_settled t (64 + d) (pool_without_domain d pool) ∙ gone) gone
 
   other : (n : ℕ) → n ≢ 64 + d → nat_lt n 64 ≡ false → n - 64 ≢ d
   other n ne high e = let low = is_high n high in ne (omega (arith, low, e))
 
   left_others : (n : ℕ) → n ≢ 64 + d → (pool : Pool) → pool_lists n (left_by t d pool) ≡ pool_lists n pool
   left_others n ne pool =
-      let stays : pool_lists n (without_domain d pool) ≡ pool_lists n pool = names_at n (without_domain d pool) pool (λ low. refl) (λ high. ap is_some (at_place-clear_at_other d (n - 64) pool.domains (other n ne high))) in
-      left_is (λ (q : Pool). pool_lists n q ≡ pool_lists n pool) pool (names_settled t n (without_domain d pool) ∙ stays) stays
+      let stays : pool_lists n (pool_without_domain d pool) ≡ pool_lists n pool = names_at n (pool_without_domain d pool) pool (λ low. refl) (λ high. ap is_some (at_place-clear_at_other d (n - 64) pool.domains (other n ne high))) in
+      left_is (λ (q : Pool). pool_lists n q ≡ pool_lists n pool) pool (names_settled t n (pool_without_domain d pool) ∙ stays) stays
 
   module _ (x : Domain) where
     abbrev joined : Pool → Pool
-    joined pool = with_domain g t d (record x { moving = None }) (default_dom_params pool.scheduler.records) pool
+    joined pool = pool_with_domain g t d (record x { moving = None }) (standard_dom_params pool.scheduler.records) pool
 
     joined_domains : (pool : Pool) → (joined pool).domains ≡ put_at d (record x { moving = None }) pool.domains
-    joined_domains pool = with_domain-domains g t d (record x { moving = None }) (default_dom_params pool.scheduler.records) pool
+    joined_domains pool = with_domain-domains g t d (record x { moving = None }) (standard_dom_params pool.scheduler.records) pool
 
     joined_has : (pool : Pool) → d < length pool.domains → pool_lists (64 + d) (joined_by g t d x pool) ≡ true
     joined_has pool room = names_settled t (64 + d) (joined pool) ∙ named (joined pool) ∙ ap (λ (l : List (Option Domain)). is_some (at_place l d)) (joined_domains pool) ∙ ap is_some (at_place-put_at d (record x { moving = None }) pool.domains room)
 
     joined_others : (n : ℕ) → n ≢ 64 + d → (pool : Pool) → pool_lists n (joined_by g t d x pool) ≡ pool_lists n pool
     joined_others n ne pool = names_settled t n (joined pool) ∙ names_at n (joined pool) pool
-        (λ low. ap (λ (l : List (Option Resource)). is_some (at_place l n)) (with_domain-resources g t d (record x { moving = None }) (default_dom_params pool.scheduler.records) pool))
+        (λ low. ap (λ (l : List (Option Resource)). is_some (at_place l n)) (with_domain-resources g t d (record x { moving = None }) (standard_dom_params pool.scheduler.records) pool))
         (λ high. ap (λ (l : List (Option Domain)). is_some (at_place l (n - 64))) (joined_domains pool) ∙ ap is_some (at_place-put_at_other d (n - 64) (record x { moving = None }) pool.domains (other n ne high)))
 
-domain_hands : (m : Machine) (s : State) (t : ℕ) → IsKnown m s → (d i : ℕ) (pool : Pool) (x : Domain) (j : PoolId) → home_of_domain s d ≡ Some i → at_place s.pools i ≡ Some pool → at_place pool.domains d ≡ Some x → x.moving ≡ Some j
+domain_hands : (m : Machine) (s : State) (t : ℕ) → IsKnown m s → (d i : ℕ) (pool : Pool) (x : Domain) (j : PoolId) → home_pool_of_domain s d ≡ Some i → at_place s.pools i ≡ Some pool → at_place pool.domains d ≡ Some x → x.moving ≡ Some j
     → HandsOver s (after m s t (DomMoved (domain_number d))) (64 + d) i j.0
 domain_hands m s t known d i pool x j home at has moves =
     let g : ℕ = m.config.granularity in

@@ -18,10 +18,10 @@ use Rattle.sched_model.specs.declared.state.Pool.{Pool}
 use Rattle.sched_model.specs.declared.state.State.{State}
 use Rattle.sched_model.specs.declared.work.StallLine.{StallLine}
 use Rattle.sched_model.specs.Places.{at_place, first_place, test_at}
-use Rattle.sched_model.specs.Opening.{core_count}
+use Rattle.sched_model.specs.Opening.{machine_core_count}
 use Rattle.sched_model.specs.CheckedMachine.{IsChecked}
-use Rattle.sched_model.specs.Machine.{is_enabled, after, after_stall, after_at_home}
-use Rattle.sched_model.specs.Runs.{Reached, action_of, end_of, after_quiet, after_event, IsNext, IsNextEvent, IsRunFrom, IsRun, run_start, after_entry, after_entries}
+use Rattle.sched_model.specs.Machine.{is_action_enabled, after, after_stall, after_at_home}
+use Rattle.sched_model.specs.Runs.{Reached, event_action, named_next_moment, after_quiet, after_event, IsNext, IsNextEvent, IsRunFrom, IsRun, run_start, after_entry, after_entries}
 use Rattle.sched_model.proofs.PlaceLemmas.{is_some-option_map}
 use Rattle.sched_laws.specs.StateLaws.{state_after}
 use Rattle.sched_laws.proofs.EachPlace.{found_at, none_found, place_below}
@@ -46,7 +46,7 @@ housed_home : (m : Machine) (t : ℕ) (action : Action) (s : State) → Housed m
 housed_home m t action s h = housed_alike m s (after_at_home m.config.granularity s t action) (alike_at_home m.config.granularity t action s) h
 
 -- an event that may come
-housed_after : (m : Machine) (s : State) (t : ℕ) (action : Action) → is_enabled m s t action ≡ true → HasPlaces m s → Housed m s → Housed m (after m s t action)
+housed_after : (m : Machine) (s : State) (t : ℕ) (action : Action) → is_action_enabled m s t action ≡ true → HasPlaces m s → Housed m s → Housed m (after m s t action)
 housed_after m s t Stall on places h = housed_stall m t (slice_get m.work.stalls s.next_stall) s h
 housed_after m s t Xl on places h = housed_command m t (slice_get m.work.commands s.next_command) s on h
 housed_after m s t (Moved r) on places h = housed_moved m t r.0 s places h
@@ -58,7 +58,7 @@ housed_quiet m None from h = h
 housed_quiet m (Some next) from h = record { cores = h.cores; domains = h.domains; aims = h.aims; movers = h.movers; away = h.away }
 
 housed_event : (m : Machine) (e : Event) (action : Option Action) (from : Reached) → IsNextEvent m from.state e action → HasPlaces m from.state → Housed m from.state → Housed m (after_event m e action from).state
-housed_event m e None from next places h = housed_quiet m (end_of e) from h
+housed_event m e None from next places h = housed_quiet m (named_next_moment e) from h
 housed_event m e (Some action) from next places h = housed_after m from.state from.state.now action next.0 places h
 
 has_places : (m : Machine) → IsChecked m → (entries : List Entry) → IsRun m entries → HasPlaces m (state_after m entries)
@@ -70,7 +70,7 @@ housed_from m checked done [] from is run goes h = h
 housed_from m checked done (e ∷ rest) from is run goes h =
     housed_from m checked (done ++ e ∷ []) rest (after_entry m from e) (after_entries-append m (run_start m) done e ∙ ap (λ r. after_entry m r e) is)
     (IsRunFrom-append m (run_start m) done e run (subst (λ r. IsNext m r e) (sym is) goes.0)) goes.1
-    (housed_event m e.event (action_of e.event) from goes.0.event (subst (λ (r : Reached). HasPlaces m r.state) is (has_places m checked done run)) h)
+    (housed_event m e.event (event_action e.event) from goes.0.event (subst (λ (r : Reached). HasPlaces m r.state) is (has_places m checked done run)) h)
 
 -- a domain that is moving moves to another pool
 pub moves-away : (m : Machine) → IsChecked m → (entries : List Entry) → IsRun m entries → (i d : ℕ) (pool : Pool) (x : Domain) (j : PoolId) → at_place (state_after m entries).pools i ≡ Some pool → at_place pool.domains d ≡ Some x → x.moving ≡ Some j
@@ -125,16 +125,16 @@ module _ (m : Machine) (s : State) (apart : IsApart s) (places : HasPlaces m s) 
   domain_listed : nat_lt n 64 ≡ false → (pool : Pool) → pool_lists n pool ≡ is_some (at_place pool.domains (n - 64))
   domain_listed high pool = ap (λ b. cond b (is_some (at_place pool.resources n)) (is_some (at_place pool.domains (n - 64)))) high
 
-  core_name : nat_lt n 64 ≡ true → is_name m.config n ≡ nat_lt n (core_count m.config)
-  core_name low = ap (λ b. cond b (nat_lt n (core_count m.config)) (nat_lt (n - 64) (length m.config.domains))) low
+  core_name : nat_lt n 64 ≡ true → is_name m.config n ≡ nat_lt n (machine_core_count m.config)
+  core_name low = ap (λ b. cond b (nat_lt n (machine_core_count m.config)) (nat_lt (n - 64) (length m.config.domains))) low
 
   domain_name : nat_lt n 64 ≡ false → is_name m.config n ≡ nat_lt (n - 64) (length m.config.domains)
-  domain_name high = ap (λ b. cond b (nat_lt n (core_count m.config)) (nat_lt (n - 64) (length m.config.domains))) high
+  domain_name high = ap (λ b. cond b (nat_lt n (machine_core_count m.config)) (nat_lt (n - 64) (length m.config.domains))) high
 
   -- what a pool lists is a name of the input
   listed_name : (k : ℕ) → Listed k ≡ true → is_name m.config n ≡ true
   listed_name k is = let p = listed_pool k is in elim (cases_Bool (nat_lt n 64)) [
-    | inl low ↦ (let c = some_is (at_place p.0.resources n) (sym (core_listed low p.0) ∙ p.2) in let b = place_below p.0.resources n c.0 c.1 in let e = places.cores k p.0 p.1 in core_name low ∙ lt-ltb n (core_count m.config) (omega (arith, b, e)))
+    | inl low ↦ (let c = some_is (at_place p.0.resources n) (sym (core_listed low p.0) ∙ p.2) in let b = place_below p.0.resources n c.0 c.1 in let e = places.cores k p.0 p.1 in core_name low ∙ lt-ltb n (machine_core_count m.config) (omega (arith, b, e)))
     | inr high ↦ (let x = some_is (at_place p.0.domains (n - 64)) (sym (domain_listed high p.0) ∙ p.2) in let b = place_below p.0.domains (n - 64) x.0 x.1 in let e = places.domains k p.0 p.1 in domain_name high ∙ lt-ltb (n - 64) (length m.config.domains) (omega (arith, b, e)))
   ]
 
@@ -166,12 +166,12 @@ module _ (m : Machine) (s : State) (apart : IsApart s) (places : HasPlaces m s) 
       apart.free k n f.1 (test_at-some s.pools k (λ pool. is_some (at_place pool.resources n)) p.0 p.1 (sym (core_listed f.0 p.0) ∙ p.2))
 
   free_name : Free ≡ true → is_name m.config n ≡ true
-  free_name is = let f = free_low is in let c = some_is (at_place s.free n) f.1 in let b = place_below s.free n c.0 c.1 in let e = places.free in core_name f.0 ∙ lt-ltb n (core_count m.config) (omega (arith, b, e))
+  free_name is = let f = free_low is in let c = some_is (at_place s.free n) f.1 in let b = place_below s.free n c.0 c.1 in let e = places.free in core_name f.0 ∙ lt-ltb n (machine_core_count m.config) (omega (arith, b, e))
 
   -- a name that no pool lists is a free core's
   free_or_listed : is_name m.config n ≡ true → ((k : ℕ) → Listed k ≡ true → ⊥) → Free ≡ true
   free_or_listed named none = elim (cases_Bool (nat_lt n 64)) [
-    | inl low ↦ elim (h.cores n (ltb-true n (core_count m.config) (sym (core_name low) ∙ named))) [
+    | inl low ↦ elim (h.cores n (ltb-true n (machine_core_count m.config) (sym (core_name low) ∙ named))) [
       | inl free ↦ ap (λ b. b && is_some (at_place s.free n)) low ∙ free
       | inr p ↦ absurd (none p.0 (core_here (at_place s.pools p.0) low p.1))
     ]

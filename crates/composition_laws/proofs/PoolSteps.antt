@@ -10,10 +10,10 @@ use Rattle.sched_model.specs.declared.state.Pool.{Pool}
 use Rattle.sched_model.specs.declared.state.State.{State}
 use Rattle.sched_model.specs.Places.{at_place, change_at, first_place}
 use Rattle.sched_model.specs.Pool.{settled_pool, after_in}
-use Rattle.sched_model.specs.Actions.{IsOfPool, home_of, change_pool}
+use Rattle.sched_model.specs.Actions.{IsOfPool, home_pool_of_action, change_pool}
 use Rattle.sched_model.specs.Machine.{after, after_at_home}
 use Rattle.sched_model.proofs.PlaceLemmas.{at_place-map, at_place-change_at_other}
-use Rattle.journal_core.specs.Parts.{Outline, UnderWay, core_to, domain_to, ToolPart, tool_part, pool_part, outline_of, first_answer, core_leaving, domain_moving, core_joining, leaving_pool, under_way_of, tool_of, part_of, pool_lists, is_name, no_home, home_in, tool_lock, is_leaving}
+use Rattle.journal_core.specs.Parts.{Outline, UnderWay, core_to, domain_to, ToolPart, tool_part, pool_part, pool_outline, first_answer, core_to_leave, domain_to_move, core_to_join, pool_under_way, state_under_way, tool_of, part_of, pool_lists, is_name, no_home, home_in, tool_lock, is_leaving}
 use Rattle.composition_laws.specs.Faces.{Face, DomainFace, domain_face, face_of}
 use Rattle.composition_laws.specs.PoolSteps.{ChangesPool}
 use Rattle.composition_laws.proofs.Faces.{face_kept, seen_change_at}
@@ -43,7 +43,7 @@ counted : (o : Option Domain) → option_map (λ (d : Domain). length d.vcpus) o
 counted None = refl
 counted (Some d) = refl
 
-outline_is : (pool : Pool) → outline_of pool ≡ by_face (face_of pool)
+outline_is : (pool : Pool) → pool_outline pool ≡ by_face (face_of pool)
 outline_is pool =
     ap (λ (cores : List Bool). record { kind = (face_of pool).kind; cores = cores; domains = map (option_map (λ (d : Domain). length d.vcpus)) pool.domains }) (map-seen is_leaving is_some is_some pool.resources (is_some-seen is_leaving))
     ∙ ap (λ (domains : List (Option ℕ)). record { kind = (face_of pool).kind; cores = map is_some (face_of pool).cores; domains = domains })
@@ -56,12 +56,12 @@ way_by_face i face =
       | None ↦ first_answer (λ (d : ℕ) (x : DomainFace). option_map (λ i. domain_to d i.0) x.moving) 0 face.domains
     ]
 
-way_is : (i : ℕ) (pool : Pool) → leaving_pool i pool ≡ way_by_face i (face_of pool)
+way_is : (i : ℕ) (pool : Pool) → pool_under_way i pool ≡ way_by_face i (face_of pool)
 way_is i pool =
-    ap (λ (o : Option UnderWay). elim o as (λ _. Option UnderWay) [ Some way ↦ Some way | None ↦ first_answer domain_moving 0 pool.domains ])
-    (first_answer-seen is_leaving core_leaving (λ (r : ℕ) (leaving : Bool). if leaving then Some (core_to r None) else None) 0 pool.resources (λ r c. refl))
+    ap (λ (o : Option UnderWay). elim o as (λ _. Option UnderWay) [ Some way ↦ Some way | None ↦ first_answer domain_to_move 0 pool.domains ])
+    (first_answer-seen is_leaving core_to_leave (λ (r : ℕ) (leaving : Bool). if leaving then Some (core_to r None) else None) 0 pool.resources (λ r c. refl))
     ∙ ap (λ (rest : Option UnderWay). elim (first_answer (λ (r : ℕ) (leaving : Bool). if leaving then Some (core_to r None) else None) 0 (face_of pool).cores) as (λ _. Option UnderWay) [ Some way ↦ Some way | None ↦ rest ])
-    (first_answer-seen domain_face domain_moving (λ (d : ℕ) (x : DomainFace). option_map (λ i. domain_to d i.0) x.moving) 0 pool.domains (λ d x. refl))
+    (first_answer-seen domain_face domain_to_move (λ (d : ℕ) (x : DomainFace). option_map (λ i. domain_to d i.0) x.moving) 0 pool.domains (λ d x. refl))
 
 abbrev lists_by_face : ℕ → Face → Bool
 lists_by_face n face = (if nat_lt n 64 then is_some (at_place face.cores n) else is_some (at_place face.domains (n - 64)))
@@ -91,10 +91,10 @@ first_place-change_at test n (suc k) (suc i) f (Some x ∷ places) keeps =
     ap (λ (o : Option ℕ). elim (test x) as (λ _. Option ℕ) [ true ↦ Some n | false ↦ o ]) (first_place-change_at test (suc n) k i f places keeps)
 
 module _ (i : ℕ) (f : Pool → Pool) (keeps : (pool : Pool) → face_of (f pool) ≡ face_of pool) (s : State) where
-  outline_kept : (pool : Pool) → outline_of (f pool) ≡ outline_of pool
+  outline_kept : (pool : Pool) → pool_outline (f pool) ≡ pool_outline pool
   outline_kept pool = outline_is (f pool) ∙ ap by_face (keeps pool) ∙ sym (outline_is pool)
 
-  way_kept : (k : ℕ) (pool : Pool) → leaving_pool k (f pool) ≡ leaving_pool k pool
+  way_kept : (k : ℕ) (pool : Pool) → pool_under_way k (f pool) ≡ pool_under_way k pool
   way_kept k pool = way_is k (f pool) ∙ ap (way_by_face k) (keeps pool) ∙ sym (way_is k pool)
 
   lists_kept : (n : ℕ) (pool : Pool) → pool_lists n (f pool) ≡ pool_lists n pool
@@ -102,8 +102,8 @@ module _ (i : ℕ) (f : Pool → Pool) (keeps : (pool : Pool) → face_of (f poo
 
   tool_kept : tool_of (change_pool i f s) ≡ tool_of s
   tool_kept =
-      ap (λ (pools : List (Option Outline)). record (tool_of s) { pools = pools; under_way = under_way_of (change_pool i f s) }) (seen_change_at outline_of i f s.pools outline_kept)
-      ∙ ap (λ (o : Option UnderWay). record (tool_of s) { under_way = elim o as (λ _. Option UnderWay) [ Some way ↦ Some way | None ↦ first_answer core_joining 0 s.free ] }) (first_answer-change_at leaving_pool 0 i f s.pools way_kept)
+      ap (λ (pools : List (Option Outline)). record (tool_of s) { pools = pools; under_way = state_under_way (change_pool i f s) }) (seen_change_at pool_outline i f s.pools outline_kept)
+      ∙ ap (λ (o : Option UnderWay). record (tool_of s) { under_way = elim o as (λ _. Option UnderWay) [ Some way ↦ Some way | None ↦ first_answer core_to_join 0 s.free ] }) (first_answer-change_at pool_under_way 0 i f s.pools way_kept)
 
   part_kept : (k : ℕ) → k ≢ i → part_of (change_pool i f s) k ≡ part_of s k
   part_kept k other =
@@ -121,7 +121,7 @@ after_is m s t (Moved r) own = absurd own
 after_is m s t (DomMoved d) own = absurd own
 after_is m s t action own = refl
 
-pub pool_step : (m : Machine) (s : State) (t : ℕ) (action : Action) (i : ℕ) → IsOfPool action → home_of m.config.granularity s action ≡ Some i → ChangesPool m s t action i
+pub pool_step : (m : Machine) (s : State) (t : ℕ) (action : Action) (i : ℕ) → IsOfPool action → home_pool_of_action m.config.granularity s action ≡ Some i → ChangesPool m s t action i
 pool_step m s t action i own home =
     let g = m.config.granularity in
     let f : Pool → Pool = λ pool. settled_pool t (after_in g t pool action) in

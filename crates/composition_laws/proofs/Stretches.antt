@@ -9,7 +9,7 @@ use Rattle.sched_model.specs.declared.action.Action.TheVariants.{Stall, Xl, Move
 use Rattle.sched_model.specs.declared.config.Config.{Config}
 use Rattle.sched_model.specs.declared.config.DomConfig.{DomConfig}
 use Rattle.sched_model.specs.Places.{numbers_from}
-use Rattle.sched_model.specs.Opening.{core_count}
+use Rattle.sched_model.specs.Opening.{machine_core_count}
 use Rattle.sched_model.specs.Actions.{vcpus_from, units_from, candidates}
 use Rattle.pool_laws.specs.Order.{kind_place, subject_place, index_place, IsNotAfter}
 use Rattle.pool_laws.proofs.ActionOrder.{later_kind}
@@ -138,7 +138,7 @@ of_units g domains =
 
 pub candidates_in_order : (config : Config) → Sorted IsNotAfter (candidates config)
 candidates_in_order config =
-    let cores : ℕ = core_count config in
+    let cores : ℕ = machine_core_count config in
     let processors : ℕ = config.processors in
     let domains : ℕ = length config.domains in
     let stall = and_then 0 _ _ nothing_yet (of_one Stall) in

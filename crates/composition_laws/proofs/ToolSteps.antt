@@ -20,15 +20,15 @@ use Rattle.sched_model.specs.declared.state.State.{State}
 use Rattle.sched_model.specs.declared.work.CommandLine.{CommandLine}
 use Rattle.sched_model.specs.declared.work.StallLine.{StallLine}
 use Rattle.sched_model.specs.Places.{at_place, put_at, clear_at, change_at, change_each, change_item, numbers_from}
-use Rattle.sched_model.specs.Opening.{empty_pool, core_count}
-use Rattle.sched_model.specs.Policy.{default_pool_params}
-use Rattle.sched_model.specs.Pool.{settled_pool, pause, unpause, set_moving, set_leaving, set_params}
-use Rattle.sched_model.specs.Actions.{home_of_core, home_of_domain, change_pool}
-use Rattle.sched_model.specs.Commands.{set_rtds, pool_of_plan, carried_out, change_home}
-use Rattle.sched_model.specs.Machine.{after, after_stall, after_command, after_moved, with_stall_end, settled_at, verdict, stall_end_of, with_core, without_core, with_core_in, without_core_in, left_by, joined_by}
+use Rattle.sched_model.specs.Opening.{fresh_pool, machine_core_count}
+use Rattle.sched_model.specs.Policy.{standard_pool_params}
+use Rattle.sched_model.specs.Pool.{settled_pool, paused_pool, unpaused_pool, pool_with_moving, pool_with_leaving, changed_pool}
+use Rattle.sched_model.specs.Actions.{home_pool_of_core, home_pool_of_domain, change_pool}
+use Rattle.sched_model.specs.Commands.{pool_with_rtds, plan_pool, carried_out, change_home}
+use Rattle.sched_model.specs.Machine.{after, after_stall, after_command, state_after_moved, state_with_stall, settled_at, line_verdict, later_stall_end, pool_with_core, without_core, with_core_in, without_core_in, left_by, joined_by}
 use Rattle.sched_laws.proofs.EachPlace.{at_place-put_at, at_place-put_at_other, at_place-clear_at, at_place-clear_at_other}
 use Rattle.composition_laws.proofs.Places.{at_place-change_at, at_place-change_at_other}
-use Rattle.journal_core.specs.Parts.{Outline, UnderWay, ToolPart, outline_of, first_answer, core_leaving, domain_moving, core_joining, leaving_pool, under_way_of, tool_of}
+use Rattle.journal_core.specs.Parts.{Outline, UnderWay, ToolPart, pool_outline, first_answer, core_to_leave, domain_to_move, core_to_join, pool_under_way, state_under_way, tool_of}
 use Rattle.sched_laws.proofs.Judged.{Fits, verdict_fits}
 use Rattle.composition_laws.specs.ToolSteps.{ChangesNoPool, ChangesPlace, end_of_stall, with_stall, stall_end_in, StallSteps, carried_at, CommandSteps, JoinSteps, LeaveSteps, DomainSteps, ToolSteps}
 use Rattle.composition_laws.proofs.Faces.{seen_change_at}
@@ -55,8 +55,8 @@ change_none : {X : Type 0} (k n : ℕ) (f : ℕ → X → X) → change_each k f
 change_none k zero f = refl
 change_none {X} k (suc n) f = ap (λ (places : List (Option X)). None ∷ places) (change_none (suc k) n f)
 
-settled_empty : (t : ℕ) (config : Config) (params : PoolParams) → settled_pool t (empty_pool config params) ≡ empty_pool config params
-settled_empty t config params = ap (λ (cores : List (Option Resource)). record (empty_pool config params) { resources = cores }) (change_none 0 (core_count config) _)
+settled_empty : (t : ℕ) (config : Config) (params : PoolParams) → settled_pool t (fresh_pool config params) ≡ fresh_pool config params
+settled_empty t config params = ap (λ (cores : List (Option Resource)). record (fresh_pool config params) { resources = cores }) (change_none 0 (machine_core_count config) _)
 
 -- the tool keeps nothing of when a processor stalls
 there-change_at : {X : Type 0} (i : ℕ) (f : X → X) (places : List (Option X)) → map is_some (change_at i f places) ≡ map is_some places
@@ -65,19 +65,19 @@ there-change_at zero f (None ∷ places) = refl
 there-change_at zero f (Some x ∷ places) = refl
 there-change_at (suc i) f (p ∷ places) = ap (λ ys. is_some p ∷ ys) (there-change_at i f places)
 
-outline_stays : (g p end : ℕ) (pool : Pool) → outline_of (with_stall g p end pool) ≡ outline_of pool
-outline_stays g p end pool = ap (λ (cores : List Bool). record (outline_of pool) { cores = cores }) (there-change_at (p / g) _ pool.resources)
+outline_stays : (g p end : ℕ) (pool : Pool) → pool_outline (with_stall g p end pool) ≡ pool_outline pool
+outline_stays g p end pool = ap (λ (cores : List Bool). record (pool_outline pool) { cores = cores }) (there-change_at (p / g) _ pool.resources)
 
-way_stays : (g p end k : ℕ) (pool : Pool) → leaving_pool k (with_stall g p end pool) ≡ leaving_pool k pool
+way_stays : (g p end k : ℕ) (pool : Pool) → pool_under_way k (with_stall g p end pool) ≡ pool_under_way k pool
 way_stays g p end k pool =
-    ap (λ (o : Option UnderWay). elim o as (λ _. Option UnderWay) [ Some way ↦ Some way | None ↦ first_answer domain_moving 0 pool.domains ])
-    (first_answer-change_at core_leaving 0 (p / g) (λ (c : Resource). record c { processors = change_item (p % g) (λ q. record q { stall_end = moment end }) c.processors }) pool.resources (λ r c. refl))
+    ap (λ (o : Option UnderWay). elim o as (λ _. Option UnderWay) [ Some way ↦ Some way | None ↦ first_answer domain_to_move 0 pool.domains ])
+    (first_answer-change_at core_to_leave 0 (p / g) (λ (c : Resource). record c { processors = change_item (p % g) (λ q. record q { stall_end = moment end }) c.processors }) pool.resources (λ r c. refl))
 
 tool_stays : (i g p end : ℕ) (s : State) → tool_of (change_pool i (with_stall g p end) s) ≡ tool_of s
 tool_stays i g p end s =
-    ap (λ (pools : List (Option Outline)). record (tool_of s) { pools = pools; under_way = under_way_of (change_pool i (with_stall g p end) s) }) (seen_change_at outline_of i (with_stall g p end) s.pools (outline_stays g p end))
-    ∙ ap (λ (o : Option UnderWay). record (tool_of s) { under_way = elim o as (λ _. Option UnderWay) [ Some way ↦ Some way | None ↦ first_answer core_joining 0 s.free ] })
-    (first_answer-change_at leaving_pool 0 i (with_stall g p end) s.pools (way_stays g p end))
+    ap (λ (pools : List (Option Outline)). record (tool_of s) { pools = pools; under_way = state_under_way (change_pool i (with_stall g p end) s) }) (seen_change_at pool_outline i (with_stall g p end) s.pools (outline_stays g p end))
+    ∙ ap (λ (o : Option UnderWay). record (tool_of s) { under_way = elim o as (λ _. Option UnderWay) [ Some way ↦ Some way | None ↦ first_answer core_to_join 0 s.free ] })
+    (first_answer-change_at pool_under_way 0 i (with_stall g p end) s.pools (way_stays g p end))
 
 module _ (m : Machine) (s : State) (t : ℕ) where
   -- a stall
@@ -89,11 +89,11 @@ module _ (m : Machine) (s : State) (t : ℕ) where
   free_stalled p end =
       record s { free = change_at (p / m.config.granularity) (λ (c : FreeCore). record c { stall_ends = change_item (p % m.config.granularity) (λ old. moment end) c.stall_ends }) s.free }
 
-  stalled_in : (p end : ℕ) (home : Option ℕ) → home_of_core s (p / m.config.granularity) ≡ home
-      → with_stall_end m.config.granularity p end s ≡ elim home as (λ _. State) [ None ↦ free_stalled p end | Some i ↦ change_pool i (with_stall m.config.granularity p end) s ]
+  stalled_in : (p end : ℕ) (home : Option ℕ) → home_pool_of_core s (p / m.config.granularity) ≡ home
+      → state_with_stall m.config.granularity p end s ≡ elim home as (λ _. State) [ None ↦ free_stalled p end | Some i ↦ change_pool i (with_stall m.config.granularity p end) s ]
   stalled_in p end home is = ap (λ (o : Option ℕ). elim o as (λ _. State) [ None ↦ free_stalled p end | Some i ↦ change_pool i (with_stall m.config.granularity p end) s ]) is
 
-  ends_in : (g p end i : ℕ) (pool : Pool) → home_of_core s (p / g) ≡ Some i → at_place s.pools i ≡ Some pool → stall_end_of g s p end ≡ stall_end_in g p end pool
+  ends_in : (g p end i : ℕ) (pool : Pool) → home_pool_of_core s (p / g) ≡ Some i → at_place s.pools i ≡ Some pool → later_stall_end g s p end ≡ stall_end_in g p end pool
   ends_in g p end i pool home at =
       let by_processor : Option Processor → ℕ = λ o. elim o [ None ↦ end | Some q ↦ max q.stall_end.0 end ] in
       let by_core : Option Resource → ℕ = λ o. elim o [ None ↦ end | Some c ↦ by_processor (slice_get c.processors (p % g)) ] in
@@ -137,11 +137,11 @@ module _ (m : Machine) (s : State) (t : ℕ) where
     now = refl;
   }
 
-  at_home : (d i : ℕ) (f : Pool → Pool) → home_of_domain s d ≡ Some i → ChangesPlace s (change_pool i (settled_pool t) (change_home d f counted)) i (option_map (λ pool. settled_pool t (f pool)))
+  at_home : (d i : ℕ) (f : Pool → Pool) → home_pool_of_domain s d ≡ Some i → ChangesPlace s (change_pool i (settled_pool t) (change_home d f counted)) i (option_map (λ pool. settled_pool t (f pool)))
   at_home d i f home = subst (λ (next : State). ChangesPlace s (change_pool i (settled_pool t) next) i (option_map (λ pool. settled_pool t (f pool))))
       (sym (ap (λ (o : Option ℕ). elim o as (λ _. State) [ None ↦ counted | Some k ↦ change_pool k f counted ]) home)) (twice i f)
 
-  no_home : (d : ℕ) (f : Pool → Pool) → home_of_domain s d ≡ None → ChangesNoPool s (change_home d f counted)
+  no_home : (d : ℕ) (f : Pool → Pool) → home_pool_of_domain s d ≡ None → ChangesNoPool s (change_home d f counted)
   no_home d f home = subst (ChangesNoPool s) (sym (ap (λ (o : Option ℕ). elim o as (λ _. State) [ None ↦ counted | Some k ↦ change_pool k f counted ]) home)) (changes_none s counted refl refl)
 
   moved_if : (same : Bool) (i : ℕ) (f : Pool → Pool) → ChangesPlace s (change_pool i (settled_pool t) (cond same counted (change_pool i f counted))) i (option_map (λ pool. settled_pool t (cond same pool (f pool))))
@@ -153,13 +153,13 @@ module _ (m : Machine) (s : State) (t : ℕ) where
       → ChangesPlace s (change_pool i (settled_pool t) (carried_out m t p counted)) i (carried_at m t p)
   by_number p i n is changes = (let e : n ≡ i = cc in subst (λ (k : ℕ). ChangesPlace s (change_pool k (settled_pool t) (carried_out m t p counted)) k (carried_at m t p)) e changes)
 
-  accepted : (p : Plan) (i : ℕ) → Fits s p → pool_of_plan s p ≡ Some i → ChangesPlace s (change_pool i (settled_pool t) (carried_out m t p counted)) i (carried_at m t p)
+  accepted : (p : Plan) (i : ℕ) → Fits s p → plan_pool s p ≡ Some i → ChangesPlace s (change_pool i (settled_pool t) (carried_out m t p counted)) i (carried_at m t p)
   accepted (plan.PoolList None answer) i promises is = absurd (cc)
   accepted (plan.PoolList (Some n) answer) i promises is = by_number (plan.PoolList (Some n) answer) i n.0 is (once n.0 counted refl refl)
   accepted (plan.PoolCreate n name kind answer) i promises is =
-      let x : Pool = empty_pool m.config (default_pool_params kind) in
+      let x : Pool = fresh_pool m.config (standard_pool_params kind) in
       by_number (plan.PoolCreate n name kind answer) i n.0 is (record {
-        own = at_place-change_at n.0 (settled_pool t) (put_at n.0 x s.pools) ∙ ap (option_map (settled_pool t)) (at_place-put_at n.0 x s.pools promises.1) ∙ ap (λ (y : Pool). Some y) (settled_empty t m.config (default_pool_params kind));
+        own = at_place-change_at n.0 (settled_pool t) (put_at n.0 x s.pools) ∙ ap (option_map (settled_pool t)) (at_place-put_at n.0 x s.pools promises.1) ∙ ap (λ (y : Pool). Some y) (settled_empty t m.config (standard_pool_params kind));
         others = λ k ne. at_place-change_at_other n.0 k (settled_pool t) (put_at n.0 x s.pools) ne ∙ at_place-put_at_other n.0 k x s.pools ne;
         now = refl;
       })
@@ -170,34 +170,34 @@ module _ (m : Machine) (s : State) (t : ℕ) where
   })
   accepted (plan.PoolRename n name answer) i promises is = by_number (plan.PoolRename n name answer) i n.0 is (once n.0 (carried_out m t (plan.PoolRename n name answer) counted) refl refl)
   accepted (plan.CpuAdd n core answer) i promises is = by_number (plan.CpuAdd n core answer) i n.0 is (once n.0 (carried_out m t (plan.CpuAdd n core answer) counted) refl refl)
-  accepted (plan.CpuRemove n core answer) i promises is = by_number (plan.CpuRemove n core answer) i n.0 is (twice n.0 (set_leaving core.0))
-  accepted (plan.Migrate d n j answer) i promises is = by_number (plan.Migrate d n j answer) i n.0 is (moved_if (n.0 == j.0) n.0 (set_moving d.0 j.0))
-  accepted (plan.Credit2Dom d weight percent answer) i promises is = at_home d.0 i (set_params (changes.Dom d weight percent) t) is
+  accepted (plan.CpuRemove n core answer) i promises is = by_number (plan.CpuRemove n core answer) i n.0 is (twice n.0 (pool_with_leaving core.0))
+  accepted (plan.Migrate d n j answer) i promises is = by_number (plan.Migrate d n j answer) i n.0 is (moved_if (n.0 == j.0) n.0 (pool_with_moving d.0 j.0))
+  accepted (plan.Credit2Dom d weight percent answer) i promises is = at_home d.0 i (changed_pool (changes.Dom d weight percent) t) is
   accepted (plan.Credit2Pool n None answer) i promises is = by_number (plan.Credit2Pool n None answer) i n.0 is (once n.0 counted refl refl)
-  accepted (plan.Credit2Pool n (Some us) answer) i promises is = by_number (plan.Credit2Pool n (Some us) answer) i n.0 is (twice n.0 (set_params (changes.Rate us) t))
-  accepted (plan.RtdsDom d first count period budget extra answer) i promises is = at_home d.0 i (set_rtds t d.0 period budget extra (numbers_from first count)) is
-  accepted (plan.Pause d answer) i promises is = at_home d.0 i (pause d.0) is
-  accepted (plan.Unpause d answer) i promises is = at_home d.0 i (unpause m.config.granularity d.0) is
-  accepted (plan.ArincSet n frame answer) i promises is = by_number (plan.ArincSet n frame answer) i n.0 is (twice n.0 (set_params (changes.Frame frame) t))
-  accepted (plan.Pin d unit cores answer) i promises is = at_home d.0 i (set_params (changes.Pin d unit cores) t) is
+  accepted (plan.Credit2Pool n (Some us) answer) i promises is = by_number (plan.Credit2Pool n (Some us) answer) i n.0 is (twice n.0 (changed_pool (changes.Rate us) t))
+  accepted (plan.RtdsDom d first count period budget extra answer) i promises is = at_home d.0 i (pool_with_rtds t d.0 period budget extra (numbers_from first count)) is
+  accepted (plan.Pause d answer) i promises is = at_home d.0 i (paused_pool d.0) is
+  accepted (plan.Unpause d answer) i promises is = at_home d.0 i (unpaused_pool m.config.granularity d.0) is
+  accepted (plan.ArincSet n frame answer) i promises is = by_number (plan.ArincSet n frame answer) i n.0 is (twice n.0 (changed_pool (changes.Frame frame) t))
+  accepted (plan.Pin d unit cores answer) i promises is = at_home d.0 i (changed_pool (changes.Pin d unit cores) t) is
 
-  homeless : (p : Plan) → pool_of_plan s p ≡ None → ChangesNoPool s (carried_out m t p counted)
+  homeless : (p : Plan) → plan_pool s p ≡ None → ChangesNoPool s (carried_out m t p counted)
   homeless (plan.PoolList n answer) is = changes_none s counted refl refl
-  homeless (plan.Credit2Dom d weight percent answer) is = no_home d.0 (set_params (changes.Dom d weight percent) t) is
-  homeless (plan.RtdsDom d first count period budget extra answer) is = no_home d.0 (set_rtds t d.0 period budget extra (numbers_from first count)) is
-  homeless (plan.Pause d answer) is = no_home d.0 (pause d.0) is
-  homeless (plan.Unpause d answer) is = no_home d.0 (unpause m.config.granularity d.0) is
-  homeless (plan.Pin d unit cores answer) is = no_home d.0 (set_params (changes.Pin d unit cores) t) is
+  homeless (plan.Credit2Dom d weight percent answer) is = no_home d.0 (changed_pool (changes.Dom d weight percent) t) is
+  homeless (plan.RtdsDom d first count period budget extra answer) is = no_home d.0 (pool_with_rtds t d.0 period budget extra (numbers_from first count)) is
+  homeless (plan.Pause d answer) is = no_home d.0 (paused_pool d.0) is
+  homeless (plan.Unpause d answer) is = no_home d.0 (unpaused_pool m.config.granularity d.0) is
+  homeless (plan.Pin d unit cores answer) is = no_home d.0 (changed_pool (changes.Pin d unit cores) t) is
   homeless p is = absurd (cc)
 
   -- the state after a line, by its verdict
-  pub answered : (line : CommandLine) (v : Result Plan Refusal) → slice_get m.work.commands s.next_command ≡ Some line → verdict m s line ≡ v
-      → after m s t Xl ≡ elim v as (λ _. State) [ Err fault ↦ counted | Ok p ↦ settled_at t (pool_of_plan s p) (carried_out m t p counted) ]
+  pub answered : (line : CommandLine) (v : Result Plan Refusal) → slice_get m.work.commands s.next_command ≡ Some line → line_verdict m s line ≡ v
+      → after m s t Xl ≡ elim v as (λ _. State) [ Err fault ↦ counted | Ok p ↦ settled_at t (plan_pool s p) (carried_out m t p counted) ]
   answered line v is says =
       ap (λ (o : Option CommandLine). elim o as (λ _. State) [ None ↦ s | Some l ↦ after_command m t l s ]) is
-      ∙ ap (λ (r : Result Plan Refusal). elim r as (λ _. State) [ Err fault ↦ counted | Ok p ↦ settled_at t (pool_of_plan s p) (carried_out m t p counted) ]) says
+      ∙ ap (λ (r : Result Plan Refusal). elim r as (λ _. State) [ Err fault ↦ counted | Ok p ↦ settled_at t (plan_pool s p) (carried_out m t p counted) ]) says
 
-  pub at_plan : (line : CommandLine) (p : Plan) (home : Option ℕ) → slice_get m.work.commands s.next_command ≡ Some line → verdict m s line ≡ Ok p → pool_of_plan s p ≡ home → after m s t Xl ≡ settled_at t home (carried_out m t p counted)
+  pub at_plan : (line : CommandLine) (p : Plan) (home : Option ℕ) → slice_get m.work.commands s.next_command ≡ Some line → line_verdict m s line ≡ Ok p → plan_pool s p ≡ home → after m s t Xl ≡ settled_at t home (carried_out m t p counted)
   at_plan line p home is says at = answered line (Ok p) is says ∙ ap (λ (o : Option ℕ). settled_at t o (carried_out m t p counted)) at
 
   pub command_steps : (line : CommandLine) → slice_get m.work.commands s.next_command ≡ Some line → CommandSteps m s t line
@@ -211,25 +211,25 @@ module _ (m : Machine) (s : State) (t : ℕ) where
   -- a move
   pub join_steps : (r : ℕ) (c : FreeCore) (i : ℕ) → at_place s.free r ≡ Some c → c.target ≡ Some i → JoinSteps m s t r c i
   join_steps r c i at aims =
-      let e : after m s t (Moved (core_number r)) ≡ with_core_in t r i c s = rw (after_moved, at, aims) refl in
+      let e : after m s t (Moved (core_number r)) ≡ with_core_in t r i c s = rw (state_after_moved, at, aims) refl in
       record {
-        own = subst (λ (next : State). ChangesPlace s next i (option_map (with_core t r c.stall_ends))) (sym e) (changes_pool i (with_core t r c.stall_ends) s (with_core_in t r i c s) refl refl);
+        own = subst (λ (next : State). ChangesPlace s next i (option_map (pool_with_core t r c.stall_ends))) (sym e) (changes_pool i (pool_with_core t r c.stall_ends) s (with_core_in t r i c s) refl refl);
         free = ap (λ (next : State). next.free) e;
       }
 
-  pub leave_steps : (r i : ℕ) (pool : Pool) (c : Resource) → at_place s.free r ≡ None → home_of_core s r ≡ Some i → at_place s.pools i ≡ Some pool → at_place pool.resources r ≡ Some c → LeaveSteps m s t r i c
+  pub leave_steps : (r i : ℕ) (pool : Pool) (c : Resource) → at_place s.free r ≡ None → home_pool_of_core s r ≡ Some i → at_place s.pools i ≡ Some pool → at_place pool.resources r ≡ Some c → LeaveSteps m s t r i c
   leave_steps r i pool c not_free home at has =
       let by_core : ℕ → Option Resource → State = λ k o. elim o [ None ↦ s | Some x ↦ without_core_in t r k x s ] in
       let by_pool : ℕ → Option Pool → State = λ k o. elim o [ None ↦ s | Some q ↦ by_core k (at_place q.resources r) ] in
       let by_home : Option ℕ → State = λ o. elim o [ None ↦ s | Some k ↦ by_pool k (at_place s.pools k) ] in
-      let by_free : Option FreeCore → State = λ o. elim o [ Some x ↦ elim x.target [ None ↦ s | Some k ↦ with_core_in t r k x s ] | None ↦ by_home (home_of_core s r) ] in
+      let by_free : Option FreeCore → State = λ o. elim o [ Some x ↦ elim x.target [ None ↦ s | Some k ↦ with_core_in t r k x s ] | None ↦ by_home (home_pool_of_core s r) ] in
       let e : after m s t (Moved (core_number r)) ≡ without_core_in t r i c s = ap by_free not_free ∙ ap by_home home ∙ ap (by_pool i) at ∙ ap (by_core i) has in
       record {
         own = subst (λ (next : State). ChangesPlace s next i (option_map (without_core t r))) (sym e) (changes_pool i (without_core t r) s (without_core_in t r i c s) refl refl);
         free = ap (λ (next : State). next.free) e;
       }
 
-  pub domain_steps : (d i : ℕ) (pool : Pool) (x : Domain) (j : PoolId) → home_of_domain s d ≡ Some i → at_place s.pools i ≡ Some pool → at_place pool.domains d ≡ Some x → x.moving ≡ Some j → DomainSteps m s t d i j.0 x
+  pub domain_steps : (d i : ℕ) (pool : Pool) (x : Domain) (j : PoolId) → home_pool_of_domain s d ≡ Some i → at_place s.pools i ≡ Some pool → at_place pool.domains d ≡ Some x → x.moving ≡ Some j → DomainSteps m s t d i j.0 x
   domain_steps d i pool x j home at has moves =
       let g : ℕ = m.config.granularity in
       let by_target : ℕ → Domain → Option PoolId → State = λ k y o. elim o [ None ↦ s | Some to ↦ change_pool to.0 (joined_by g t d y) (change_pool k (left_by t d) s) ] in

@@ -1,5 +1,5 @@
 -- The next moment of the machine is the least of those of its pools, of the tool, and of the core that leaves.
-use Rattle.sched_base.specs.Numbers.{core, has_come}
+use Rattle.sched_base.specs.Numbers.{core, has_moment_come}
 use Rattle.std.proofs.Common.{◌≡◌, ◌≤◌, ◌<◌, ℕ, zero, suc, Bool, true, false, List, ◌∷◌, refl, arith, ap, sym, ◌∙◌, subst, inl, inr}
 use Rattle.std.specs.Prelude.{Option, Some, None, option_map, nat_le, ◌||◌, if◌then◌else◌}
 use Rattle.std.proofs.Math.Decide.{dec_le}
@@ -12,9 +12,9 @@ use Rattle.sched_model.specs.declared.machine.Machine.{Machine}
 use Rattle.sched_model.specs.declared.state.Pool.{Pool}
 use Rattle.sched_model.specs.declared.state.State.{State}
 use Rattle.sched_model.specs.Places.{at_place, test_at}
-use Rattle.sched_model.specs.Actions.{IsOfPool, home_of_core}
+use Rattle.sched_model.specs.Actions.{IsOfPool, home_pool_of_core}
 use Rattle.sched_model.specs.CheckedMachine.{IsChecked}
-use Rattle.sched_model.specs.Machine.{is_enabled, enabled_at_home, first_enabled, next_moment, free_ready}
+use Rattle.sched_model.specs.Machine.{is_action_enabled, enabled_at_home, first_enabled_action, least_later_moment, is_free_core_ready}
 use Rattle.sched_model.specs.Pool.{enabled_in}
 use Rattle.sched_model.specs.Runs.{IsRun}
 use Rattle.sched_laws.specs.StateLaws.{state_after}
@@ -22,7 +22,7 @@ use Rattle.sched_base.proofs.Bools.{clash, or_more}
 use Rattle.sched_laws.proofs.Lists.{some-test_at, has_come-le}
 use Rattle.sched_laws.proofs.PoolsLaw.{pools_keep_their_own}
 use Rattle.sched_laws.proofs.Reached.{is_apart}
-use Rattle.journal_core.specs.Parts.{UnderWay, core_to, domain_to, under_way_of}
+use Rattle.journal_core.specs.Parts.{UnderWay, core_to, domain_to, state_under_way}
 use Rattle.pool_laws.specs.ReadyMoments.{ready_in}
 use Rattle.pool_laws.proofs.Readiness.{ready, come_then}
 use Rattle.run_laws.specs.RunLaws.{IsNextMoment as IsNext}
@@ -50,7 +50,7 @@ one_next m s t (Some n) (Some j) f k =
     ]
 
 module _ (m : Machine) (checked : IsChecked m) (entries : List Entry) (run : IsRun m entries)
-    (stays : (t later : ℕ) (action : Action) → t ≤ later → is_enabled m (state_after m entries) t action ≡ true → is_enabled m (state_after m entries) later action ≡ true) where
+    (stays : (t later : ℕ) (action : Action) → t ≤ later → is_action_enabled m (state_after m entries) t action ≡ true → is_action_enabled m (state_after m entries) later action ≡ true) where
   abbrev s : State
   s = state_after m entries
 
@@ -64,48 +64,48 @@ module _ (m : Machine) (checked : IsChecked m) (entries : List Entry) (run : IsR
   few = let same = in_all_is s in let most = one.most in omega (arith, same, most)
 
   -- a core that leaves a pool is not free
-  is_free : (t r : ℕ) → Leaving s r → test_at s.free r (free_ready t) ≡ true → ⊥
-  is_free t r l on = (let f = some-test_at s.free r (free_ready t) on in let none = l.not_free in let there = f.1 in cc)
+  is_free : (t r : ℕ) → Leaving s r → test_at s.free r (is_free_core_ready t) ≡ true → ⊥
+  is_free t r l on = (let f = some-test_at s.free r (is_free_core_ready t) on in let none = l.not_free in let there = f.1 in cc)
 
   -- a core that joins a pool leaves none
   in_none : (t r : ℕ) → Joining s r → enabled_at_home m s t (Moved (core r)) ≡ true → ⊥
-  in_none t r j on = by_home (home_of_core s r) ((pools_keep_their_own m checked entries run).free r j.core j.at) on
+  in_none t r j on = by_home (home_pool_of_core s r) ((pools_keep_their_own m checked entries run).free r j.core j.at) on
     where
       by_home : (o : Option ℕ) → o ≡ None → elim o as (λ _. Bool) [ None ↦ false | Some i ↦ test_at s.pools i (λ pool. enabled_in g t pool (Moved (core r))) ] ≡ true → ⊥
       by_home None is e = cc
       by_home (Some i) is e = cc
 
   -- what is on its way where the move of a core may come
-  joins : (t r : ℕ) → (j : Joining s r) → test_at s.free r (free_ready t) ≡ true → may_join s t ≡ true
+  joins : (t r : ℕ) → (j : Joining s r) → test_at s.free r (is_free_core_ready t) ≡ true → may_join s t ≡ true
   joins t r j on = subst (λ (o : Option UnderWay). joins_at s t o ≡ true) (sym (joining_answers s few r j)) on
 
-  joining_comes : (t : ℕ) (way : Option UnderWay) → joins_at s t way ≡ true → (r : ℕ) × (test_at s.free r (free_ready t) ≡ true)
+  joining_comes : (t : ℕ) (way : Option UnderWay) → joins_at s t way ≡ true → (r : ℕ) × (test_at s.free r (is_free_core_ready t) ≡ true)
   joining_comes t None on = absurd (cc)
   joining_comes t (Some (core_to r None)) on = absurd (cc)
   joining_comes t (Some (core_to r (Some i))) on = (r, on)
   joining_comes t (Some (domain_to d i)) on = absurd (cc)
 
   -- something may come where the tool may act
-  tool_comes : (t : ℕ) → tool_may_act m s t ≡ true → (action : Action) × (is_enabled m s t action ≡ true)
-  tool_comes t on = elim (or_cases (is_enabled m s t Stall || is_enabled m s t Xl) (may_join s t) on) [
-    | inl two ↦ elim (or_cases (is_enabled m s t Stall) (is_enabled m s t Xl) two) [ inl stall ↦ (Stall, stall) | inr command ↦ (Xl, command) ]
-    | inr move ↦ (let r = joining_comes t (under_way_of s) move in (Moved (core r.0), or_more (test_at s.free r.0 (free_ready t)) (enabled_at_home m s t (Moved (core r.0))) r.1))
+  tool_comes : (t : ℕ) → tool_may_act m s t ≡ true → (action : Action) × (is_action_enabled m s t action ≡ true)
+  tool_comes t on = elim (or_cases (is_action_enabled m s t Stall || is_action_enabled m s t Xl) (may_join s t) on) [
+    | inl two ↦ elim (or_cases (is_action_enabled m s t Stall) (is_action_enabled m s t Xl) two) [ inl stall ↦ (Stall, stall) | inr command ↦ (Xl, command) ]
+    | inr move ↦ (let r = joining_comes t (state_under_way s) move in (Moved (core r.0), or_more (test_at s.free r.0 (is_free_core_ready t)) (enabled_at_home m s t (Moved (core r.0))) r.1))
   ]
 
   -- the core that leaves may go from its moment on
-  core_comes : (r : ℕ) (at : Moment) → leaves_at g s r ≡ Some at → is_enabled m s at.0 (Moved (core r)) ≡ true
-  core_comes r at is = by_home (home_of_core s r) is
+  core_comes : (r : ℕ) (at : Moment) → leaves_at g s r ≡ Some at → is_action_enabled m s at.0 (Moved (core r)) ≡ true
+  core_comes r at is = by_home (home_pool_of_core s r) is
     where
-      by_pool : (i : ℕ) (o : Option Pool) → at_place s.pools i ≡ o → elim o as (λ _. Option Moment) [ None ↦ None | Some pool ↦ ready_in g pool (Moved (core r)) ] ≡ Some at → is_enabled m s at.0 (Moved (core r)) ≡ true
+      by_pool : (i : ℕ) (o : Option Pool) → at_place s.pools i ≡ o → elim o as (λ _. Option Moment) [ None ↦ None | Some pool ↦ ready_in g pool (Moved (core r)) ] ≡ Some at → is_action_enabled m s at.0 (Moved (core r)) ≡ true
       by_pool i None there e = absurd (cc)
       by_pool i (Some pool) there e =
-          from_pool m checked entries run at.0 i pool (Moved (core r)) there (ready g at.0 pool (Moved (core r)) ∙ subst (λ (o : Option Moment). has_come at.0 o ≡ true) (sym e) (come_then at))
+          from_pool m checked entries run at.0 i pool (Moved (core r)) there (ready g at.0 pool (Moved (core r)) ∙ subst (λ (o : Option Moment). has_moment_come at.0 o ≡ true) (sym e) (come_then at))
 
-      by_home : (o : Option ℕ) → elim o as (λ _. Option Moment) [ None ↦ None | Some i ↦ elim (at_place s.pools i) as (λ _. Option Moment) [ None ↦ None | Some pool ↦ ready_in g pool (Moved (core r)) ] ] ≡ Some at → is_enabled m s at.0 (Moved (core r)) ≡ true
+      by_home : (o : Option ℕ) → elim o as (λ _. Option Moment) [ None ↦ None | Some i ↦ elim (at_place s.pools i) as (λ _. Option Moment) [ None ↦ None | Some pool ↦ ready_in g pool (Moved (core r)) ] ] ≡ Some at → is_action_enabled m s at.0 (Moved (core r)) ≡ true
       by_home None e = absurd (cc)
       by_home (Some i) e = by_pool i (at_place s.pools i) refl e
 
-  leaving_comes : (way : Option UnderWay) (at : Moment) → leaving_at g s way ≡ Some at → (action : Action) × (is_enabled m s at.0 action ≡ true)
+  leaving_comes : (way : Option UnderWay) (at : Moment) → leaving_at g s way ≡ Some at → (action : Action) × (is_action_enabled m s at.0 action ≡ true)
   leaving_comes None at is = absurd (cc)
   leaving_comes (Some (core_to r None)) at is = (Moved (core r), core_comes r at is)
   leaving_comes (Some (core_to r (Some i))) at is = absurd (cc)
@@ -118,28 +118,28 @@ module _ (m : Machine) (checked : IsChecked m) (entries : List Entry) (run : IsR
       let by_home : Option ℕ → Option Moment = λ o. elim o [ None ↦ None | Some i ↦ by_pool (at_place s.pools i) ] in
       ap by_home l.is_home ∙ ap by_pool l.pool_at
 
-  module _ (nexts : List (Option Moment)) (due : Option Moment) (still : first_enabled m s s.now ≡ None) (pools : ArePoolsNexts g s.pools nexts) (tool : IsLeastLater s.now (tool_may_act m s) due) where
+  module _ (nexts : List (Option Moment)) (due : Option Moment) (still : first_enabled_action m s s.now ≡ None) (pools : ArePoolsNexts g s.pools nexts) (tool : IsLeastLater s.now (tool_may_act m s) due) where
     abbrev told : List (Option Moment)
-    told = due ∷ leaving_at g s (under_way_of s) ∷ nexts
+    told = due ∷ leaving_at g s (state_under_way s) ∷ nexts
 
-    quiet : (action : Action) → is_enabled m s s.now action ≡ true → ⊥
+    quiet : (action : Action) → is_action_enabled m s s.now action ≡ true → ⊥
     quiet = none_comes m checked entries run s.now still
 
     -- at each moment that is told something may come
-    due_comes : (o : Option Moment) (at : Moment) → IsLeastLater s.now (tool_may_act m s) o → o ≡ Some at → (action : Action) × (is_enabled m s at.0 action ≡ true)
+    due_comes : (o : Option Moment) (at : Moment) → IsLeastLater s.now (tool_may_act m s) o → o ≡ Some at → (action : Action) × (is_action_enabled m s at.0 action ≡ true)
     due_comes None at least is = absurd (cc)
-    due_comes (Some x) at least is = (let same : x ≡ at = cc in subst (λ (y : Moment). (action : Action) × (is_enabled m s y.0 action ≡ true)) same (tool_comes x.0 least.1))
+    due_comes (Some x) at least is = (let same : x ≡ at = cc in subst (λ (y : Moment). (action : Action) × (is_action_enabled m s y.0 action ≡ true)) same (tool_comes x.0 least.1))
 
-    pool_comes : (i : ℕ) (at : Moment) → at_place nexts i ≡ Some at → (action : Action) × (is_enabled m s at.0 action ≡ true)
+    pool_comes : (i : ℕ) (at : Moment) → at_place nexts i ≡ Some at → (action : Action) × (is_action_enabled m s at.0 action ≡ true)
     pool_comes i at is =
-        elim (at_place s.pools i) as (λ o. at_place s.pools i ≡ o → (action : Action) × (is_enabled m s at.0 action ≡ true)) [
+        elim (at_place s.pools i) as (λ o. at_place s.pools i ≡ o → (action : Action) × (is_action_enabled m s at.0 action ≡ true)) [
           | None ↦ λ there. absurd (let none = pools.nothing i there in cc)
           | Some pool ↦ λ there. (let next = pools.pool i pool there in let x = next.some at is in (x.0, from_pool m checked entries run at.0 i pool x.0 there x.2))
         ] refl
 
-    told_comes : (i : ℕ) (at : Moment) → at_place told i ≡ Some at → (action : Action) × (is_enabled m s at.0 action ≡ true)
+    told_comes : (i : ℕ) (at : Moment) → at_place told i ≡ Some at → (action : Action) × (is_action_enabled m s at.0 action ≡ true)
     told_comes zero at is = due_comes due at tool is
-    told_comes (suc zero) at is = leaving_comes (under_way_of s) at is
+    told_comes (suc zero) at is = leaving_comes (state_under_way s) at is
     told_comes (suc (suc i)) at is = pool_comes i at is
 
     -- and each is later than now
@@ -169,7 +169,7 @@ module _ (m : Machine) (checked : IsChecked m) (entries : List Entry) (run : IsR
           let x = has_come-le t (ready_in g l.pool (Moved (core r))) (sym (ready g t l.pool (Moved (core r))) ∙ inside) in
           (1, x.0, ap (leaving_at g s) (leaving_answers s few r l) ∙ leaves_at_is r l ∙ x.1, x.2)
 
-      by_pool : (action : Action) → IsOfPool action → is_enabled m s t action ≡ true → Told t
+      by_pool : (action : Action) → IsOfPool action → is_action_enabled m s t action ≡ true → Told t
       by_pool action own on =
           let p = in_pool m s t action own on in
           let next = pools.pool p.place p.pool p.at in
@@ -178,22 +178,22 @@ module _ (m : Machine) (checked : IsChecked m) (entries : List Entry) (run : IsR
             | Some at ↦ λ is. (suc (suc p.place), at, is, next.least at is t action own p.enabled)
           ] refl
 
-      by_core : (r : ℕ) → is_enabled m s t (Moved (core r)) ≡ true → Told t
+      by_core : (r : ℕ) → is_action_enabled m s t (Moved (core r)) ≡ true → Told t
       by_core r on =
           elim (core_found m s t r (is_apart m checked entries run) on) [
-            | inl j ↦ elim (or_cases (test_at s.free r (free_ready t)) (enabled_at_home m s t (Moved (core r))) on) [
-              | inl free ↦ by_tool (or_right (is_enabled m s t Stall || is_enabled m s t Xl) (may_join s t) (joins t r j free))
+            | inl j ↦ elim (or_cases (test_at s.free r (is_free_core_ready t)) (enabled_at_home m s t (Moved (core r))) on) [
+              | inl free ↦ by_tool (or_right (is_action_enabled m s t Stall || is_action_enabled m s t Xl) (may_join s t) (joins t r j free))
               | inr home ↦ absurd (in_none t r j home)
             ]
-            | inr l ↦ elim (or_cases (test_at s.free r (free_ready t)) (enabled_at_home m s t (Moved (core r))) on) [
+            | inr l ↦ elim (or_cases (test_at s.free r (is_free_core_ready t)) (enabled_at_home m s t (Moved (core r))) on) [
               | inl free ↦ absurd (is_free t r l free)
               | inr home ↦ by_leaving r l home
             ]
           ]
 
-      told_soon : (action : Action) → is_enabled m s t action ≡ true → Told t
-      told_soon Stall on = by_tool (or_more (is_enabled m s t Stall || is_enabled m s t Xl) (may_join s t) (or_more (is_enabled m s t Stall) (is_enabled m s t Xl) on))
-      told_soon Xl on = by_tool (or_more (is_enabled m s t Stall || is_enabled m s t Xl) (may_join s t) (or_right (is_enabled m s t Stall) (is_enabled m s t Xl) on))
+      told_soon : (action : Action) → is_action_enabled m s t action ≡ true → Told t
+      told_soon Stall on = by_tool (or_more (is_action_enabled m s t Stall || is_action_enabled m s t Xl) (may_join s t) (or_more (is_action_enabled m s t Stall) (is_action_enabled m s t Xl) on))
+      told_soon Xl on = by_tool (or_more (is_action_enabled m s t Stall || is_action_enabled m s t Xl) (may_join s t) (or_right (is_action_enabled m s t Stall) (is_action_enabled m s t Xl) on))
       told_soon (Moved r) on = by_core r.0 on
       told_soon (DomMoved d) on = absurd (quiet (DomMoved d) on)
       told_soon action on = by_pool action tt on
@@ -208,9 +208,9 @@ module _ (m : Machine) (checked : IsChecked m) (entries : List Entry) (run : IsR
           (λ action on. (let x = told_soon between after_now action on in let least = soonest.least x.0 x.1 x.2 in let soon = x.3 in absurd (omega (arith, least, soon, before))));
     }
 
-    pub whole_next : (next : Option Moment) → IsNext m s s.now (next_moment m s s.now) → IsSoonest told next → IsWholeNext m s next
+    pub whole_next : (next : Option Moment) → IsNext m s s.now (least_later_moment m s s.now) → IsSoonest told next → IsWholeNext m s next
     whole_next next is soonest =
-        let same : next_moment m s s.now ≡ option_map (λ (at : Moment). at.0) next = one_next m s s.now (next_moment m s s.now) (option_map (λ (at : Moment). at.0) next) is (is_next next soonest) in
+        let same : least_later_moment m s s.now ≡ option_map (λ (at : Moment). at.0) next = one_next m s s.now (least_later_moment m s s.now) (option_map (λ (at : Moment). at.0) next) is (is_next next soonest) in
         record { moment = same; in_horizon = ap (λ (o : Option ℕ). elim o as (λ _. Option ℕ) [ None ↦ None | Some n ↦ (if nat_le n m.config.horizon.0 then Some n else None) ]) same ∙ cut next }
       where
         cut : (o : Option Moment) → elim (option_map (λ (at : Moment). at.0) o) as (λ _. Option ℕ) [ None ↦ None | Some n ↦ (if nat_le n m.config.horizon.0 then Some n else None) ] ≡ number_within m.config.horizon.0 o

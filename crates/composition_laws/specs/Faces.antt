@@ -4,7 +4,7 @@ use Rattle.sched_base.specs.declared.PoolId.{PoolId}
 use Rattle.sched_model.specs.declared.config.SchedKind.{SchedKind}
 use Rattle.sched_model.specs.declared.state.Domain.{Domain}
 use Rattle.sched_model.specs.declared.state.Pool.{Pool}
-use Rattle.sched_model.specs.Policy.{kind_of}
+use Rattle.sched_model.specs.Policy.{records_kind}
 use Rattle.journal_core.specs.Parts.{is_leaving}
 
 -- how many vCPUs a domain has, and the pool to which it is moving
@@ -23,4 +23,4 @@ domain_face d = record { vcpus = length d.vcpus; moving = d.moving }
 
 -- the face of a pool
 abbrev pub face_of : Pool → Face
-face_of pool = record { kind = kind_of pool.scheduler.records; cores = map (option_map is_leaving) pool.resources; domains = map (option_map domain_face) pool.domains }
+face_of pool = record { kind = records_kind pool.scheduler.records; cores = map (option_map is_leaving) pool.resources; domains = map (option_map domain_face) pool.domains }

@@ -12,10 +12,10 @@ use Rattle.sched_model.specs.declared.state.State.{State}
 use Rattle.sched_model.specs.Places.{at_place}
 use Rattle.sched_model.specs.CheckedMachine.{IsWithin}
 use Rattle.sched_model.specs.Commands.{rtds_units}
-use Rattle.sched_model.specs.Opening.{core_count}
-use Rattle.sched_model.specs.Policy.{kind_of}
-use Rattle.sched_model.specs.Pool.{unit_count}
-use Rattle.sched_model.specs.Actions.{home_of_core, home_of_domain}
+use Rattle.sched_model.specs.Opening.{machine_core_count}
+use Rattle.sched_model.specs.Policy.{records_kind}
+use Rattle.sched_model.specs.Pool.{domain_unit_count}
+use Rattle.sched_model.specs.Actions.{home_pool_of_core, home_pool_of_domain}
 use Rattle.sched_laws.specs.RecordRanges.{IsFrame, IsWeight, IsCap}
 pub use Rattle.sched_laws.specs.Finds.{IsThere, FindsPool, FindsDomain}
 
@@ -39,15 +39,15 @@ Finds m s (plan.PoolList pool answer) = ForSome pool (λ i. IsThere s i.0)
 Finds m s (plan.PoolCreate i name kind answer) = (i.0 < length s.pools) × (at_place s.pools i.0 ≡ None)
 Finds m s (plan.PoolDestroy i answer) = FindsPool s i.0 HasNothing
 Finds m s (plan.PoolRename i name answer) = IsThere s i.0
-Finds m s (plan.CpuAdd i core answer) = IsThere s i.0 × (home_of_core s core.0 ≡ None) × (core.0 < core_count m.config)
+Finds m s (plan.CpuAdd i core answer) = IsThere s i.0 × (home_pool_of_core s core.0 ≡ None) × (core.0 < machine_core_count m.config)
 Finds m s (plan.CpuRemove i core answer) = FindsPool s i.0 (λ pool. is_some (at_place pool.resources core.0) ≡ true)
-Finds m s (plan.Migrate d i j answer) = (home_of_domain s d.0 ≡ Some i.0) × FindsPool s i.0 (λ pool. is_some (at_place pool.domains d.0) ≡ true) × IsThere s j.0
-Finds m s (plan.Credit2Dom d weight cap answer) = FindsDomain s d.0 (λ pool domain. (kind_of pool.scheduler.records ≡ kinds.Credit2) × ForSome weight IsWeight × ForSome cap IsCap)
-Finds m s (plan.Credit2Pool i limit answer) = FindsPool s i.0 (λ pool. (kind_of pool.scheduler.records ≡ kinds.Credit2) × ForSome limit (λ (us : ℕ). us ≤ 500000))
+Finds m s (plan.Migrate d i j answer) = (home_pool_of_domain s d.0 ≡ Some i.0) × FindsPool s i.0 (λ pool. is_some (at_place pool.domains d.0) ≡ true) × IsThere s j.0
+Finds m s (plan.Credit2Dom d weight cap answer) = FindsDomain s d.0 (λ pool domain. (records_kind pool.scheduler.records ≡ kinds.Credit2) × ForSome weight IsWeight × ForSome cap IsCap)
+Finds m s (plan.Credit2Pool i limit answer) = FindsPool s i.0 (λ pool. (records_kind pool.scheduler.records ≡ kinds.Credit2) × ForSome limit (λ (us : ℕ). us ≤ 500000))
 Finds m s (plan.RtdsDom d first count period budget extra answer) =
-    FindsDomain s d.0 (λ pool domain. (kind_of pool.scheduler.records ≡ kinds.Rtds) × (first + count ≤ unit_count m.config.granularity domain)
+    FindsDomain s d.0 (λ pool domain. (records_kind pool.scheduler.records ≡ kinds.Rtds) × (first + count ≤ domain_unit_count m.config.granularity domain)
     × All (λ (x : RtdsUnit). IsTermInMicroseconds (given_or period x.next_period) (given_or budget x.next_budget)) (rtds_units pool d.0 first count))
 Finds m s (plan.Pause d answer) = FindsDomain s d.0 (λ pool domain. Unit {0})
 Finds m s (plan.Unpause d answer) = FindsDomain s d.0 (λ pool domain. Unit {0})
-Finds m s (plan.ArincSet i frame answer) = FindsPool s i.0 (λ pool. (kind_of pool.scheduler.records ≡ kinds.Arinc653) × IsFrame frame)
-Finds m s (plan.Pin d unit cores answer) = FindsDomain s d.0 (λ pool domain. ForSome unit (λ (n : ℕ). n < unit_count m.config.granularity domain))
+Finds m s (plan.ArincSet i frame answer) = FindsPool s i.0 (λ pool. (records_kind pool.scheduler.records ≡ kinds.Arinc653) × IsFrame frame)
+Finds m s (plan.Pin d unit cores answer) = FindsDomain s d.0 (λ pool domain. ForSome unit (λ (n : ℕ). n < domain_unit_count m.config.granularity domain))

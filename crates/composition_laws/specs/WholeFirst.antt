@@ -7,24 +7,24 @@ use Rattle.sched_model.specs.declared.machine.Machine.{Machine}
 use Rattle.sched_model.specs.declared.state.Pool.{Pool}
 use Rattle.sched_model.specs.declared.state.State.{State}
 use Rattle.sched_model.specs.Places.{at_place}
-use Rattle.sched_model.specs.Machine.{is_enabled}
-use Rattle.journal_core.specs.Parts.{UnderWay, core_to, domain_to, under_way_of}
+use Rattle.sched_model.specs.Machine.{is_action_enabled}
+use Rattle.journal_core.specs.Parts.{UnderWay, core_to, domain_to, state_under_way}
 use Rattle.pool_laws.specs.Order.{IsNotAfter}
 use Rattle.pool_laws.specs.FirstEvents.{IsFirstEnabled}
 
 -- the action, where it may come at t
 abbrev pub if_enabled : Machine → State → ℕ → Action → Option Action
-if_enabled m s t action = (if is_enabled m s t action then Some action else None)
+if_enabled m s t action = (if is_action_enabled m s t action then Some action else None)
 
 -- the move of what is on its way, where it may come at t
-abbrev pub move_first : Machine → State → ℕ → Option UnderWay → Option Action
-move_first m s t None = None
-move_first m s t (Some (core_to r to)) = if_enabled m s t (Moved (core r))
-move_first m s t (Some (domain_to d i)) = if_enabled m s t (DomMoved (domain d))
+abbrev pub first_tool_move : Machine → State → ℕ → Option UnderWay → Option Action
+first_tool_move m s t None = None
+first_tool_move m s t (Some (core_to r to)) = if_enabled m s t (Moved (core r))
+first_tool_move m s t (Some (domain_to d i)) = if_enabled m s t (DomMoved (domain d))
 
 -- the tool's first action that may come at t: the stall, or else the command, or else the move of what is on its way
-abbrev pub tool_first : Machine → State → ℕ → Option Action
-tool_first m s t = (if is_enabled m s t Stall then Some Stall else if is_enabled m s t Xl then Some Xl else move_first m s t (under_way_of s))
+abbrev pub first_tool_action : Machine → State → ℕ → Option Action
+first_tool_action m s t = (if is_action_enabled m s t Stall then Some Stall else if is_action_enabled m s t Xl then Some Xl else first_tool_move m s t (state_under_way s))
 
 -- at each place stands the first event of the pool with that number, where it lets one come at t; nothing where there is no pool
 pub record ArePoolsFirsts (g t : ℕ) (pools : List (Option Pool)) (firsts : List (Option Action)) : Type 0 where

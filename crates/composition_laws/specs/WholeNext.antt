@@ -7,8 +7,8 @@ use Rattle.sched_model.specs.declared.machine.Machine.{Machine}
 use Rattle.sched_model.specs.declared.state.Pool.{Pool}
 use Rattle.sched_model.specs.declared.state.State.{State}
 use Rattle.sched_model.specs.Places.{at_place}
-use Rattle.sched_model.specs.Actions.{home_of_core}
-use Rattle.sched_model.specs.Machine.{next_moment, next_in_horizon}
+use Rattle.sched_model.specs.Actions.{home_pool_of_core}
+use Rattle.sched_model.specs.Machine.{least_later_moment, next_in_horizon}
 use Rattle.journal_core.specs.Parts.{UnderWay, core_to, domain_to}
 use Rattle.pool_laws.specs.ReadyMoments.{ready_in}
 use Rattle.pool_laws.specs.FirstEvents.{IsNextMoment}
@@ -20,7 +20,7 @@ pub record ArePoolsNexts (g : ℕ) (pools : List (Option Pool)) (nexts : List (O
 
 -- from when on the core may leave its pool
 abbrev pub leaves_at : ℕ → State → ℕ → Option Moment
-leaves_at g s r = elim (home_of_core s r) [ None ↦ None | Some i ↦ elim (at_place s.pools i) [ None ↦ None | Some pool ↦ ready_in g pool (Moved (core r)) ] ]
+leaves_at g s r = elim (home_pool_of_core s r) [ None ↦ None | Some i ↦ elim (at_place s.pools i) [ None ↦ None | Some pool ↦ ready_in g pool (Moved (core r)) ] ]
 
 -- from when on the core that is on its way out of its pool may leave it
 abbrev pub leaving_at : ℕ → State → Option UnderWay → Option Moment
@@ -47,5 +47,5 @@ number_within horizon (Some at) = (if nat_le at.0 horizon then Some at.0 else No
 
 -- it is the next moment of the machine, and within the horizon the next of the run
 pub record IsWholeNext (m : Machine) (s : State) (next : Option Moment) : Type 0 where
-  pub moment : next_moment m s s.now ≡ option_map (λ (at : Moment). at.0) next
+  pub moment : least_later_moment m s s.now ≡ option_map (λ (at : Moment). at.0) next
   pub in_horizon : next_in_horizon m s ≡ number_within m.config.horizon.0 next

@@ -8,8 +8,8 @@ ghost use Rattle.sched_model.specs.declared.event.Event.TheVariants.{Finish};
 ghost use Rattle.sched_model.specs.declared.machine.Machine.{Machine};
 ghost use Rattle.sched_model.specs.Actions.{candidates};
 ghost use Rattle.sched_model.specs.CheckedMachine.{IsChecked};
-ghost use Rattle.sched_model.specs.Machine.{after, is_enabled};
-ghost use Rattle.sched_model.specs.Runs.{entry_of, IsNext, IsRun, action_of};
+ghost use Rattle.sched_model.specs.Machine.{after, is_action_enabled};
+ghost use Rattle.sched_model.specs.Runs.{action_entry, IsNext, IsRun, event_action};
 ghost use Rattle.sched_laws.specs.StateLaws.{state_after};
 ghost use Rattle.run_laws.specs.RunLaws.{IsOver};
 ghost use Rattle.journal_core.specs.Histories.{reached_by, state_at};
@@ -32,7 +32,7 @@ pub fn law_home()
 /// In every state of a run an action that may come, at whatever moment, is one of the candidates.
 pub fn law_candidates()
     ensures { (m : Machine) → IsChecked m → (entries : List Entry) → IsRun m entries → (t : ℕ) →
-        (action : Action) → is_enabled m (state_after m entries) t action ≡ true →
+        (action : Action) → is_action_enabled m (state_after m entries) t action ≡ true →
         Contains (candidates m.config) action }
 {}
 
@@ -48,11 +48,11 @@ pub fn law_over()
 /// An entry without an action leaves all parts and homes.
 pub fn law_entries()
     ensures next { (m : Machine) → (h : List Entry) → (action : Action) → (reached_by m h).over
-        ≡ false → is_enabled m (state_at m h) (state_at m h).now action ≡ true →
-        IsNext m (reached_by m h) (entry_of m (state_at m h) action) }
+        ≡ false → is_action_enabled m (state_at m h) (state_at m h).now action ≡ true →
+        IsNext m (reached_by m h) (action_entry m (state_at m h) action) }
     ensures leads { (m : Machine) → (h : List Entry) → (entry : Entry) → (action : Action) →
-        action_of entry.event ≡ Some action →
+        event_action entry.event ≡ Some action →
         LeadsTo m (h ++ entry ∷ []) (after m (state_at m h) (state_at m h).now action) }
-    ensures quiet { (m : Machine) → (h : List Entry) → (entry : Entry) → action_of entry.event
+    ensures quiet { (m : Machine) → (h : List Entry) → (entry : Entry) → event_action entry.event
         ≡ None → LeadsAsBefore m (h ++ entry ∷ []) h }
 {}

@@ -11,7 +11,7 @@ ghost use Rattle.sched_model.specs.declared.plan.Plan.{Plan};
 ghost use Rattle.sched_model.specs.declared.plan.Plan.TheVariants as plan;
 ghost use Rattle.sched_model.specs.Places.{at_place};
 ghost use Rattle.sched_model.specs.declared.work.CommandLine.{CommandLine};
-ghost use Rattle.sched_model.specs.Machine.{verdict};
+ghost use Rattle.sched_model.specs.Machine.{line_verdict};
 ghost use Rattle.sched_model.specs.CheckedMachine.{IsChecked};
 ghost use Rattle.sched_model.specs.Runs.{IsRun};
 ghost use Rattle.sched_laws.specs.StateLaws.{state_after};
@@ -38,9 +38,9 @@ pub fn law_listed()
 /// no pool, and parameters are those of the pool's scheduler. In a state of a run the core that it adds is one of the tool's.
 pub fn law_plan_conditions()
     ensures finds { (m : Machine) → IsChecked m → (s : State) → (line : CommandLine) → (p : Plan) →
-        verdict m s line ≡ Ok p → Finds m s p }
+        line_verdict m s line ≡ Ok p → Finds m s p }
     ensures free { (m : Machine) → IsChecked m → (entries : List Entry) → IsRun m entries →
         (line : CommandLine) → (i : PoolId) → (core : ResId) → (answer : Reply) →
-        verdict m (state_after m entries) line ≡ Ok (plan.CpuAdd i core answer) →
+        line_verdict m (state_after m entries) line ≡ Ok (plan.CpuAdd i core answer) →
         is_some (at_place (state_after m entries).free core.0) ≡ true }
 {}

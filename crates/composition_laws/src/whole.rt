@@ -12,14 +12,14 @@ ghost use Rattle.sched_model.specs.declared.state.FreeCore.{FreeCore};
 ghost use Rattle.sched_model.specs.declared.state.Pool.{Pool};
 ghost use Rattle.sched_model.specs.Places.{at_place};
 ghost use Rattle.sched_model.specs.CheckedMachine.{IsChecked};
-ghost use Rattle.sched_model.specs.Machine.{first_enabled};
+ghost use Rattle.sched_model.specs.Machine.{first_enabled_action};
 ghost use Rattle.sched_model.specs.Runs.{IsRun};
 ghost use Rattle.sched_laws.specs.StateLaws.{state_after};
-ghost use Rattle.journal_core.specs.Parts.{under_way_of};
+ghost use Rattle.journal_core.specs.Parts.{state_under_way};
 ghost use Rattle.pool_laws.specs.Actors.{IsFirstBy};
 ghost use Rattle.journal_core.specs.ToolActions.{tool_may_act, IsLeastLater};
 ghost use Rattle.composition_laws.specs.Actors.{first_by, has_actor};
-ghost use Rattle.composition_laws.specs.WholeFirst.{ArePoolsFirsts, IsEarliest, tool_first};
+ghost use Rattle.composition_laws.specs.WholeFirst.{ArePoolsFirsts, IsEarliest, first_tool_action};
 ghost use Rattle.composition_laws.specs.WholeNext.{ArePoolsNexts, IsSoonest, IsWholeNext, leaving_at};
 
 use run_laws::laws::{law_enabled_stays, law_next_moment};
@@ -28,13 +28,13 @@ use run_laws::laws::{law_enabled_stays, law_next_moment};
 /// the earliest of the pools' first events, and nothing may come where no pool has one.
 pub fn law_whole_first()
     ensures tool { (m : Machine) → IsChecked m → (entries : List Entry) → IsRun m entries →
-        (t : ℕ) → (action : Action) → tool_first m (state_after m entries) t ≡ Some action →
-        first_enabled m (state_after m entries) t ≡ Some action }
+        (t : ℕ) → (action : Action) → first_tool_action m (state_after m entries) t ≡ Some action →
+        first_enabled_action m (state_after m entries) t ≡ Some action }
     ensures pools { (m : Machine) → IsChecked m → (entries : List Entry) → IsRun m entries → (t : ℕ)
         → (firsts : List (Option Action)) → (found : Option Action)
-        → tool_first m (state_after m entries) t ≡ None
+        → first_tool_action m (state_after m entries) t ≡ None
         → ArePoolsFirsts m.config.granularity t (state_after m entries).pools firsts
-        → IsEarliest firsts found → first_enabled m (state_after m entries) t ≡ found }
+        → IsEarliest firsts found → first_enabled_action m (state_after m entries) t ≡ found }
 {}
 
 /// In every state of a run in which nothing may come now, the next moment of the machine is the least of the pools' next moments, the tool's due and
@@ -42,12 +42,12 @@ pub fn law_whole_first()
 pub fn law_whole_next()
     ensures { (m : Machine) → IsChecked m → (entries : List Entry) → IsRun m entries
         → (nexts : List (Option Moment)) → (due next : Option Moment)
-        → first_enabled m (state_after m entries) (state_after m entries).now ≡ None
+        → first_enabled_action m (state_after m entries) (state_after m entries).now ≡ None
         → ArePoolsNexts m.config.granularity (state_after m entries).pools nexts
         → IsLeastLater (state_after m entries).now (tool_may_act m (state_after m entries)) due
         → IsSoonest
         (due ∷ leaving_at m.config.granularity (state_after m entries)
-        (under_way_of (state_after m entries)) ∷ nexts) next
+        (state_under_way (state_after m entries)) ∷ nexts) next
         → IsWholeNext m (state_after m entries) next }
 {
     law_enabled_stays();
@@ -70,5 +70,5 @@ pub fn law_actor()
         → first_by m (state_after m entries) (Proc p) ≡ None }
     ensures tool { (m : Machine) → IsChecked m → (entries : List Entry) → IsRun m entries →
         first_by m (state_after m entries) Tool
-        ≡ tool_first m (state_after m entries) (state_after m entries).now }
+        ≡ first_tool_action m (state_after m entries) (state_after m entries).now }
 {}

@@ -11,24 +11,24 @@ use Rattle.sched_model.specs.declared.state.Resource.{Resource}
 use Rattle.sched_model.specs.declared.state.Processor.{Processor}
 use Rattle.sched_model.specs.CheckedMachine.{IsGranularity}
 use Rattle.sched_model.specs.Places.{at_place}
-use Rattle.sched_model.specs.Pool.{is_held}
-use Rattle.due_heap.specs.Dues.{due_of}
-use Rattle.pool_laws.specs.ReadyMoments.{moment_if, later_moment, end_of, end_where, slice_end, gathers}
+use Rattle.sched_model.specs.Pool.{is_held_back}
+use Rattle.due_heap.specs.Dues.{armed_moment}
+use Rattle.pool_laws.specs.ReadyMoments.{guarded_moment, later_of, end_of, end_where, slice_moment, may_gather}
 use Rattle.core_state.specs.declared.dues.Dues.{Dues}
 use Rattle.core_state.specs.Seen.{Seen, processor_among}
-use Rattle.core_state.specs.Ends.{may_decide, may_save, parts, ready_among, sibling_among}
+use Rattle.core_state.specs.Ends.{may_core_decide, may_core_save, may_core_part, ready_among, sibling_among}
 use Rattle.core_state.specs.CoreState.{AgreesBut, AreArmedBut, AreArmed, with_core_ends, with_processor_ends}
 
 -- a number armed with its moment has it, and each other number has what it had
 armed_at : (from i : ℕ) (dues : List (Option Moment)) (ends : ℕ → Option Moment) → length dues ≡ 64 → (64 ≤ from → ends from ≡ None)
-    → (i ≢ from → due_of dues i ≡ ends i) → due_of (slice_set dues from (ends from)) i ≡ ends i
+    → (i ≢ from → armed_moment dues i ≡ ends i) → armed_moment (slice_set dues from (ends from)) i ≡ ends i
 armed_at from i dues ends ids past others =
     elim (ℕ_discrete i from) [
       | no ne ↦ get_or-set_other dues from i (ends from) None ne ∙ others ne
-      | yes e ↦ subst (λ (k : ℕ). due_of (slice_set dues from (ends from)) k ≡ ends k) (sym e) here
+      | yes e ↦ subst (λ (k : ℕ). armed_moment (slice_set dues from (ends from)) k ≡ ends k) (sym e) here
     ]
   where
-    here : due_of (slice_set dues from (ends from)) from ≡ ends from
+    here : armed_moment (slice_set dues from (ends from)) from ≡ ends from
     here = elim (cases_lt from 64) [
       | inl inside ↦ get_or-set_same dues from (ends from) None (omega (arith, ids, inside))
       | inr out ↦ get_or_past (slice_set dues from (ends from)) from None (omega (arith, ids, out, length-set dues from (ends from))) ∙ sym (past out)
@@ -91,7 +91,7 @@ abbrev sibling_in : ℕ → Option Resource → Option Processor
 sibling_in i o = elim o as (λ _. Option Processor) [ None ↦ None | Some c ↦ slice_get c.processors i ]
 
 abbrev end_in : ℕ → (Resource → Bool) → (Processor → Bool) → Option Resource → Option Moment
-end_in i a b o = elim o as (λ _. Option Moment) [ None ↦ None | Some c ↦ moment_if (a c) (elim (sibling_in i o) as (λ _. Option Moment) [ None ↦ None | Some q ↦ moment_if (b q) (Some q.stall_end) ]) ]
+end_in i a b o = elim o as (λ _. Option Moment) [ None ↦ None | Some c ↦ guarded_moment (a c) (elim (sibling_in i o) as (λ _. Option Moment) [ None ↦ None | Some q ↦ guarded_moment (b q) (Some q.stall_end) ]) ]
 
 pub sibling_same : (g p : ℕ) (a : Resource → Bool) (b : Processor → Bool) (cores next : List (Option Resource)) → at_place next (p / g) ≡ at_place cores (p / g)
     → sibling_among g next p a b ≡ sibling_among g cores p a b
@@ -103,13 +103,13 @@ processor_same g p cores next same = ap (sibling_in (p % g)) same
 pub sibling_past : (g p : ℕ) (a : Resource → Bool) (b : Processor → Bool) (cores : List (Option Resource)) → at_place cores (p / g) ≡ None → sibling_among g cores p a b ≡ None
 sibling_past g p a b cores none = ap (end_in (p % g) a b) none
 
-later_none : (a : Option Moment) → later_moment a None ≡ None
+later_none : (a : Option Moment) → later_of a None ≡ None
 later_none None = refl
 later_none (Some a) = refl
 
 pub block_past : (seen : Seen) (p : ℕ) → at_place seen.resources (p / seen.granularity) ≡ None → ready_among seen (Block (processor p)) ≡ None
 block_past seen p none =
-    ap (λ (o : Option Resource). later_moment (at_place seen.works p) (end_of (sibling_in (p % seen.granularity) o))) none ∙ later_none (at_place seen.works p)
+    ap (λ (o : Option Resource). later_of (at_place seen.works p) (end_of (sibling_in (p % seen.granularity) o))) none ∙ later_none (at_place seen.works p)
 
 -- the core armed anew
 pub core_armed : (r q q' : ℕ) (seen : Seen) (dues : Dues) → length seen.resources ≤ 64 → AreArmedBut r (r + 1) q q' seen dues
@@ -117,9 +117,9 @@ pub core_armed : (r q q' : ℕ) (seen : Seen) (dues : Dues) → length seen.reso
 core_armed r q q' seen dues few are =
     let none : 64 ≤ r → at_place seen.resources r ≡ None = core_past seen.resources r few in
     record {
-      slices = next r (r + 1) dues.slices (λ i. ready_among seen (Slice (core_number i))) (λ past. ap slice_end (none past)) are.slices;
-      decides = next r (r + 1) dues.decides (λ i. ready_among seen (Decide (core_number i))) (λ past. ap (λ (o : Option Resource). end_where may_decide o) (none past)) are.decides;
-      saves = next r (r + 1) dues.saves (λ i. ready_among seen (Save (core_number i))) (λ past. ap (λ (o : Option Resource). end_where may_save o) (none past)) are.saves;
+      slices = next r (r + 1) dues.slices (λ i. ready_among seen (Slice (core_number i))) (λ past. ap slice_moment (none past)) are.slices;
+      decides = next r (r + 1) dues.decides (λ i. ready_among seen (Decide (core_number i))) (λ past. ap (λ (o : Option Resource). end_where may_core_decide o) (none past)) are.decides;
+      saves = next r (r + 1) dues.saves (λ i. ready_among seen (Save (core_number i))) (λ past. ap (λ (o : Option Resource). end_where may_core_save o) (none past)) are.saves;
       blocks = are.blocks;
       arrives = are.arrives;
       leaves = are.leaves;
@@ -135,8 +135,8 @@ processor_armed r r' p q seen dues granularity few are =
       decides = are.decides;
       saves = are.saves;
       blocks = next p q dues.blocks (λ i. ready_among seen (Block (processor i))) (λ past. block_past seen p (none past)) are.blocks;
-      arrives = next p q dues.arrives (λ i. ready_among seen (Arrive (processor i))) (λ past. sibling_past seen.granularity p gathers (λ q. not (is_held q)) seen.resources (none past)) are.arrives;
-      leaves = next p q dues.leaves (λ i. ready_among seen (Leave (processor i))) (λ past. sibling_past seen.granularity p parts is_held seen.resources (none past)) are.leaves;
+      arrives = next p q dues.arrives (λ i. ready_among seen (Arrive (processor i))) (λ past. sibling_past seen.granularity p may_gather (λ q. not (is_held_back q)) seen.resources (none past)) are.arrives;
+      leaves = next p q dues.leaves (λ i. ready_among seen (Leave (processor i))) (λ past. sibling_past seen.granularity p may_core_part is_held_back seen.resources (none past)) are.leaves;
     }
 
 -- the i-th processor of the core r is of that core, and the i-th there

@@ -14,14 +14,14 @@ use Rattle.sched_model.specs.declared.state.Resource.{Resource}
 use Rattle.sched_model.specs.declared.state.Stage.TheVariants.{Open, Decided}
 use Rattle.sched_model.specs.CheckedMachine.{IsGranularity}
 use Rattle.sched_model.specs.Places.{at_place, change_at, change_item, clear_at, first_place}
-use Rattle.sched_model.specs.Pool.{cores_from, is_held, open_if_left, same_choice}
+use Rattle.sched_model.specs.Pool.{cores_from, is_held_back, reopened_core, same_choice}
 use Rattle.sched_model.proofs.PlaceLemmas.{at_place-change_at_other, cores_from-change_at}
 use Rattle.sched_laws.specs.EachPlace.{EachPlace}
-use Rattle.due_heap.specs.Dues.{due_of}
-use Rattle.pool_laws.specs.ReadyMoments.{later_moment as later, end_of, end_where, slice_end, gathers}
+use Rattle.due_heap.specs.Dues.{armed_moment}
+use Rattle.pool_laws.specs.ReadyMoments.{later_of, end_of, end_where, slice_moment, may_gather}
 use Rattle.core_state.specs.declared.dues.Dues.{Dues}
-use Rattle.core_state.specs.Seen.{Seen, chosen_core, processor_among, with_sibling, without_works}
-use Rattle.core_state.specs.Ends.{may_decide, may_save, parts, ready_among}
+use Rattle.core_state.specs.Seen.{Seen, chosen_core, processor_among, with_sibling, cleared_works}
+use Rattle.core_state.specs.Ends.{may_core_decide, may_core_save, may_core_part, ready_among}
 use Rattle.core_state.specs.CoreState.{AgreesBut, AreArmed, AreArmedBut, AreEmpty, IsKept, MayRearm}
 use Rattle.core_state.proofs.Arming.{block_past, but, other_core, processor_same, sibling_past, sibling_same, few_places}
 use Rattle.sched_laws.proofs.SiblingsLaw.{some_processor}
@@ -49,20 +49,20 @@ armed_but g r cores next works after dues granularity change are =
     let before = seen_of g cores works in
     let now = seen_of g next after in
     record {
-      slices = but r (r + 1) dues.slices (λ i. ready_among before (Slice (core_number i))) (λ i. ready_among now (Slice (core_number i))) (λ i h. ap slice_end (core i h)) are.slices;
-      decides = but r (r + 1) dues.decides (λ i. ready_among before (Decide (core_number i))) (λ i. ready_among now (Decide (core_number i))) (λ i h. ap (λ (o : Option Resource). end_where may_decide o) (core i h)) are.decides;
-      saves = but r (r + 1) dues.saves (λ i. ready_among before (Save (core_number i))) (λ i. ready_among now (Save (core_number i))) (λ i h. ap (λ (o : Option Resource). end_where may_save o) (core i h)) are.saves;
+      slices = but r (r + 1) dues.slices (λ i. ready_among before (Slice (core_number i))) (λ i. ready_among now (Slice (core_number i))) (λ i h. ap slice_moment (core i h)) are.slices;
+      decides = but r (r + 1) dues.decides (λ i. ready_among before (Decide (core_number i))) (λ i. ready_among now (Decide (core_number i))) (λ i h. ap (λ (o : Option Resource). end_where may_core_decide o) (core i h)) are.decides;
+      saves = but r (r + 1) dues.saves (λ i. ready_among before (Save (core_number i))) (λ i. ready_among now (Save (core_number i))) (λ i h. ap (λ (o : Option Resource). end_where may_core_save o) (core i h)) are.saves;
       blocks =
           but (r * g) (r * g + g) dues.blocks (λ i. ready_among before (Block (processor i))) (λ i. ready_among now (Block (processor i)))
           (λ p h.
-          ap (λ (w : Option Moment). later w (end_of (processor_among g next p))) (change.other_works p (other_core g r p granularity h))
-          ∙ ap (λ (q : Option Processor). later (at_place works p) (end_of q)) (processor_same g p cores next (of_processor p h))) are.blocks;
+          ap (λ (w : Option Moment). later_of w (end_of (processor_among g next p))) (change.other_works p (other_core g r p granularity h))
+          ∙ ap (λ (q : Option Processor). later_of (at_place works p) (end_of q)) (processor_same g p cores next (of_processor p h))) are.blocks;
       arrives =
           but (r * g) (r * g + g) dues.arrives (λ i. ready_among before (Arrive (processor i))) (λ i. ready_among now (Arrive (processor i)))
-          (λ p h. sibling_same g p gathers (λ q. not (is_held q)) cores next (of_processor p h)) are.arrives;
+          (λ p h. sibling_same g p may_gather (λ q. not (is_held_back q)) cores next (of_processor p h)) are.arrives;
       leaves =
           but (r * g) (r * g + g) dues.leaves (λ i. ready_among before (Leave (processor i))) (λ i. ready_among now (Leave (processor i)))
-          (λ p h. sibling_same g p parts is_held cores next (of_processor p h)) are.leaves;
+          (λ p h. sibling_same g p may_core_part is_held_back cores next (of_processor p h)) are.leaves;
     }
 
 -- all is kept, once the dues are right again
@@ -131,12 +131,12 @@ worked_change p work f {g} {home} {first} {cores} {works} {dues} keeps kept =
       other_works = λ q ne. get_or-set_other works p q work None (λ e. ne (ap (λ (k : ℕ). k / g) e));
     }
 
-pub length-without_works : (p count : ℕ) (works : List (Option Moment)) → length (without_works p count works) ≡ length works
+pub length-without_works : (p count : ℕ) (works : List (Option Moment)) → length (cleared_works p count works) ≡ length works
 length-without_works p zero works = refl
 length-without_works p (suc count) works = length-without_works (suc p) count (clear_at p works) ∙ length-set works p None
 
 -- the works of the other processors stay
-pub without_works-other : (p count q : ℕ) (works : List (Option Moment)) → (q < p) ⊎ (p + count ≤ q) → at_place (without_works p count works) q ≡ at_place works q
+pub without_works-other : (p count q : ℕ) (works : List (Option Moment)) → (q < p) ⊎ (p + count ≤ q) → at_place (cleared_works p count works) q ≡ at_place works q
 without_works-other p zero q works apart = refl
 without_works-other p (suc count) q works (inl h) =
     without_works-other (suc p) count q (clear_at p works) (inl (omega (arith, h))) ∙ get_or-set_other works p q None None (λ e. omega (arith, h, e))
@@ -149,7 +149,7 @@ cleared zero (w ∷ works) = refl
 cleared (suc p) (w ∷ works) = cleared p works
 
 -- and these have none
-pub without_works-own : (p count q : ℕ) (works : List (Option Moment)) → p ≤ q → q < p + count → at_place (without_works p count works) q ≡ None
+pub without_works-own : (p count q : ℕ) (works : List (Option Moment)) → p ≤ q → q < p + count → at_place (cleared_works p count works) q ≡ None
 without_works-own p zero q works low high = absurd (omega (arith, low, high))
 without_works-own p (suc count) q works low high =
     elim (ℕ_discrete q p) [
@@ -174,7 +174,7 @@ apart g r p granularity ne =
 
 -- a core comes in or goes out
 pub placed_change : (r : ℕ) (x : Option Resource) {g home : ℕ} {first : Option ℕ} {cores : List (Option Resource)} {works : List (Option Moment)} {dues : Dues} → ((c : Resource) → x ≡ Some c → length c.processors ≡ g) → IsKept (seen_of g cores works) home first dues
-    → IsChange g r cores (slice_set cores r x) works (without_works (r * g) g works)
+    → IsChange g r cores (slice_set cores r x) works (cleared_works (r * g) g works)
 placed_change r x {g} {home} {first} {cores} {works} {dues} has kept = record {
   places = length-set cores r x;
   processors = length-without_works (r * g) g works;
@@ -190,8 +190,8 @@ placed_change r x {g} {home} {first} {cores} {works} {dues} has kept = record {
 pub sibling_keeps : (i : ℕ) (f : Processor → Processor) → KeepsSiblings (with_sibling i f)
 sibling_keeps i f c = length_change_item i f c.processors
 
-pub open_keeps : KeepsSiblings open_if_left
-open_keeps c = elim (list_any is_held c.processors) as (λ b. length (if b then c else record c { stage = Open }).processors ≡ length c.processors) [ true ↦ refl | false ↦ refl ]
+pub open_keeps : KeepsSiblings reopened_core
+open_keeps c = elim (list_any is_held_back c.processors) as (λ b. length (if b then c else record c { stage = Open }).processors ≡ length c.processors) [ true ↦ refl | false ↦ refl ]
 
 pub chosen_keeps : (t : ℕ) (unit : Option UnitId) (due : Option Moment) → KeepsSiblings (chosen_core t unit due)
 chosen_keeps t unit due c =
@@ -204,7 +204,7 @@ chosen_keeps t unit due c =
       | false ↦ refl
     ]
 
-pub open_sibling_keeps : (i : ℕ) (f : Processor → Processor) → KeepsSiblings (λ c. open_if_left (with_sibling i f c))
+pub open_sibling_keeps : (i : ℕ) (f : Processor → Processor) → KeepsSiblings (λ c. reopened_core (with_sibling i f c))
 open_sibling_keeps i f c = open_keeps (with_sibling i f c) ∙ sibling_keeps i f c
 
 -- what the function that arms a core asks, and what is kept after it, where the cores and works in hand are those of a change
@@ -265,7 +265,7 @@ agrees : (dues : List (Option Moment)) (ends : ℕ → Option Moment) → dues �
 agrees dues ends is none = record {
   ids = ap length is;
   below = λ i h. absurd (omega (arith, h));
-  above = λ i h. ap (λ (ds : List (Option Moment)). due_of ds i) is ∙ at_place-replicate 64 i ∙ sym (none i);
+  above = λ i h. ap (λ (ds : List (Option Moment)). armed_moment ds i) is ∙ at_place-replicate 64 i ∙ sym (none i);
 }
 
 pub vacant_kept : (g n : ℕ) (cores : List (Option Resource)) (works : List (Option Moment)) (dues : Dues) → IsGranularity g → n * g ≤ 64 → cores ≡ replicate n None → works ≡ replicate 64 None → AreEmpty dues
@@ -283,24 +283,24 @@ vacant_kept g n cores works dues granularity few is is_works empty =
       armed =
           let seen : Seen = seen_of g (replicate n None) (replicate 64 None) in
           record {
-            slices = agrees dues.slices (λ i. ready_among seen (Slice (core_number i))) empty.slices (λ i. ap slice_end (at_place-replicate n i));
-            decides = agrees dues.decides (λ i. ready_among seen (Decide (core_number i))) empty.decides (λ i. ap (λ (o : Option Resource). end_where may_decide o) (at_place-replicate n i));
-            saves = agrees dues.saves (λ i. ready_among seen (Save (core_number i))) empty.saves (λ i. ap (λ (o : Option Resource). end_where may_save o) (at_place-replicate n i));
+            slices = agrees dues.slices (λ i. ready_among seen (Slice (core_number i))) empty.slices (λ i. ap slice_moment (at_place-replicate n i));
+            decides = agrees dues.decides (λ i. ready_among seen (Decide (core_number i))) empty.decides (λ i. ap (λ (o : Option Resource). end_where may_core_decide o) (at_place-replicate n i));
+            saves = agrees dues.saves (λ i. ready_among seen (Save (core_number i))) empty.saves (λ i. ap (λ (o : Option Resource). end_where may_core_save o) (at_place-replicate n i));
             blocks = agrees dues.blocks (λ i. ready_among seen (Block (processor i))) empty.blocks (λ i. block_past seen i (at_place-replicate n (i / g)));
-            arrives = agrees dues.arrives (λ i. ready_among seen (Arrive (processor i))) empty.arrives (λ i. sibling_past g i gathers (λ q. not (is_held q)) (replicate n None) (at_place-replicate n (i / g)));
-            leaves = agrees dues.leaves (λ i. ready_among seen (Leave (processor i))) empty.leaves (λ i. sibling_past g i parts is_held (replicate n None) (at_place-replicate n (i / g)));
+            arrives = agrees dues.arrives (λ i. ready_among seen (Arrive (processor i))) empty.arrives (λ i. sibling_past g i may_gather (λ q. not (is_held_back q)) (replicate n None) (at_place-replicate n (i / g)));
+            leaves = agrees dues.leaves (λ i. ready_among seen (Leave (processor i))) empty.leaves (λ i. sibling_past g i may_core_part is_held_back (replicate n None) (at_place-replicate n (i / g)));
           };
     })
 
 -- one work after another
 pub without_works-turn : (p i count : ℕ) (works : List (Option Moment)) → i < count
-    → without_works (p + (i + 1)) (count - (i + 1)) (clear_at (p + i) works) ≡ without_works (p + i) (count - i) works
+    → cleared_works (p + (i + 1)) (count - (i + 1)) (clear_at (p + i) works) ≡ cleared_works (p + i) (count - i) works
 without_works-turn p i count works below =
     let e : count - i ≡ suc (count - (i + 1)) = omega arith in
     let f : p + (i + 1) ≡ suc (p + i) = omega arith in
-    rw e (ap (λ (m : ℕ). without_works m (count - (i + 1)) (clear_at (p + i) works)) f)
+    rw e (ap (λ (m : ℕ). cleared_works m (count - (i + 1)) (clear_at (p + i) works)) f)
 
-pub without_works-done : (p i count : ℕ) (works : List (Option Moment)) → count ≤ i → works ≡ without_works (p + i) (count - i) works
+pub without_works-done : (p i count : ℕ) (works : List (Option Moment)) → count ≤ i → works ≡ cleared_works (p + i) (count - i) works
 without_works-done p i count works past =
     let e : count - i ≡ 0 = omega arith in
     rw e refl

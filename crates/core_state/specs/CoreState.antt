@@ -6,13 +6,13 @@ use Rattle.sched_model.specs.declared.action.Action.TheVariants.{Block, Slice, A
 use Rattle.sched_model.specs.declared.state.Resource.{Resource}
 use Rattle.sched_model.specs.CheckedMachine.{IsGranularity}
 use Rattle.sched_model.specs.Places.{first_place}
-use Rattle.sched_model.specs.Pool.{cores_from, is_held}
+use Rattle.sched_model.specs.Pool.{cores_from, is_held_back}
 use Rattle.sched_laws.specs.EachPlace.{EachPlace}
-use Rattle.pool_laws.specs.ReadyMoments.{end_of, end_where, gathers, later_moment, slice_end}
-use Rattle.due_heap.specs.Dues.{due_of}
+use Rattle.pool_laws.specs.ReadyMoments.{end_of, end_where, may_gather, later_of, slice_moment}
+use Rattle.due_heap.specs.Dues.{armed_moment}
 use Rattle.core_state.specs.declared.dues.Dues.{Dues}
-use Rattle.core_state.specs.Seen.{Seen, sibling_of}
-use Rattle.core_state.specs.Ends.{may_decide, may_save, parts, ready_among, sibling_end}
+use Rattle.core_state.specs.Seen.{Seen, core_sibling}
+use Rattle.core_state.specs.Ends.{may_core_decide, may_core_save, may_core_part, ready_among, sibling_end}
 
 -- each core has 1, 2 or 4 processors, and there are places for at most 64 processors
 pub record KeepsCores (seen : Seen) : Type 0 where
@@ -24,8 +24,8 @@ pub record KeepsCores (seen : Seen) : Type 0 where
 -- a set of 64 has for each number its moment, but for those numbers that are not below `from` and below `to`
 pub record AgreesBut (from to : ℕ) (dues : List (Option Moment)) (ends : ℕ → Option Moment) : Type 0 where
   pub ids : length dues ≡ 64
-  pub below : (i : ℕ) → i < from → due_of dues i ≡ ends i
-  pub above : (i : ℕ) → to ≤ i → due_of dues i ≡ ends i
+  pub below : (i : ℕ) → i < from → armed_moment dues i ≡ ends i
+  pub above : (i : ℕ) → to ≤ i → armed_moment dues i ≡ ends i
 
 -- each set has its moments, but for those of such cores and of such processors
 pub record AreArmedBut (core core_end processor processor_end : ℕ) (seen : Seen) (dues : Dues) : Type 0 where
@@ -66,16 +66,16 @@ pub record AreEmpty (dues : Dues) : Type 0 where
 abbrev pub with_core_ends : ℕ → Option Resource → Dues → Dues
 with_core_ends r core dues =
     record dues {
-      slices = slice_set dues.slices r (slice_end core);
-      decides = slice_set dues.decides r (end_where may_decide core);
-      saves = slice_set dues.saves r (end_where may_save core);
+      slices = slice_set dues.slices r (slice_moment core);
+      decides = slice_set dues.decides r (end_where may_core_decide core);
+      saves = slice_set dues.saves r (end_where may_core_save core);
     }
 
 -- the sets with the own moments of the processor p, which is the i-th of the core, and whose work is done then
 abbrev pub with_processor_ends : ℕ → Option Resource → ℕ → Option Moment → Dues → Dues
 with_processor_ends p core i work dues =
     record dues {
-      blocks = slice_set dues.blocks p (later_moment work (end_of (sibling_of core i)));
-      arrives = slice_set dues.arrives p (sibling_end gathers (λ q. not (is_held q)) core (sibling_of core i));
-      leaves = slice_set dues.leaves p (sibling_end parts is_held core (sibling_of core i));
+      blocks = slice_set dues.blocks p (later_of work (end_of (core_sibling core i)));
+      arrives = slice_set dues.arrives p (sibling_end may_gather (λ q. not (is_held_back q)) core (core_sibling core i));
+      leaves = slice_set dues.leaves p (sibling_end may_core_part is_held_back core (core_sibling core i));
     }

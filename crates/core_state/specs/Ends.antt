@@ -7,8 +7,8 @@ use Rattle.sched_model.specs.declared.action.Action.TheVariants.{Moved, Block, S
 use Rattle.sched_model.specs.declared.state.Processor.{Processor}
 use Rattle.sched_model.specs.declared.state.Resource.{Resource}
 use Rattle.sched_model.specs.Places.{at_place, first_place}
-use Rattle.sched_model.specs.Pool.{is_held, is_open}
-use Rattle.pool_laws.specs.ReadyMoments.{moment_if, later_moment, end_of, end_where, slice_end, may_move, gathers}
+use Rattle.sched_model.specs.Pool.{is_held_back, is_gathering}
+use Rattle.pool_laws.specs.ReadyMoments.{guarded_moment, later_of, end_of, end_where, slice_moment, may_core_move, may_gather}
 use Rattle.core_state.specs.Seen.{Seen, processor_among}
 
 -- the end of the stall of the pool's lowest processor, where these are the cores
@@ -18,33 +18,33 @@ lowest_among cores = elim (first_place 0 (λ c. true) cores) [ None ↦ None | S
 -- the end of the stall of a core's processor, where both are there and each passes its test
 abbrev pub sibling_end : (Resource → Bool) → (Processor → Bool) → Option Resource → Option Processor → Option Moment
 sibling_end of_core of_processor core processor =
-    elim core [ None ↦ None | Some c ↦ moment_if (of_core c) (elim processor [ None ↦ None | Some q ↦ moment_if (of_processor q) (Some q.stall_end) ]) ]
+    elim core [ None ↦ None | Some c ↦ guarded_moment (of_core c) (elim processor [ None ↦ None | Some q ↦ guarded_moment (of_processor q) (Some q.stall_end) ]) ]
 
 -- the same of a processor, where these are the cores
 abbrev pub sibling_among : ℕ → List (Option Resource) → ℕ → (Resource → Bool) → (Processor → Bool) → Option Moment
 sibling_among g cores p of_core of_processor = sibling_end of_core of_processor (at_place cores (p / g)) (processor_among g cores p)
 
 -- whether the core may decide
-abbrev pub may_decide : Resource → Bool
-may_decide c = list_all is_held c.processors && is_open c
+abbrev pub may_core_decide : Resource → Bool
+may_core_decide c = list_all is_held_back c.processors && is_gathering c
 
 -- whether the core may put away the unit that it saves
-abbrev pub may_save : Resource → Bool
-may_save c = is_some c.saving && not (list_any is_held c.processors)
+abbrev pub may_core_save : Resource → Bool
+may_core_save c = is_some c.saving && not (list_any is_held_back c.processors)
 
 -- whether the core's processors may leave
-abbrev pub parts : Resource → Bool
-parts c = not (is_open c)
+abbrev pub may_core_part : Resource → Bool
+may_core_part c = not (is_gathering c)
 
 -- from when on the action, if it is one of a core or a processor, may come
 abbrev pub ready_among : Seen → Action → Option Moment
-ready_among seen (Moved r) = end_where may_move (at_place seen.resources r.0)
-ready_among seen (Block p) = later_moment (at_place seen.works p.0) (end_of (processor_among seen.granularity seen.resources p.0))
-ready_among seen (Slice r) = slice_end (at_place seen.resources r.0)
-ready_among seen (Arrive p) = sibling_among seen.granularity seen.resources p.0 gathers (λ q. not (is_held q))
-ready_among seen (Decide r) = end_where may_decide (at_place seen.resources r.0)
-ready_among seen (Leave p) = sibling_among seen.granularity seen.resources p.0 parts is_held
-ready_among seen (Save r) = end_where may_save (at_place seen.resources r.0)
+ready_among seen (Moved r) = end_where may_core_move (at_place seen.resources r.0)
+ready_among seen (Block p) = later_of (at_place seen.works p.0) (end_of (processor_among seen.granularity seen.resources p.0))
+ready_among seen (Slice r) = slice_moment (at_place seen.resources r.0)
+ready_among seen (Arrive p) = sibling_among seen.granularity seen.resources p.0 may_gather (λ q. not (is_held_back q))
+ready_among seen (Decide r) = end_where may_core_decide (at_place seen.resources r.0)
+ready_among seen (Leave p) = sibling_among seen.granularity seen.resources p.0 may_core_part is_held_back
+ready_among seen (Save r) = end_where may_core_save (at_place seen.resources r.0)
 ready_among seen _ = None
 
 -- the same, but for a core that leaves the pool

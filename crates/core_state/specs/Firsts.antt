@@ -1,7 +1,7 @@
 -- The first of moments by number that has come, and the least of moments.
 use Rattle.std.specs.Prelude.{ℕ, ◌≡◌, ◌<◌, ◌≤◌, nat_le, true, false, Option, Some, None, if◌then◌else◌, option_map}
 use Rattle.sched_base.specs.declared.Moment.{Moment}
-use Rattle.sched_base.specs.Numbers.{core, processor, has_come}
+use Rattle.sched_base.specs.Numbers.{core, processor, has_moment_come}
 use Rattle.sched_base.specs.declared.ResId.{ResId}
 use Rattle.sched_base.specs.declared.ProcId.{ProcId}
 
@@ -14,8 +14,8 @@ number_of_processor first = option_map (λ (p : ProcId). p.0) first
 
 -- the least number whose moment has come at t; none where none has
 abbrev pub IsFirstCome : (ℕ → Option Moment) → ℕ → Option ℕ → Type 0
-IsFirstCome ends t None = (i : ℕ) → has_come t (ends i) ≡ false
-IsFirstCome ends t (Some i) = (has_come t (ends i) ≡ true) × ((j : ℕ) → j < i → has_come t (ends j) ≡ false)
+IsFirstCome ends t None = (i : ℕ) → has_moment_come t (ends i) ≡ false
+IsFirstCome ends t (Some i) = (has_moment_come t (ends i) ≡ true) × ((j : ℕ) → j < i → has_moment_come t (ends j) ≡ false)
 
 -- the same of moments by core, and by processor
 abbrev pub IsFirstCore : (ResId → Option Moment) → ℕ → Option ResId → Type 0
@@ -37,7 +37,7 @@ pub record IsLeast {X : Type 0} (ends : X → Option Moment) (at : Option Moment
   pub one : (m : Moment) → at ≡ Some m → (x : X) × (ends x ≡ Some m)
 
 -- the earlier of two moments
-abbrev pub earlier_moment : Option Moment → Option Moment → Option Moment
-earlier_moment None b = b
-earlier_moment (Some a) None = Some a
-earlier_moment (Some a) (Some b) = (if nat_le a.0 b.0 then Some a else Some b)
+abbrev pub earlier_of_both : Option Moment → Option Moment → Option Moment
+earlier_of_both None b = b
+earlier_of_both (Some a) None = Some a
+earlier_of_both (Some a) (Some b) = (if nat_le a.0 b.0 then Some a else Some b)

@@ -35,9 +35,9 @@ abbrev pub with_work : ℕ → Option Moment → Seen → Seen
 with_work p work seen = record seen { works = slice_set seen.works p work }
 
 -- the works with none for the processor p and those after it, count in all
-abbrev pub without_works : ℕ → ℕ → List (Option Moment) → List (Option Moment)
-without_works p zero works = works
-without_works p (suc count) works = without_works (suc p) count (clear_at p works)
+abbrev pub cleared_works : ℕ → ℕ → List (Option Moment) → List (Option Moment)
+cleared_works p zero works = works
+cleared_works p (suc count) works = cleared_works (suc p) count (clear_at p works)
 
 -- the core is to decide anew, and at this moment at the latest
 abbrev pub pending_by : Moment → Resource → Resource
@@ -48,17 +48,17 @@ abbrev pub chosen_core : ℕ → Option UnitId → Option Moment → Resource �
 chosen_core t unit due c = let decision : Decision = record { unit = unit; due = due; reset = 0; records = NullPool [] } in decided_core t decision c
 
 -- the i-th processor of a core, if there is a core
-abbrev pub sibling_of : Option Resource → ℕ → Option Processor
-sibling_of core i = elim core [ None ↦ None | Some c ↦ slice_get c.processors i ]
+abbrev pub core_sibling : Option Resource → ℕ → Option Processor
+core_sibling core i = elim core [ None ↦ None | Some c ↦ slice_get c.processors i ]
 
 -- the processor, where these are the cores and each has g of them
 abbrev pub processor_among : ℕ → List (Option Resource) → ℕ → Option Processor
-processor_among g cores p = sibling_of (at_place cores (p / g)) (p % g)
+processor_among g cores p = core_sibling (at_place cores (p / g)) (p % g)
 
 -- the end of a stall of the processor up to this moment: no earlier than that of the stall that it has
-abbrev pub stall_until : Option Processor → Moment → Moment
-stall_until None end = end
-stall_until (Some q) end = moment (max q.stall_end.0 end.0)
+abbrev pub extended_stall_end : Option Processor → Moment → Moment
+extended_stall_end None end = end
+extended_stall_end (Some q) end = moment (max q.stall_end.0 end.0)
 
 -- what is seen of the cores of a pool
 abbrev pub seen_in : ℕ → List (Option Moment) → Pool → Seen

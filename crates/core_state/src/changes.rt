@@ -2,7 +2,7 @@
 
 ghost use Rattle.std.specs.Prelude.{◌≡◌, ◌+◌, ◌^◌, ◌<◌};
 ghost use Rattle.sched_model.specs.Places.{change_at};
-ghost use Rattle.core_state.specs.Seen.{chosen_core, pending_by, without_works as without_works_spec};
+ghost use Rattle.core_state.specs.Seen.{chosen_core, pending_by, cleared_works};
 
 use sched_base::{Moment, ResId, UnitId};
 use sched_model::places::take_item;
@@ -56,7 +56,7 @@ pub fn choose_at(
 /// So many processors from p on have no work whose end is known.
 pub fn clear_works(p: u16, count: u8, works: &mut Row<Option<Moment>>)
     requires { p + count < 2 ^ 16 }
-    ensures { works.new ≡ without_works_spec p count works.old }
+    ensures { works.new ≡ cleared_works p count works.old }
 {
     for i in 0..count {
         take_item(works, (p + i as u16) as usize);

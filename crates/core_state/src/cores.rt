@@ -3,7 +3,7 @@
 ghost use Rattle.std.specs.Prelude.{◌≡◌, ◌≤◌, true, IfOk, None, length};
 ghost use Rattle.std.specs.Option.{option_copied};
 ghost use Rattle.sched_model.specs.Places.{first_place, is_unit};
-ghost use Rattle.core_state.specs.Seen.{stall_until as stall_until_spec};
+ghost use Rattle.core_state.specs.Seen.{extended_stall_end};
 
 use crate::changes::{choose_at, clear_works, set_pending_by};
 use crate::dues::{
@@ -79,7 +79,7 @@ fn number_with(cores: &[Option<Resource>], u: UnitId) -> Option<u8>
 
 /// The end of a stall of the processor up to this moment: no earlier than that of the stall that it has.
 fn later_end(p: Option<&Processor>, until: Moment) -> Moment
-    ensures { result ≡ stall_until_spec (option_copied p.entry) until }
+    ensures { result ≡ extended_stall_end (option_copied p.entry) until }
 {
     match p {
         None => until,
@@ -97,8 +97,8 @@ impl CoreState {
     ghost use Rattle.sched_model.specs.CheckedMachine.{IsGranularity};
     ghost use Rattle.sched_model.specs.declared.state.Resource.{Resource as ResourceRecord};
     ghost use Rattle.sched_model.specs.Places.{at_place, clear_at, first_place, is_unit, numbered_items, put_at};
-    ghost use Rattle.sched_model.specs.Pool.{cores_from, is_of_domain, with_doing, due_within, open_if_left as open_if_left_spec, saved_core, saving_among, set_pending as set_pending_spec};
-    ghost use Rattle.core_state.specs.Seen.{changed_core, changed_processor, chosen_core, leaving_core, pending_by, processor_among, stall_until, stalled_to, vacant_cores, with_work, without_works};
+    ghost use Rattle.sched_model.specs.Pool.{cores_from, is_domain_unit, with_doing, due_within, reopened_core, saved_core, saving_among, pending_core};
+    ghost use Rattle.core_state.specs.Seen.{changed_core, changed_processor, chosen_core, leaving_core, pending_by, processor_among, extended_stall_end, stalled_to, vacant_cores, with_work, cleared_works};
     ghost use Rattle.core_state.specs.Ends.{lowest_among, ready_among, ready_within};
     ghost use Rattle.core_state.specs.Firsts.{IsFirstCore, IsFirstProcessor, IsLeast};
     ghost use Rattle.core_state.specs.CoreState.{KeepsCores};
@@ -176,8 +176,8 @@ impl CoreState {
 
     /// Whether a core has a unit of the domain as its own or saves one.
     pub fn has_domain(&self, d: DomId) -> bool
-        ensures { result ≡ list_any (λ (e : ℕ × ResourceRecord). is_of_domain d.0 e.1.cur
-            || is_of_domain d.0 e.1.saving) (numbered_items 0 self.now.resources) }
+        ensures { result ≡ list_any (λ (e : ℕ × ResourceRecord). is_domain_unit d.0 e.1.cur
+            || is_domain_unit d.0 e.1.saving) (numbered_items 0 self.now.resources) }
     {
         has_domain(0, self.cores.as_slice(), d)
     }
@@ -209,7 +209,7 @@ impl CoreState {
         requires siblings { length core.processors ≡ self.old.granularity }
         ensures { self.new ≡ record self.old {
           resources = put_at r.0 core self.old.resources;
-          works = without_works
+          works = cleared_works
               (r.0 * self.old.granularity) self.old.granularity self.old.works;
         } }
     {
@@ -226,7 +226,7 @@ impl CoreState {
         ensures core { result ≡ at_place self.old.resources r.0 }
         ensures after { self.new ≡ record self.old {
           resources = clear_at r.0 self.old.resources;
-          works = without_works
+          works = cleared_works
               (r.0 * self.old.granularity) self.old.granularity self.old.works;
         } }
     {
@@ -241,7 +241,7 @@ impl CoreState {
 
     /// The core is to decide anew.
     pub fn set_pending(&mut self, r: ResId)
-        ensures { self.new ≡ changed_core r.0 set_pending_spec self.old }
+        ensures { self.new ≡ changed_core r.0 pending_core self.old }
     {
         let g = self.granularity;
         set_pending(r, &mut self.cores);
@@ -334,7 +334,7 @@ impl CoreState {
     /// The processor leaves its siblings and does this; the last one that is held opens the core's stage.
     pub fn leave(&mut self, p: ProcId, doing: Doing, work: Option<Moment>)
         ensures { self.new ≡ with_work p.0 work
-            (changed_core (p.0 / self.old.granularity) open_if_left_spec
+            (changed_core (p.0 / self.old.granularity) reopened_core
             (changed_processor p.0 (with_doing doing) self.old)) }
     {
         let g = self.granularity;
@@ -347,7 +347,7 @@ impl CoreState {
 
     /// The processor is stalled up to this moment, if it is not yet for longer: the end of its stall.
     pub fn stall(&mut self, p: ProcId, until: Moment) -> Moment
-        ensures end { result ≡ stall_until
+        ensures end { result ≡ extended_stall_end
             (processor_among self.old.granularity self.old.resources p.0) until }
         ensures after { self.new ≡ changed_processor p.0 (stalled_to result) self.old }
     {

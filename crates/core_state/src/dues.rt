@@ -2,8 +2,8 @@
 
 ghost use Rattle.std.specs.Prelude.{◌≡◌, ◌+◌, ◌*◌, ◌<◌, ◌≤◌, None, Some, IfOk, length, slice_set, replicate};
 ghost use Rattle.std.specs.Option.{option_copied};
-ghost use Rattle.due_heap.specs.Dues.{due_of};
-ghost use Rattle.core_state.specs.Firsts.{IsFirstCore, IsFirstProcessor, IsLeast, earlier_moment as earlier_spec};
+ghost use Rattle.due_heap.specs.Dues.{armed_moment};
+ghost use Rattle.core_state.specs.Firsts.{IsFirstCore, IsFirstProcessor, IsLeast, earlier_of_both};
 ghost use Rattle.core_state.specs.CoreState.{AreArmed, AreEmpty, MayRearm, with_core_ends, with_processor_ends};
 
 use crate::ends::{
@@ -138,7 +138,7 @@ pub fn advance(dues: &mut Dues, t: Moment)
 #[inline]
 pub fn first_due_core(dues: &DueSet, t: Moment) -> Option<ResId>
     requires { length dues.now ≡ 64 }
-    ensures { IsFirstCore (λ r. due_of dues.now r.0) t.0 result }
+    ensures { IsFirstCore (λ r. armed_moment dues.now r.0) t.0 result }
 {
     match dues.first_due(t) {
         None => None,
@@ -150,7 +150,7 @@ pub fn first_due_core(dues: &DueSet, t: Moment) -> Option<ResId>
 #[inline]
 pub fn first_due_processor(dues: &DueSet, t: Moment) -> Option<ProcId>
     requires { length dues.now ≡ 64 }
-    ensures { IsFirstProcessor (λ p. due_of dues.now p.0) t.0 result }
+    ensures { IsFirstProcessor (λ p. armed_moment dues.now p.0) t.0 result }
 {
     match dues.first_due(t) {
         None => None,
@@ -160,7 +160,7 @@ pub fn first_due_processor(dues: &DueSet, t: Moment) -> Option<ProcId>
 
 /// The least moment of the set.
 pub fn least_of(dues: &DueSet) -> Option<Moment>
-    ensures { IsLeast (due_of dues.now) result }
+    ensures { IsLeast (armed_moment dues.now) result }
 {
     match dues.least() {
         None => None,
@@ -170,7 +170,7 @@ pub fn least_of(dues: &DueSet) -> Option<Moment>
 
 /// The earlier of two moments.
 pub fn earlier(a: Option<Moment>, b: Option<Moment>) -> Option<Moment>
-    ensures { result ≡ earlier_spec a b }
+    ensures { result ≡ earlier_of_both a b }
 {
     match (a, b) {
         (None, _) => b,

@@ -3,10 +3,10 @@
 ghost use Rattle.std.specs.Prelude.{◌≡◌, ◌<◌, not, true, None, Some};
 ghost use Rattle.std.specs.Option.{option_copied};
 ghost use Rattle.sched_model.specs.Places.{at_place, first_place};
-ghost use Rattle.sched_model.specs.Pool.{is_held as is_held_spec};
-ghost use Rattle.pool_laws.specs.ReadyMoments.{moment_if as when_spec, later_moment as later_spec, end_of, end_where, first_end as first_end_spec, may_move as may_move_spec, gathers as gathers_spec, slice_end as slice_end_spec};
-ghost use Rattle.core_state.specs.Seen.{processor_among, sibling_of as sibling_of_spec};
-ghost use Rattle.core_state.specs.Ends.{may_decide as may_decide_spec, may_save as may_save_spec, parts as parts_spec, sibling_end, lowest_among};
+ghost use Rattle.sched_model.specs.Pool.{is_held_back};
+ghost use Rattle.pool_laws.specs.ReadyMoments.{guarded_moment, later_of, end_of, end_where, first_stall_end, may_core_move, may_gather, slice_moment};
+ghost use Rattle.core_state.specs.Seen.{processor_among, core_sibling};
+ghost use Rattle.core_state.specs.Ends.{may_core_decide, may_core_save, may_core_part, sibling_end, lowest_among};
 
 use pool_records::cores::{all_held, any_held, is_held, is_open};
 use sched_base::Moment;
@@ -15,14 +15,14 @@ use sched_model::state::{Processor, Resource};
 
 /// The moment, under a condition.
 fn when(condition: bool, at: Option<Moment>) -> Option<Moment>
-    ensures { result ≡ when_spec condition at }
+    ensures { result ≡ guarded_moment condition at }
 {
     if condition { at } else { None }
 }
 
 /// The later of two moments, where both are there.
 fn later(a: Option<Moment>, b: Option<Moment>) -> Option<Moment>
-    ensures { result ≡ later_spec a b }
+    ensures { result ≡ later_of a b }
 {
     match (a, b) {
         (Some(x), Some(y)) => Some(Moment(x.0.max(y.0))),
@@ -32,7 +32,7 @@ fn later(a: Option<Moment>, b: Option<Moment>) -> Option<Moment>
 
 /// The end of the stall of the core's first processor.
 fn first_end(c: &Resource) -> Option<Moment>
-    ensures { result ≡ first_end_spec c.now }
+    ensures { result ≡ first_stall_end c.now }
 {
     match c.processors.as_slice() {
         [] => None,
@@ -42,28 +42,28 @@ fn first_end(c: &Resource) -> Option<Moment>
 
 /// Whether the core may leave the pool.
 fn may_move(c: &Resource) -> bool
-    ensures { result ≡ may_move_spec c.now }
+    ensures { result ≡ may_core_move c.now }
 {
     c.leaving && c.cur.is_none() && c.saving.is_none() && !c.pending && is_open(c)
 }
 
 /// Whether the core's processors may arrive.
 fn gathers(c: &Resource) -> bool
-    ensures { result ≡ gathers_spec c.now }
+    ensures { result ≡ may_gather c.now }
 {
     c.pending && is_open(c) && c.saving.is_none()
 }
 
 /// Whether the core may decide.
 fn may_decide(c: &Resource) -> bool
-    ensures { result ≡ may_decide_spec c.now }
+    ensures { result ≡ may_core_decide c.now }
 {
     all_held(c.processors.as_slice()) && is_open(c)
 }
 
 /// Whether the core may put away the unit that it saves.
 fn may_save(c: &Resource) -> bool
-    ensures { result ≡ may_save_spec c.now }
+    ensures { result ≡ may_core_save c.now }
 {
     c.saving.is_some() && !any_held(c.processors.as_slice())
 }
@@ -71,7 +71,7 @@ fn may_save(c: &Resource) -> bool
 /// From when on the core, if there is one, may leave the pool.
 #[inline]
 pub fn move_end(core: Option<&Resource>) -> Option<Moment>
-    ensures { result ≡ end_where may_move_spec (option_copied core.entry) }
+    ensures { result ≡ end_where may_core_move (option_copied core.entry) }
 {
     match core {
         None => None,
@@ -82,7 +82,7 @@ pub fn move_end(core: Option<&Resource>) -> Option<Moment>
 /// From when on the core is to decide anew, since its due has come.
 #[inline]
 pub fn slice_end(core: Option<&Resource>) -> Option<Moment>
-    ensures { result ≡ slice_end_spec (option_copied core.entry) }
+    ensures { result ≡ slice_moment (option_copied core.entry) }
 {
     match core {
         None => None,
@@ -93,7 +93,7 @@ pub fn slice_end(core: Option<&Resource>) -> Option<Moment>
 /// From when on the core may decide.
 #[inline]
 pub fn decide_end(core: Option<&Resource>) -> Option<Moment>
-    ensures { result ≡ end_where may_decide_spec (option_copied core.entry) }
+    ensures { result ≡ end_where may_core_decide (option_copied core.entry) }
 {
     match core {
         None => None,
@@ -104,7 +104,7 @@ pub fn decide_end(core: Option<&Resource>) -> Option<Moment>
 /// From when on the core may put away the unit that it saves.
 #[inline]
 pub fn save_end(core: Option<&Resource>) -> Option<Moment>
-    ensures { result ≡ end_where may_save_spec (option_copied core.entry) }
+    ensures { result ≡ end_where may_core_save (option_copied core.entry) }
 {
     match core {
         None => None,
@@ -115,7 +115,7 @@ pub fn save_end(core: Option<&Resource>) -> Option<Moment>
 /// The i-th processor of the core.
 #[inline]
 pub fn sibling_of(core: Option<&Resource>, i: usize) -> Option<&Processor>
-    ensures { option_copied result ≡ sibling_of_spec (option_copied core.entry) i }
+    ensures { option_copied result ≡ core_sibling (option_copied core.entry) i }
 {
     core?.processors.as_slice().get(i)
 }
@@ -142,7 +142,7 @@ fn stall_end(processor: Option<&Processor>) -> Option<Moment>
 #[inline]
 fn held_end(processor: Option<&Processor>) -> Option<Moment>
     ensures { result ≡ elim (option_copied processor.entry)
-        [ None ↦ None | Some q ↦ when_spec (is_held_spec q) (Some q.stall_end) ] }
+        [ None ↦ None | Some q ↦ guarded_moment (is_held_back q) (Some q.stall_end) ] }
 {
     match processor {
         None => None,
@@ -154,7 +154,7 @@ fn held_end(processor: Option<&Processor>) -> Option<Moment>
 #[inline]
 fn free_end(processor: Option<&Processor>) -> Option<Moment>
     ensures { result ≡ elim (option_copied processor.entry)
-        [ None ↦ None | Some q ↦ when_spec (not (is_held_spec q)) (Some q.stall_end) ] }
+        [ None ↦ None | Some q ↦ guarded_moment (not (is_held_back q)) (Some q.stall_end) ] }
 {
     match processor {
         None => None,
@@ -165,7 +165,7 @@ fn free_end(processor: Option<&Processor>) -> Option<Moment>
 /// From when on the vCPU that a processor runs may block, where its work is done then.
 #[inline]
 pub fn block_end(work: Option<Moment>, processor: Option<&Processor>) -> Option<Moment>
-    ensures { result ≡ later_spec work (end_of (option_copied processor.entry)) }
+    ensures { result ≡ later_of work (end_of (option_copied processor.entry)) }
 {
     later(work, stall_end(processor))
 }
@@ -173,7 +173,7 @@ pub fn block_end(work: Option<Moment>, processor: Option<&Processor>) -> Option<
 /// From when on a processor of the core may arrive.
 #[inline]
 pub fn arrive_end(core: Option<&Resource>, processor: Option<&Processor>) -> Option<Moment>
-    ensures { result ≡ sibling_end gathers_spec (λ q. not (is_held_spec q))
+    ensures { result ≡ sibling_end may_gather (λ q. not (is_held_back q))
         (option_copied core.entry) (option_copied processor.entry) }
 {
     match core {
@@ -185,7 +185,7 @@ pub fn arrive_end(core: Option<&Resource>, processor: Option<&Processor>) -> Opt
 /// From when on a processor of the core may leave.
 #[inline]
 pub fn leave_end(core: Option<&Resource>, processor: Option<&Processor>) -> Option<Moment>
-    ensures { result ≡ sibling_end parts_spec is_held_spec (option_copied core.entry)
+    ensures { result ≡ sibling_end may_core_part is_held_back (option_copied core.entry)
         (option_copied processor.entry) }
 {
     match core {

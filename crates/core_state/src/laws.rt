@@ -6,7 +6,7 @@ ghost use Rattle.sched_base.specs.declared.Moment.{Moment as MomentRecord};
 ghost use Rattle.sched_model.specs.declared.action.Action.TheVariants.{Moved, Block, Slice, Arrive, Decide, Leave, Save};
 ghost use Rattle.sched_model.specs.declared.state.Pool.{Pool as PoolRecord};
 ghost use Rattle.sched_model.specs.Places.{at_place};
-ghost use Rattle.pool_laws.specs.ReadyMoments.{lowest_end, ready_in, work_end};
+ghost use Rattle.pool_laws.specs.ReadyMoments.{lowest_stall_end, ready_in, work_end};
 ghost use Rattle.core_state.specs.Ends.{lowest_among, ready_among};
 ghost use Rattle.core_state.specs.Seen.{seen_in};
 
@@ -31,5 +31,5 @@ pub fn law_of_pool()
         at_place works p ≡ work_end g pool p →
         ready_among (seen_in g works pool) (Block (processor p))
         ≡ ready_in g pool (Block (processor p)) }
-    ensures lowest { (pool : PoolRecord) → lowest_among pool.resources ≡ lowest_end pool }
+    ensures lowest { (pool : PoolRecord) → lowest_among pool.resources ≡ lowest_stall_end pool }
 {}

@@ -8,8 +8,8 @@ use Rattle.sched_model.specs.declared.state.Resource.{Resource}
 use Rattle.sched_model.specs.Places.{numbered_items, first_empty}
 use Rattle.sched_model.specs.Pool.{cores_from}
 use Rattle.sched_model.specs.Commands.{cores_in, domains_in, last_core_fault}
-use Rattle.journal_core.specs.Parts.{outline_of}
-use Rattle.cpupool.specs.Verdicts.{core_total, domain_total, flags_from, last_core}
+use Rattle.journal_core.specs.Parts.{pool_outline}
+use Rattle.cpupool.specs.Verdicts.{outlined_core_count, outlined_domain_count, flags_from, last_core_refusal}
 use Rattle.cpupool.proofs.SubjectLemmas.{first_place-map}
 
 -- one more is counted first
@@ -40,10 +40,10 @@ places-count f n (Some x ∷ places) =
     let rest = places-count f (suc n) places in
     grind arith
 
-pub cores-seen : (pool : Pool) → core_total (outline_of pool) ≡ cores_in pool
+pub cores-seen : (pool : Pool) → outlined_core_count (pool_outline pool) ≡ cores_in pool
 cores-seen pool = flags-count 0 pool.resources
 
-pub domains-seen : (pool : Pool) → domain_total (outline_of pool) ≡ domains_in pool
+pub domains-seen : (pool : Pool) → outlined_domain_count (pool_outline pool) ≡ domains_in pool
 domains-seen pool = places-count _ 0 pool.domains
 
 -- the first empty place, each place changed
@@ -58,7 +58,7 @@ cores-set r [] = refl
 cores-set r (c ∷ cores) = ap (λ n. (if is_some c then 2 ^ r else 0) + n) (cores-set (suc r) cores)
 
 -- the refusal of a pool's last core
-pub last_core-seen : (i : ℕ) (pool : Pool) → last_core i (outline_of pool) ≡ last_core_fault i pool
+pub last_core-seen : (i : ℕ) (pool : Pool) → last_core_refusal i (pool_outline pool) ≡ last_core_fault i pool
 last_core-seen i pool =
     let cores = cores-seen pool in
     let first = first_place-map (λ (d : Domain). length d.vcpus) (λ vcpus. true) 0 pool.domains in

@@ -2,10 +2,10 @@
 use Rattle.std.proofs.Common.{◌≡◌, ◌+◌, ◌^◌, ℕ, zero, suc, List, [], ◌∷◌, refl, ap, ◌∙◌}
 use Rattle.std.specs.Prelude.{Option, Some, None, is_some, map}
 use Rattle.sched_base.specs.declared.Moment.{Moment}
-use Rattle.sched_model.specs.Opening.{fresh_core}
+use Rattle.sched_model.specs.Opening.{joined_core}
 use Rattle.sched_model.specs.Places.{at_place}
 use Rattle.sched_model.specs.Pool.{cores_from}
-use Rattle.sched_model.specs.State.{has_core}
+use Rattle.sched_model.specs.State.{has_core_bit}
 use Rattle.sched_model.specs.declared.state.Resource.{Resource}
 use Rattle.sched_laws.proofs.HomeCores.{home_has}
 use Rattle.cpupool.specs.Verdicts.{flags_from}
@@ -13,7 +13,7 @@ use Rattle.cpupool.specs.Verdicts.{flags_from}
 -- a core of a pool where a free one is
 abbrev core_for : Option (List Moment) → Option Resource
 core_for None = None
-core_for (Some ends) = Some (fresh_core ends)
+core_for (Some ends) = Some (joined_core ends)
 
 same_set : (r : ℕ) (free : List (Option (List Moment))) → flags_from r (map is_some free) ≡ cores_from r (map core_for free)
 same_set r [] = refl
@@ -26,5 +26,5 @@ same_places (None ∷ free) zero = refl
 same_places (Some ends ∷ free) zero = refl
 same_places (o ∷ free) (suc r) = same_places free r
 
-pub has_free : (free : List (Option (List Moment))) (r : ℕ) → has_core (flags_from 0 (map is_some free)) r ≡ is_some (at_place free r)
-has_free free r = ap (λ (n : ℕ). has_core n r) (same_set 0 free) ∙ home_has (map core_for free) r ∙ same_places free r
+pub has_free : (free : List (Option (List Moment))) (r : ℕ) → has_core_bit (flags_from 0 (map is_some free)) r ≡ is_some (at_place free r)
+has_free free r = ap (λ (n : ℕ). has_core_bit n r) (same_set 0 free) ∙ home_has (map core_for free) r ∙ same_places free r

@@ -10,13 +10,13 @@ use Rattle.sched_model.specs.declared.event.Refusal.TheVariants as refusal
 use Rattle.sched_model.specs.declared.machine.Machine.{Machine}
 use Rattle.sched_model.specs.declared.state.FreeCore.{FreeCore}
 use Rattle.sched_model.specs.declared.state.State.{State}
-use Rattle.sched_model.specs.Policy.{kind_of}
-use Rattle.sched_model.specs.Commands.{judge, demand, demand_kind, in_range}
-use Rattle.journal_core.specs.Parts.{outline_of}
+use Rattle.sched_model.specs.Policy.{records_kind}
+use Rattle.sched_model.specs.Commands.{judged_command, demand, demand_kind, in_range}
+use Rattle.journal_core.specs.Parts.{pool_outline}
 use Rattle.cpupool.specs.Tool.{tool_of}
-use Rattle.sched_model.specs.Pool.{unit_count}
-use Rattle.cpupool.specs.Facts.{facts_of, KeepsFacts, no_subject}
-use Rattle.cpupool.specs.Verdicts.{seen_judge}
+use Rattle.sched_model.specs.Pool.{domain_unit_count}
+use Rattle.cpupool.specs.Facts.{command_facts, KeepsFacts, no_subject}
+use Rattle.cpupool.specs.Verdicts.{seen_verdict}
 use Rattle.cpupool.proofs.SubjectLemmas.{flag-there, core_home-seen}
 use Rattle.cpupool.proofs.CountLemmas.{cores-seen, domains-seen, places-count, first_empty-map, last_core-seen}
 use Rattle.cpupool.proofs.NamedLemmas.{named_outline, named_size}
@@ -24,10 +24,10 @@ use Rattle.cpupool.proofs.FactLemmas.{rate-known, units-known, subject-known}
 use Rattle.cpupool.proofs.DomainLemmas.{limit_judged, credit2_judged, rtds_judged}
 use Rattle.cpupool.proofs.ListLemmas.{frame-seen, guest_judged, cores-named, elsewhere-seen}
 
-pub judge_seen : (m : Machine) (s : State) (c : Command) → KeepsFacts m s c → seen_judge (tool_of m s) (facts_of m s c) c ≡ judge m s c
-judge_seen m s (command.PoolList None) keeps = rw (places-count outline_of 0 s.pools, places-count (λ (c : FreeCore). c.stall_ends) 0 s.free) refl
+pub judge_seen : (m : Machine) (s : State) (c : Command) → KeepsFacts m s c → seen_verdict (tool_of m s) (command_facts m s c) c ≡ judged_command m s c
+judge_seen m s (command.PoolList None) keeps = rw (places-count pool_outline 0 s.pools, places-count (λ (c : FreeCore). c.stall_ends) 0 s.free) refl
 judge_seen m s (command.PoolList (Some which)) keeps = named_outline m s which _ _ (λ i pool is at. rw (cores-seen pool, domains-seen pool) refl)
-judge_seen m s (command.PoolCreate name kind) keeps = rw (first_empty-map outline_of 0 s.pools) refl
+judge_seen m s (command.PoolCreate name kind) keeps = rw (first_empty-map pool_outline 0 s.pools) refl
 judge_seen m s (command.PoolDestroy which) keeps = named_outline m s which _ _ (λ i pool is at. rw (cores-seen pool, domains-seen pool) refl)
 judge_seen m s (command.PoolRename which name) keeps = named_outline m s which _ _ (λ i pool is at. refl)
 judge_seen m s (command.CpuAdd which cpu) keeps = named_outline m s which _ _ (λ i pool is at. rw (core_home-seen m s (cpu / m.config.granularity), cores-seen pool) refl)
@@ -35,8 +35,8 @@ judge_seen m s (command.CpuRemove which cpu) keeps = named_outline m s which _ _
 judge_seen m s (command.Migrate which target) keeps = named_size m s which _ _ (λ d i pool domain is lives at inside. named_outline m s target _ _ (λ j new named there. rw (cores-seen new) refl))
 judge_seen m s (command.Credit2Dom which weight cap) keeps = named_size m s which _ _ (λ d i pool domain is lives at inside.
     let values = keeps (domain_number d) (subject-known m s which no_subject d is) i pool domain lives at inside in
-    credit2_judged m.config.granularity d i pool.scheduler.records (unit_count m.config.granularity domain) _ weight cap (units-known m s which d i pool domain is lives at inside) values.some_unit values.all_units)
-judge_seen m s (command.Credit2Pool which limit) keeps = named_outline m s which _ _ (λ i pool is at. limit_judged i pool (kind_of pool.scheduler.records) _ limit (rate-known s which i pool is at))
+    credit2_judged m.config.granularity d i pool.scheduler.records (domain_unit_count m.config.granularity domain) _ weight cap (units-known m s which d i pool domain is lives at inside) values.some_unit values.all_units)
+judge_seen m s (command.Credit2Pool which limit) keeps = named_outline m s which _ _ (λ i pool is at. limit_judged i pool (records_kind pool.scheduler.records) _ limit (rate-known s which i pool is at))
 judge_seen m s (command.RtdsDom which vcpu period budget extra) keeps = named_size m s which _ _ (λ d i pool domain is lives at inside.
     let values = keeps (domain_number d) (subject-known m s which no_subject d is) i pool domain lives at inside in
     rtds_judged m s d i pool domain _ (units-known m s which d i pool domain is lives at inside) values vcpu period budget extra)

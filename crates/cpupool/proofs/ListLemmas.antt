@@ -17,11 +17,11 @@ use Rattle.sched_model.specs.declared.plan.Plan.TheVariants as plan
 use Rattle.sched_model.specs.declared.state.Domain.{Domain}
 use Rattle.sched_model.specs.declared.state.Pool.{Pool}
 use Rattle.sched_model.specs.declared.state.State.{State}
-use Rattle.sched_model.specs.Commands.{demand, domain_of, frame_entry, frame_entries, judge_frame, has_vcpu, named_cores, elsewhere_fault}
-use Rattle.journal_core.specs.Parts.{outline_of}
+use Rattle.sched_model.specs.Commands.{demand, meant_domain, judged_frame_entry, judged_frame_entries, judge_frame, has_vcpu, named_cores, elsewhere_refusal}
+use Rattle.journal_core.specs.Parts.{pool_outline}
 use Rattle.cpupool.specs.declared.outline.DomainEntry.{DomainEntry}
-use Rattle.cpupool.specs.Tool.{tool_of, entry_of}
-use Rattle.cpupool.specs.Verdicts.{guests_in, seen_entry, seen_entries, seen_frame, seen_guest, seen_cores, seen_elsewhere}
+use Rattle.cpupool.specs.Tool.{tool_of, domain_entry}
+use Rattle.cpupool.specs.Verdicts.{guest_count, seen_entry, seen_entries, seen_frame, guest_or_refused, seen_cores, seen_elsewhere}
 use Rattle.cpupool.proofs.SubjectLemmas.{domain-seen}
 use Rattle.cpupool.proofs.CountLemmas.{cores-set}
 
@@ -40,16 +40,16 @@ by_config m e d None = Err refusal.NoDomain
 by_config m e d (Some domain) = sized m e d (length domain.guests)
 
 -- an entry of a frame
-pub entry-seen : (m : Machine) (s : State) (e : ArincEntry) → seen_entry (tool_of m s) e ≡ frame_entry m e
+pub entry-seen : (m : Machine) (s : State) (e : ArincEntry) → seen_entry (tool_of m s) e ≡ judged_frame_entry m e
 entry-seen m s e =
-    let seen : Option ℕ → Result FrameEntry Refusal = λ o. elim o [ None ↦ Err refusal.NoDomain | Some d ↦ by_size m e d (guests_in (tool_of m s) d) ] in
+    let seen : Option ℕ → Result FrameEntry Refusal = λ o. elim o [ None ↦ Err refusal.NoDomain | Some d ↦ by_size m e d (guest_count (tool_of m s) d) ] in
     let found : Option ℕ → Result FrameEntry Refusal = λ o. elim o [ None ↦ Err refusal.NoDomain | Some d ↦ by_config m e d (slice_get m.config.domains d) ] in
     ap seen (domain-seen m s e.dom)
-    ∙ elim (domain_of m e.dom) as (λ o. seen o ≡ found o) [
+    ∙ elim (meant_domain m e.dom) as (λ o. seen o ≡ found o) [
       | None ↦ refl
       | Some d ↦
-          ap (λ o. by_size m e d (option_map (λ (x : DomainEntry). x.vcpus) o)) (slice_get-map entry_of m.config.domains d)
-          ∙ elim (slice_get m.config.domains d) as (λ o. by_size m e d (option_map (λ (x : DomainEntry). x.vcpus) (option_map entry_of o)) ≡ by_config m e d o) [ None ↦ refl | Some domain ↦ refl ]
+          ap (λ o. by_size m e d (option_map (λ (x : DomainEntry). x.vcpus) o)) (slice_get-map domain_entry m.config.domains d)
+          ∙ elim (slice_get m.config.domains d) as (λ o. by_size m e d (option_map (λ (x : DomainEntry). x.vcpus) (option_map domain_entry o)) ≡ by_config m e d o) [ None ↦ refl | Some domain ↦ refl ]
     ]
 
 -- one entry before the others
@@ -57,10 +57,10 @@ abbrev joined : Result FrameEntry Refusal → Result (List FrameEntry) Refusal �
 joined r rs = elim r [ Err fault ↦ Err fault | Ok entry ↦ elim rs [ Err fault ↦ Err fault | Ok rest ↦ Ok (entry ∷ rest) ] ]
 
 -- the entries of a frame
-pub entries-seen : (m : Machine) (s : State) (entries : List ArincEntry) → seen_entries (tool_of m s) entries ≡ frame_entries m entries
+pub entries-seen : (m : Machine) (s : State) (entries : List ArincEntry) → seen_entries (tool_of m s) entries ≡ judged_frame_entries m entries
 entries-seen m s [] = refl
 entries-seen m s (e ∷ entries) =
-    ap (λ r. joined r (seen_entries (tool_of m s) entries)) (entry-seen m s e) ∙ ap (joined (frame_entry m e)) (entries-seen m s entries)
+    ap (λ r. joined r (seen_entries (tool_of m s) entries)) (entry-seen m s e) ∙ ap (joined (judged_frame_entry m e)) (entries-seen m s entries)
 
 -- the entry, if it is one, runs as long
 abbrev RunsAs : ArincEntry → Result FrameEntry Refusal → Type 0
@@ -74,9 +74,9 @@ runs_sized m e d vcpus =
       | false ↦ tt
     ]
 
-entry_runs : (m : Machine) (e : ArincEntry) → RunsAs e (frame_entry m e)
+entry_runs : (m : Machine) (e : ArincEntry) → RunsAs e (judged_frame_entry m e)
 entry_runs m e =
-    elim (domain_of m e.dom) as (λ o. RunsAs e (elim o [ None ↦ Err refusal.NoDomain | Some d ↦ by_config m e d (slice_get m.config.domains d) ])) [
+    elim (meant_domain m e.dom) as (λ o. RunsAs e (elim o [ None ↦ Err refusal.NoDomain | Some d ↦ by_config m e d (slice_get m.config.domains d) ])) [
       | None ↦ tt
       | Some d ↦ elim (slice_get m.config.domains d) as (λ o. RunsAs e (by_config m e d o)) [ None ↦ tt | Some domain ↦ runs_sized m e d (length domain.guests) ]
     ]
@@ -94,9 +94,9 @@ run_joined e entries (Ok entry) (Ok rest) one others =
     let framed = sum_by-cons (λ (x : FrameEntry). x.run.0) entry rest in
     omega (arith, typed, framed, one, others)
 
-pub entries_run : (m : Machine) (entries : List ArincEntry) → RunAs entries (frame_entries m entries)
+pub entries_run : (m : Machine) (entries : List ArincEntry) → RunAs entries (judged_frame_entries m entries)
 entries_run m [] = refl
-entries_run m (e ∷ entries) = run_joined e entries (frame_entry m e) (frame_entries m entries) (entry_runs m e) (entries_run m entries)
+entries_run m (e ∷ entries) = run_joined e entries (judged_frame_entry m e) (judged_frame_entries m entries) (entry_runs m e) (entries_run m entries)
 
 -- the plan for a frame
 pub frame-seen : (m : Machine) (s : State) (i major : ℕ) (entries : List ArincEntry) → seen_frame (tool_of m s) i major entries ≡ judge_frame m i major entries
@@ -106,11 +106,11 @@ frame-seen m s i major entries =
     let seen : Result (List FrameEntry) Refusal → Result Plan Refusal = λ r. elim r [ Err fault ↦ Err fault | Ok frame ↦ plan_of frame (sum_by (λ (e : ArincEntry). e.run) entries) ] in
     let found : Result (List FrameEntry) Refusal → Result Plan Refusal = λ r. elim r [ Err fault ↦ Err fault | Ok frame ↦ plan_of frame (sum_by (λ (e : FrameEntry). e.run.0) frame) ] in
     ap seen (entries-seen m s entries)
-    ∙ elim (frame_entries m entries) as (λ r. RunAs entries r → seen r ≡ found r) [ Err fault ↦ λ run. refl | Ok frame ↦ λ run. ap (plan_of frame) run ] (entries_run m entries)
+    ∙ elim (judged_frame_entries m entries) as (λ r. RunAs entries r → seen r ≡ found r) [ Err fault ↦ λ run. refl | Ok frame ↦ λ run. ap (plan_of frame) run ] (entries_run m entries)
 
 -- what follows a vCPU that the domain has
 pub guest_judged : (domain : Domain) (vcpu : Option ℕ) (next : Option ℕ → Result Plan Refusal)
-    → (elim (seen_guest (length domain.vcpus) vcpu) [ Err fault ↦ Err fault | Ok guest ↦ next guest ]) ≡ demand (has_vcpu domain vcpu) refusal.NoVcpu (next vcpu)
+    → (elim (guest_or_refused (length domain.vcpus) vcpu) [ Err fault ↦ Err fault | Ok guest ↦ next guest ]) ≡ demand (has_vcpu domain vcpu) refusal.NoVcpu (next vcpu)
 guest_judged domain None next = refl
 guest_judged domain (Some v) next =
     let answer : Result (Option ℕ) Refusal → Result Plan Refusal = λ r. elim r [ Err fault ↦ Err fault | Ok guest ↦ next guest ] in
@@ -122,6 +122,6 @@ cores-named m s [] = refl
 cores-named m s (e ∷ ranges) = refl
 
 -- the refusal of ranges that name no core of the pool
-pub elsewhere-seen : (m : Machine) (s : State) (pool : Pool) (ranges : List (ℕ × ℕ)) → seen_elsewhere (tool_of m s) (outline_of pool) ranges ≡ elsewhere_fault m.config pool ranges
+pub elsewhere-seen : (m : Machine) (s : State) (pool : Pool) (ranges : List (ℕ × ℕ)) → seen_elsewhere (tool_of m s) (pool_outline pool) ranges ≡ elsewhere_refusal m.config pool ranges
 elsewhere-seen m s pool [] = refl
 elsewhere-seen m s pool (e ∷ ranges) = ap (λ set. cond (bit_and (named_cores m.config (e ∷ ranges)).0 set == 0) (Some (refusal.CpuElsewhere e.0)) None) (cores-set 0 pool.resources)

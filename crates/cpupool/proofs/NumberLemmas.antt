@@ -4,7 +4,7 @@ use Rattle.std.proofs.lemmas.List.Sums.{sum_by-cons}
 use Rattle.std.specs.Prelude.{if◌then◌else◌}
 use Rattle.sched_model.specs.Places.{numbers_from}
 use Rattle.sched_model.proofs.PlaceLemmas.{numbers_from-first}
-use Rattle.cpupool.specs.Verdicts.{is_named, named_among}
+use Rattle.cpupool.specs.Verdicts.{is_core_named, named_among}
 use Rattle.std.proofs.Math.Nat.{div-lt_iff_lt-mul, div-zero, le-mul_of_pos_right, lt-div-mul-add}
 
 -- a domain has at most as many units as vCPUs
@@ -16,16 +16,16 @@ few_units g vcpus some =
     omega arith
 
 -- the set of the named cores from r up to n begins with r, where that is named
-pub named_step : (g : ℕ) (ranges : List (ℕ × ℕ)) (r n : ℕ) → r < n → named_among g ranges (numbers_from r (n - r)) ≡ (if is_named g ranges r then 2 ^ r else 0) + named_among g ranges (numbers_from (r + 1) (n - (r + 1)))
+pub named_step : (g : ℕ) (ranges : List (ℕ × ℕ)) (r n : ℕ) → r < n → named_among g ranges (numbers_from r (n - r)) ≡ (if is_core_named g ranges r then 2 ^ r else 0) + named_among g ranges (numbers_from (r + 1) (n - (r + 1)))
 named_step g ranges r n below =
     ap (named_among g ranges) (numbers_from-first r n below)
-    ∙ sum_by-cons (λ (k : ℕ). (if is_named g ranges k then 2 ^ k else 0)) r (numbers_from (r + 1) (n - (r + 1)))
+    ∙ sum_by-cons (λ (k : ℕ). (if is_core_named g ranges k then 2 ^ k else 0)) r (numbers_from (r + 1) (n - (r + 1)))
 
 -- the same where r is named, and where it is not
-pub named_in : (g : ℕ) (ranges : List (ℕ × ℕ)) (r n : ℕ) → r < n → is_named g ranges r ≡ true → named_among g ranges (numbers_from r (n - r)) ≡ 2 ^ r + named_among g ranges (numbers_from (r + 1) (n - (r + 1)))
+pub named_in : (g : ℕ) (ranges : List (ℕ × ℕ)) (r n : ℕ) → r < n → is_core_named g ranges r ≡ true → named_among g ranges (numbers_from r (n - r)) ≡ 2 ^ r + named_among g ranges (numbers_from (r + 1) (n - (r + 1)))
 named_in g ranges r n below named = named_step g ranges r n below ∙ ap (λ b. cond b (2 ^ r) 0 + named_among g ranges (numbers_from (r + 1) (n - (r + 1)))) named
 
-pub named_out : (g : ℕ) (ranges : List (ℕ × ℕ)) (r n : ℕ) → r < n → is_named g ranges r ≡ false → named_among g ranges (numbers_from r (n - r)) ≡ named_among g ranges (numbers_from (r + 1) (n - (r + 1)))
+pub named_out : (g : ℕ) (ranges : List (ℕ × ℕ)) (r n : ℕ) → r < n → is_core_named g ranges r ≡ false → named_among g ranges (numbers_from r (n - r)) ≡ named_among g ranges (numbers_from (r + 1) (n - (r + 1)))
 named_out g ranges r n below unnamed = named_step g ranges r n below ∙ ap (λ b. cond b (2 ^ r) 0 + named_among g ranges (numbers_from (r + 1) (n - (r + 1)))) unnamed ∙ zero-add _
 
 -- the unit of a vCPU is one of the domain's

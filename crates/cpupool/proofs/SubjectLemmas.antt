@@ -14,12 +14,12 @@ use Rattle.sched_model.specs.declared.state.State.{State}
 use Rattle.sched_model.specs.declared.state.Pool.{Pool}
 use Rattle.sched_model.specs.Places.{at_place, first_place}
 use Rattle.sched_model.specs.Actions as actions
-use Rattle.sched_model.specs.Commands.{pool_of, domain_of, domain_named}
+use Rattle.sched_model.specs.Commands.{meant_pool, meant_domain, named_domain_number}
 use Rattle.sched_model.proofs.PlaceLemmas.{is_some-option_map, at_place-map}
-use Rattle.journal_core.specs.Parts.{outline_of}
-use Rattle.cpupool.specs.Tool.{tool_of, entry_of, number_of_pool}
-use Rattle.cpupool.specs.Facts.{subject_of, pool_subject, domain_subject}
-use Rattle.cpupool.specs.Verdicts.{seen_pool, seen_domain, seen_subject, seen_pool_subject, seen_domain_subject, entry_named, has_core, core_home, domain_home}
+use Rattle.journal_core.specs.Parts.{pool_outline}
+use Rattle.cpupool.specs.Tool.{tool_of, domain_entry, number_of_pool}
+use Rattle.cpupool.specs.Facts.{subject_of, subject_of_pool, subject_of_domain}
+use Rattle.cpupool.specs.Verdicts.{seen_pool, seen_domain, command_subject, seen_pool_subject, seen_domain_subject, entry_named, has_outlined_core, outlined_core_home, outlined_domain_home}
 
 -- a pool is told by its number
 pub pool_told : (i : Option PoolId) (n : Option ℕ) → option_map number_of_pool i ≡ n → i ≡ option_map pool_number n
@@ -54,9 +54,9 @@ pub there-map : {X Y : Type 0} (f : X → Y) (places : List (Option X)) (n : ℕ
 there-map f places n = ap is_some (at_place-map f places n) ∙ is_some-option_map f (at_place places n)
 
 -- the domain with a name
-pub domain_named-seen : (d : ℕ) (name : List ℕ) (domains : List DomConfig) → entry_named d name (map entry_of domains) ≡ domain_named d name domains
+pub domain_named-seen : (d : ℕ) (name : List ℕ) (domains : List DomConfig) → entry_named d name (map domain_entry domains) ≡ named_domain_number d name domains
 domain_named-seen d name [] = refl
-domain_named-seen d name (domain ∷ domains) = elim (bytes_eq name domain.name) as (λ b. (elim b [ true ↦ Some d | false ↦ entry_named (suc d) name (map entry_of domains) ]) ≡ (elim b [ true ↦ Some d | false ↦ domain_named (suc d) name domains ])) [
+domain_named-seen d name (domain ∷ domains) = elim (bytes_eq name domain.name) as (λ b. (elim b [ true ↦ Some d | false ↦ entry_named (suc d) name (map domain_entry domains) ]) ≡ (elim b [ true ↦ Some d | false ↦ named_domain_number (suc d) name domains ])) [
   | true ↦ refl
   | false ↦ domain_named-seen (suc d) name domains
 ]
@@ -67,9 +67,9 @@ option_map-const f z None = refl
 option_map-const f z (Some x) = refl
 
 -- the pool that a command names
-pub pool-seen : (m : Machine) (s : State) (which : Which) → seen_pool (tool_of m s) which ≡ pool_of s which
+pub pool-seen : (m : Machine) (s : State) (which : Which) → seen_pool (tool_of m s) which ≡ meant_pool s which
 pool-seen m s (Name name) = refl
-pool-seen m s (Number i) = ap (option_map (λ o. i)) (at_place-map outline_of s.pools i) ∙ option_map-const outline_of i (at_place s.pools i)
+pool-seen m s (Number i) = ap (option_map (λ o. i)) (at_place-map pool_outline s.pools i) ∙ option_map-const pool_outline i (at_place s.pools i)
 
 -- how many domains there are
 pub length-map : {X Y : Type 0} (f : X → Y) (xs : List X) → length (map f xs) ≡ length xs
@@ -82,36 +82,36 @@ map_none f zero = refl
 map_none f (suc n) = ap (λ xs. None ∷ xs) (map_none f n)
 
 -- the domain that a command names
-pub domain-seen : (m : Machine) (s : State) (which : Which) → seen_domain (tool_of m s) which ≡ domain_of m which
+pub domain-seen : (m : Machine) (s : State) (which : Which) → seen_domain (tool_of m s) which ≡ meant_domain m which
 domain-seen m s (Name name) = domain_named-seen 0 name m.config.domains
-domain-seen m s (Number d) = ap (λ n. cond (nat_lt d n) (Some d) None) (length-map entry_of m.config.domains)
+domain-seen m s (Number d) = ap (λ n. cond (nat_lt d n) (Some d) None) (length-map domain_entry m.config.domains)
 
 -- the home of a core
-pub core_home-seen : (m : Machine) (s : State) (r : ℕ) → core_home (tool_of m s).part.pools r ≡ actions.home_of_core s r
+pub core_home-seen : (m : Machine) (s : State) (r : ℕ) → outlined_core_home (tool_of m s).part.pools r ≡ actions.home_pool_of_core s r
 core_home-seen m s r =
-    first_place-map outline_of (λ o. has_core o r) 0 s.pools
-    ∙ first_place-same (λ (pool : Pool). has_core (outline_of pool) r) (λ (pool : Pool). is_some (at_place pool.resources r)) 0 s.pools (λ pool. flag-there pool.resources r)
+    first_place-map pool_outline (λ o. has_outlined_core o r) 0 s.pools
+    ∙ first_place-same (λ (pool : Pool). has_outlined_core (pool_outline pool) r) (λ (pool : Pool). is_some (at_place pool.resources r)) 0 s.pools (λ pool. flag-there pool.resources r)
 
 -- the home of a domain
-pub domain_home-seen : (m : Machine) (s : State) (d : ℕ) → domain_home (tool_of m s).part.pools d ≡ actions.home_of_domain s d
+pub domain_home-seen : (m : Machine) (s : State) (d : ℕ) → outlined_domain_home (tool_of m s).part.pools d ≡ actions.home_pool_of_domain s d
 domain_home-seen m s d =
-    first_place-map outline_of (λ o. is_some (at_place o.domains d)) 0 s.pools
-    ∙ first_place-same (λ (pool : Pool). is_some (at_place (outline_of pool).domains d)) (λ (pool : Pool). is_some (at_place pool.domains d)) 0 s.pools (λ pool. there-map _ pool.domains d)
+    first_place-map pool_outline (λ o. is_some (at_place o.domains d)) 0 s.pools
+    ∙ first_place-same (λ (pool : Pool). is_some (at_place (pool_outline pool).domains d)) (λ (pool : Pool). is_some (at_place pool.domains d)) 0 s.pools (λ pool. there-map _ pool.domains d)
 
-pub pool_subject-seen : (m : Machine) (s : State) (which : Which) → seen_pool_subject (tool_of m s) which ≡ pool_subject s which
+pub pool_subject-seen : (m : Machine) (s : State) (which : Which) → seen_pool_subject (tool_of m s) which ≡ subject_of_pool s which
 pool_subject-seen m s which = ap (λ i. record { pool = option_map pool_number i; dom = None }) (pool-seen m s which)
 
-pub domain_subject-seen : (m : Machine) (s : State) (which : Which) (seen otherwise : Subject) → seen ≡ otherwise → seen_domain_subject (tool_of m s) which seen ≡ domain_subject m s which otherwise
+pub domain_subject-seen : (m : Machine) (s : State) (which : Which) (seen otherwise : Subject) → seen ≡ otherwise → seen_domain_subject (tool_of m s) which seen ≡ subject_of_domain m s which otherwise
 domain_subject-seen m s which seen otherwise same =
-    let found : Option ℕ → Subject = λ o. elim o [ None ↦ seen | Some d ↦ record { pool = option_map pool_number (domain_home (tool_of m s).part.pools d); dom = Some (domain_number d) } ] in
+    let found : Option ℕ → Subject = λ o. elim o [ None ↦ seen | Some d ↦ record { pool = option_map pool_number (outlined_domain_home (tool_of m s).part.pools d); dom = Some (domain_number d) } ] in
     ap found (domain-seen m s which)
-    ∙ elim (domain_of m which) as (λ o. found o ≡ (elim o [ None ↦ otherwise | Some d ↦ record { pool = option_map pool_number (actions.home_of_domain s d); dom = Some (domain_number d) } ])) [
+    ∙ elim (meant_domain m which) as (λ o. found o ≡ (elim o [ None ↦ otherwise | Some d ↦ record { pool = option_map pool_number (actions.home_pool_of_domain s d); dom = Some (domain_number d) } ])) [
       | None ↦ same
       | Some d ↦ ap (λ (home : Option ℕ). record { pool = option_map pool_number home; dom = Some (domain_number d) }) (domain_home-seen m s d)
     ]
 
 -- the subject of a command
-pub subject_seen : (m : Machine) (s : State) (c : Command) → seen_subject (tool_of m s) c ≡ subject_of m s c
+pub subject_seen : (m : Machine) (s : State) (c : Command) → command_subject (tool_of m s) c ≡ subject_of m s c
 subject_seen m s (command.PoolList None) = refl
 subject_seen m s (command.PoolList (Some which)) = pool_subject-seen m s which
 subject_seen m s (command.PoolCreate name kind) = refl

@@ -3,8 +3,8 @@ use Rattle.cpupool.specs.declared.named.NamedPool.{NamedPool}
 use Rattle.cpupool.specs.declared.named.NamedDomain.{NamedDomain}
 use Rattle.cpupool.specs.Verdicts.{SeenPool, SeenDomain}
 
-abbrev pub named_pool : NamedPool → SeenPool
-named_pool x = record { i = x.i.0; pool = x.pool.now }
+abbrev pub seen_named_pool : NamedPool → SeenPool
+seen_named_pool x = record { i = x.i.0; pool = x.pool.now }
 
-abbrev pub named_domain : NamedDomain → SeenDomain
-named_domain x = record { d = x.d.0; i = x.i.0; pool = x.pool.now; vcpus = x.vcpus }
+abbrev pub seen_named_domain : NamedDomain → SeenDomain
+seen_named_domain x = record { d = x.d.0; i = x.i.0; pool = x.pool.now; vcpus = x.vcpus }

@@ -10,15 +10,15 @@ use Rattle.sched_model.specs.declared.config.PoolParams.TheVariants as pool_para
 use Rattle.sched_model.specs.declared.config.SchedKind.{SchedKind}
 use Rattle.sched_model.specs.declared.config.SchedKind.TheVariants as kinds
 use Rattle.sched_model.specs.Places.{numbers_from}
-use Rattle.sched_model.specs.State.{has_core}
+use Rattle.sched_model.specs.State.{has_core_bit}
 use Rattle.journal_core.specs.Parts.{Outline}
 
 -- which scheduler the parameters are of
-abbrev pub kind_of_params : PoolParams → SchedKind
-kind_of_params (pool_params.Credit2 limit) = kinds.Credit2
-kind_of_params pool_params.Rtds = kinds.Rtds
-kind_of_params (pool_params.Arinc653 frame) = kinds.Arinc653
-kind_of_params pool_params.Null = kinds.Null
+abbrev pub params_kind : PoolParams → SchedKind
+params_kind (pool_params.Credit2 limit) = kinds.Credit2
+params_kind pool_params.Rtds = kinds.Rtds
+params_kind (pool_params.Arinc653 frame) = kinds.Arinc653
+params_kind pool_params.Null = kinds.Null
 
 -- a domain has at most 32 vCPUs
 abbrev pub HasFewGuests : DomConfig → Type 0
@@ -29,15 +29,15 @@ abbrev pub size_at_home : ℕ → DomConfig → Option ℕ
 size_at_home i d = (if d.home.0 == i then Some (length d.guests) else None)
 
 -- the pool i, on a machine of so many cores with these domains
-abbrev pub opened_outline : ℕ → List DomConfig → ℕ → PoolConfig → Outline
-opened_outline cores domains i pool =
-    record { kind = kind_of_params pool.params; cores = map (has_core pool.cores) (numbers_from 0 cores); domains = map (size_at_home i) domains }
+abbrev pub outline_at_opening : ℕ → List DomConfig → ℕ → PoolConfig → Outline
+outline_at_opening cores domains i pool =
+    record { kind = params_kind pool.params; cores = map (has_core_bit pool.cores) (numbers_from 0 cores); domains = map (size_at_home i) domains }
 
 -- the pools, the first of them with the number i
-abbrev pub opened_outlines : ℕ → List DomConfig → ℕ → List PoolConfig → List (Option Outline)
-opened_outlines cores domains i [] = []
-opened_outlines cores domains i (pool ∷ pools) = Some (opened_outline cores domains i pool) ∷ opened_outlines cores domains (suc i) pools
+abbrev pub outlines_at_opening : ℕ → List DomConfig → ℕ → List PoolConfig → List (Option Outline)
+outlines_at_opening cores domains i [] = []
+outlines_at_opening cores domains i (pool ∷ pools) = Some (outline_at_opening cores domains i pool) ∷ outlines_at_opening cores domains (suc i) pools
 
 -- the ends of stalls of the core r, where no pool has it
-abbrev pub opened_free : ℕ → List PoolConfig → ℕ → Option (List Moment)
-opened_free processors pools r = (if list_any (λ (pool : PoolConfig). has_core pool.cores r) pools then None else Some (replicate processors (moment 0)))
+abbrev pub free_ends_at_opening : ℕ → List PoolConfig → ℕ → Option (List Moment)
+free_ends_at_opening processors pools r = (if list_any (λ (pool : PoolConfig). has_core_bit pool.cores r) pools then None else Some (replicate processors (moment 0)))

@@ -7,7 +7,7 @@ use Rattle.sched_model.specs.declared.config.SchedKind.TheVariants as kinds
 use Rattle.sched_model.specs.declared.action.Action.TheVariants.{Stall, Xl}
 use Rattle.sched_model.specs.declared.machine.Machine.{Machine}
 use Rattle.sched_model.specs.declared.state.State.{State}
-use Rattle.sched_model.specs.Machine.{is_enabled}
+use Rattle.sched_model.specs.Machine.{is_action_enabled}
 use Rattle.sched_model.specs.Places.{at_place}
 use Rattle.journal_core.specs.Parts.{ToolPart, UnderWay, core_to, domain_to}
 use Rattle.cpupool.specs.declared.steps.ToolEvent.{ToolEvent}
@@ -17,12 +17,12 @@ use Rattle.cpupool.specs.declared.moves.Move.TheVariants as move
 use Rattle.cpupool.specs.Tool.{Tool}
 
 -- whether the next stall may come at t
-abbrev pub stall_comes : Tool → ℕ → Bool
-stall_comes tool t = elim (slice_get tool.stalls tool.part.next_stall) [ None ↦ false | Some line ↦ nat_le line.at.0 t ]
+abbrev pub is_stall_due : Tool → ℕ → Bool
+is_stall_due tool t = elim (slice_get tool.stalls tool.part.next_stall) [ None ↦ false | Some line ↦ nat_le line.at.0 t ]
 
 -- whether the next command may come at t: none does while something is on its way
-abbrev pub command_comes : Tool → ℕ → Bool
-command_comes tool t = elim (slice_get tool.commands tool.part.next_command) [ None ↦ false | Some line ↦ nat_le line.at.0 t && is_none tool.part.under_way ]
+abbrev pub is_command_due : Tool → ℕ → Bool
+is_command_due tool t = elim (slice_get tool.commands tool.part.next_command) [ None ↦ false | Some line ↦ nat_le line.at.0 t && is_none tool.part.under_way ]
 
 -- whether the first of these ends of stalls has come at t
 abbrev pub first_end_up : ℕ → Option (List Moment) → Bool
@@ -38,20 +38,20 @@ joining_ready part t (Some (core_to r (Some i))) = first_end_up t (at_place part
 joining_ready part t (Some (domain_to d i)) = false
 
 -- what the tool may do at t
-abbrev pub next_event : Tool → ℕ → Option ToolEvent
-next_event tool t =
-    (if stall_comes tool t then Some (tool_event.Stall tool.part.next_stall) else if command_comes tool t then Some (tool_event.Command tool.part.next_command) else None)
+abbrev pub next_tool_event : Tool → ℕ → Option ToolEvent
+next_tool_event tool t =
+    (if is_stall_due tool t then Some (tool_event.Stall tool.part.next_stall) else if is_command_due tool t then Some (tool_event.Command tool.part.next_command) else None)
 
 -- the stall or the command that may come at t
 abbrev pub enabled_event : Machine → State → ℕ → Option ToolEvent
 enabled_event m s t =
-    (if is_enabled m s t Stall then Some (tool_event.Stall s.next_stall) else if is_enabled m s t Xl then Some (tool_event.Command s.next_command) else None)
+    (if is_action_enabled m s t Stall then Some (tool_event.Stall s.next_stall) else if is_action_enabled m s t Xl then Some (tool_event.Command s.next_command) else None)
 
 -- the scheduler of the pool i
-abbrev pub kind_at : ToolPart → ℕ → SchedKind
-kind_at part i = elim (at_place part.pools i) [ None ↦ kinds.Null | Some o ↦ o.kind ]
+abbrev pub outlined_kind : ToolPart → ℕ → SchedKind
+outlined_kind part i = elim (at_place part.pools i) [ None ↦ kinds.Null | Some o ↦ o.kind ]
 
 -- what is on its way, as the program tells it
 abbrev pub move_of : ToolPart → UnderWay → Move
 move_of part (core_to r to) = move.Res (core_number r) (option_map pool_number to)
-move_of part (domain_to d i) = move.Dom (domain_number d) (pool_number i) (kind_at part i)
+move_of part (domain_to d i) = move.Dom (domain_number d) (pool_number i) (outlined_kind part i)

@@ -12,8 +12,8 @@ use Rattle.sched_model.specs.declared.state.FreeCore.{FreeCore}
 use Rattle.sched_model.specs.declared.state.State.{State}
 use Rattle.journal_core.specs.Parts.{ToolPart, UnderWay, core_to, domain_to, tool_of as part_of_tool}
 use Rattle.cpupool.specs.declared.outline.DomainEntry.{DomainEntry}
-use Rattle.cpupool.specs.declared.outline.Way.{Way}
-use Rattle.cpupool.specs.declared.outline.Way.TheVariants as way
+use Rattle.cpupool.specs.declared.outline.MoveUnderWay.{MoveUnderWay}
+use Rattle.cpupool.specs.declared.outline.MoveUnderWay.TheVariants as way
 
 -- what the tool knows: the processors of a core, all processors, the domains' names and how many vCPUs they have, the workload,
 -- and the tool's part of the state
@@ -26,8 +26,8 @@ pub record Tool : Type 0 where
   pub part : ToolPart
 
 -- a domain's name and how many vCPUs it has
-abbrev pub entry_of : DomConfig → DomainEntry
-entry_of d = record { name = d.name; vcpus = length d.guests }
+abbrev pub domain_entry : DomConfig → DomainEntry
+domain_entry d = record { name = d.name; vcpus = length d.guests }
 
 -- what the tool knows of a machine that stands in this state
 abbrev pub tool_of : Machine → State → Tool
@@ -35,7 +35,7 @@ tool_of m s =
     record {
       granularity = m.config.granularity;
       processors = m.config.processors;
-      domains = map entry_of m.config.domains;
+      domains = map domain_entry m.config.domains;
       stalls = m.work.stalls;
       commands = m.work.commands;
       part = part_of_tool s;
@@ -46,12 +46,12 @@ abbrev pub KnowsMachine : Machine → Tool → Type 0
 KnowsMachine m tool = (s : State) → record tool { part = part_of_tool s } ≡ tool_of m s
 
 -- how many vCPUs a domain has
-abbrev pub size_of : Domain → ℕ
-size_of d = length d.vcpus
+abbrev pub domain_size : Domain → ℕ
+domain_size d = length d.vcpus
 
 -- the ends of the stalls of a core's processors
-abbrev pub ends_of : FreeCore → List Moment
-ends_of c = c.stall_ends
+abbrev pub free_core_ends : FreeCore → List Moment
+free_core_ends c = c.stall_ends
 
 -- the number of a pool, and of a domain
 abbrev pub number_of_pool : PoolId → ℕ
@@ -61,7 +61,7 @@ abbrev pub number_of_domain : DomId → ℕ
 number_of_domain d = d.0
 
 -- what is on its way
-abbrev pub way_of : Way → UnderWay
+abbrev pub way_of : MoveUnderWay → UnderWay
 way_of (way.Core r to) = core_to r.0 (option_map number_of_pool to)
 way_of (way.Domain d to) = domain_to d.0 to.0
 

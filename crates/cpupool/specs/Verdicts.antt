@@ -26,7 +26,7 @@ use Rattle.sched_model.specs.declared.plan.Plan.{Plan}
 use Rattle.sched_model.specs.declared.plan.Plan.TheVariants as plan
 use Rattle.sched_model.specs.Places.{at_place, first_place, first_empty, numbers_from}
 use Rattle.sched_base.specs.CoreSets.{every_core}
-use Rattle.sched_model.specs.Commands.{demand, in_range, is_kind, refused_by, cpu_fault}
+use Rattle.sched_model.specs.Commands.{demand, in_range, is_same_kind, refused_by, cpu_refusal}
 use Rattle.journal_core.specs.Parts.{Outline, ToolPart}
 use Rattle.cpupool.specs.declared.outline.DomainEntry.{DomainEntry}
 use Rattle.cpupool.specs.Facts.{no_subject}
@@ -48,16 +48,16 @@ seen_domain tool (Name name) = entry_named 0 name tool.domains
 seen_domain tool (Number d) = (if nat_lt d (length tool.domains) then Some d else None)
 
 -- whether the pool has the core
-abbrev pub has_core : Outline → ℕ → Bool
-has_core o r = slice_index_or o.cores r false
+abbrev pub has_outlined_core : Outline → ℕ → Bool
+has_outlined_core o r = slice_index_or o.cores r false
 
 -- the pool that has the core
-abbrev pub core_home : List (Option Outline) → ℕ → Option ℕ
-core_home pools r = first_place 0 (λ o. has_core o r) pools
+abbrev pub outlined_core_home : List (Option Outline) → ℕ → Option ℕ
+outlined_core_home pools r = first_place 0 (λ o. has_outlined_core o r) pools
 
 -- the pool that has the domain
-abbrev pub domain_home : List (Option Outline) → ℕ → Option ℕ
-domain_home pools d = first_place 0 (λ o. is_some (at_place o.domains d)) pools
+abbrev pub outlined_domain_home : List (Option Outline) → ℕ → Option ℕ
+outlined_domain_home pools d = first_place 0 (λ o. is_some (at_place o.domains d)) pools
 
 -- a command that names this pool
 abbrev pub seen_pool_subject : Tool → Which → Subject
@@ -66,32 +66,32 @@ seen_pool_subject tool which = record { pool = option_map pool_number (seen_pool
 -- a command that names this domain, and otherwise what the subject is
 abbrev pub seen_domain_subject : Tool → Which → Subject → Subject
 seen_domain_subject tool which otherwise =
-    elim (seen_domain tool which) [ None ↦ otherwise | Some d ↦ record { pool = option_map pool_number (domain_home tool.part.pools d); dom = Some (domain_number d) } ]
+    elim (seen_domain tool which) [ None ↦ otherwise | Some d ↦ record { pool = option_map pool_number (outlined_domain_home tool.part.pools d); dom = Some (domain_number d) } ]
 
 -- the subject of a command
-abbrev pub seen_subject : Tool → Command → Subject
-seen_subject tool (command.PoolList None) = no_subject
-seen_subject tool (command.PoolList (Some which)) = seen_pool_subject tool which
-seen_subject tool (command.PoolCreate name kind) = no_subject
-seen_subject tool (command.PoolDestroy which) = seen_pool_subject tool which
-seen_subject tool (command.PoolRename which name) = seen_pool_subject tool which
-seen_subject tool (command.CpuAdd which cpu) = seen_pool_subject tool which
-seen_subject tool (command.CpuRemove which cpu) = seen_pool_subject tool which
-seen_subject tool (command.Migrate which target) = seen_domain_subject tool which (seen_pool_subject tool target)
-seen_subject tool (command.Credit2Dom which weight cap) = seen_domain_subject tool which no_subject
-seen_subject tool (command.Credit2Pool which limit) = seen_pool_subject tool which
-seen_subject tool (command.RtdsDom which vcpu period budget extra) = seen_domain_subject tool which no_subject
-seen_subject tool (command.Pause which) = seen_domain_subject tool which no_subject
-seen_subject tool (command.Unpause which) = seen_domain_subject tool which no_subject
-seen_subject tool (command.ArincSet which major entries) = seen_pool_subject tool which
-seen_subject tool (command.Pin which vcpu cpus) = seen_domain_subject tool which no_subject
+abbrev pub command_subject : Tool → Command → Subject
+command_subject tool (command.PoolList None) = no_subject
+command_subject tool (command.PoolList (Some which)) = seen_pool_subject tool which
+command_subject tool (command.PoolCreate name kind) = no_subject
+command_subject tool (command.PoolDestroy which) = seen_pool_subject tool which
+command_subject tool (command.PoolRename which name) = seen_pool_subject tool which
+command_subject tool (command.CpuAdd which cpu) = seen_pool_subject tool which
+command_subject tool (command.CpuRemove which cpu) = seen_pool_subject tool which
+command_subject tool (command.Migrate which target) = seen_domain_subject tool which (seen_pool_subject tool target)
+command_subject tool (command.Credit2Dom which weight cap) = seen_domain_subject tool which no_subject
+command_subject tool (command.Credit2Pool which limit) = seen_pool_subject tool which
+command_subject tool (command.RtdsDom which vcpu period budget extra) = seen_domain_subject tool which no_subject
+command_subject tool (command.Pause which) = seen_domain_subject tool which no_subject
+command_subject tool (command.Unpause which) = seen_domain_subject tool which no_subject
+command_subject tool (command.ArincSet which major entries) = seen_pool_subject tool which
+command_subject tool (command.Pin which vcpu cpus) = seen_domain_subject tool which no_subject
 
 -- how many cores and domains the pool has
-abbrev pub core_total : Outline → ℕ
-core_total o = count_by (λ core. core) o.cores
+abbrev pub outlined_core_count : Outline → ℕ
+outlined_core_count o = count_by (λ core. core) o.cores
 
-abbrev pub domain_total : Outline → ℕ
-domain_total o = count_by is_some o.domains
+abbrev pub outlined_domain_count : Outline → ℕ
+outlined_domain_count o = count_by is_some o.domains
 
 -- a pool that a command names: its number, and what the tool knows of it
 pub record SeenPool : Type 0 where
@@ -116,7 +116,7 @@ seen_at part d i =
 
 -- the domain that a command names
 abbrev pub seen_size : Tool → Which → Option SeenDomain
-seen_size tool which = elim (seen_domain tool which) [ None ↦ None | Some d ↦ elim (domain_home tool.part.pools d) [ None ↦ None | Some i ↦ seen_at tool.part d i ] ]
+seen_size tool which = elim (seen_domain tool which) [ None ↦ None | Some d ↦ elim (outlined_domain_home tool.part.pools d) [ None ↦ None | Some i ↦ seen_at tool.part d i ] ]
 
 -- what follows for the pool, or no such pool
 abbrev pub with_outline : Tool → Which → (ℕ → Outline → Result Plan Refusal) → Result Plan Refusal
@@ -128,7 +128,7 @@ with_size tool which next = elim (seen_size tool which) [ None ↦ Err refusal.N
 
 -- what follows where the pool i has this scheduler, or the refusal
 abbrev pub demand_scheduler : SchedKind → ℕ → Outline → Result Plan Refusal → Result Plan Refusal
-demand_scheduler kind i o next = demand (is_kind kind o.kind) (refusal.WrongSched (pool_number i) o.kind) next
+demand_scheduler kind i o next = demand (is_same_kind kind o.kind) (refusal.WrongSched (pool_number i) o.kind) next
 
 -- the name is taken by a pool that passes the test
 abbrev pub taken_name : ToolPart → List ℕ → (ℕ → Bool) → Option Refusal
@@ -137,7 +137,7 @@ taken_name part name counts = elim (first_place 0 (bytes_eq name) part.names) [ 
 abbrev pub seen_pool_list : Tool → Option Which → Result Plan Refusal
 seen_pool_list tool None = Ok (plan.PoolList None (reply.Pools (count_by is_some tool.part.pools) (count_by is_some tool.part.free * tool.granularity)))
 seen_pool_list tool (Some which) =
-    with_outline tool which (λ i o. Ok (plan.PoolList (Some (pool_number i)) (reply.Pool (pool_number i) o.kind (core_total o * tool.granularity) (domain_total o))))
+    with_outline tool which (λ i o. Ok (plan.PoolList (Some (pool_number i)) (reply.Pool (pool_number i) o.kind (outlined_core_count o * tool.granularity) (outlined_domain_count o))))
 
 abbrev pub seen_pool_create : Tool → List ℕ → Option SchedKind → Result Plan Refusal
 seen_pool_create tool name kind =
@@ -149,7 +149,7 @@ seen_pool_create tool name kind =
 abbrev pub seen_pool_destroy : Tool → Which → Result Plan Refusal
 seen_pool_destroy tool which =
     with_outline tool which (λ i o. demand (not (i == 0)) refusal.PoolZero
-    (demand (core_total o == 0 && domain_total o == 0) (refusal.PoolHolds (pool_number i) (core_total o * tool.granularity) (domain_total o))
+    (demand (outlined_core_count o == 0 && outlined_domain_count o == 0) (refusal.PoolHolds (pool_number i) (outlined_core_count o * tool.granularity) (outlined_domain_count o))
     (Ok (plan.PoolDestroy (pool_number i) reply.Done))))
 
 abbrev pub seen_pool_rename : Tool → Which → List ℕ → Result Plan Refusal
@@ -159,23 +159,23 @@ seen_pool_rename tool which name =
 abbrev pub seen_cpu_add : Tool → Which → ℕ → Result Plan Refusal
 seen_cpu_add tool which cpu =
     with_outline tool which (λ i o. demand (nat_lt cpu tool.processors) (refusal.NoCpu cpu)
-    (refused_by (option_map (λ home. refusal.CpuTaken cpu (pool_number home)) (core_home tool.part.pools (cpu / tool.granularity)))
-    (demand (not (is_kind kinds.Arinc653 o.kind && nat_lt 0 (core_total o))) (refusal.ArincOne (pool_number i))
+    (refused_by (option_map (λ home. refusal.CpuTaken cpu (pool_number home)) (outlined_core_home tool.part.pools (cpu / tool.granularity)))
+    (demand (not (is_same_kind kinds.Arinc653 o.kind && nat_lt 0 (outlined_core_count o))) (refusal.ArincOne (pool_number i))
     (Ok (plan.CpuAdd (pool_number i) (core_number (cpu / tool.granularity)) reply.Done)))))
 
 -- the least domain of the pool, where the pool has one core and a domain
-abbrev pub last_core : ℕ → Outline → Option Refusal
-last_core i o = (if core_total o == 1 then option_map (λ d. refusal.LastCpu (pool_number i) (domain_number d)) (first_place 0 (λ vcpus. true) o.domains) else None)
+abbrev pub last_core_refusal : ℕ → Outline → Option Refusal
+last_core_refusal i o = (if outlined_core_count o == 1 then option_map (λ d. refusal.LastCpu (pool_number i) (domain_number d)) (first_place 0 (λ vcpus. true) o.domains) else None)
 
 abbrev pub seen_cpu_remove : Tool → Which → ℕ → Result Plan Refusal
 seen_cpu_remove tool which cpu =
     with_outline tool which (λ i o. demand (nat_lt cpu tool.processors) (refusal.NoCpu cpu)
-    (demand (has_core o (cpu / tool.granularity)) (refusal.CpuElsewhere cpu)
-    (refused_by (last_core i o) (Ok (plan.CpuRemove (pool_number i) (core_number (cpu / tool.granularity)) reply.Done)))))
+    (demand (has_outlined_core o (cpu / tool.granularity)) (refusal.CpuElsewhere cpu)
+    (refused_by (last_core_refusal i o) (Ok (plan.CpuRemove (pool_number i) (core_number (cpu / tool.granularity)) reply.Done)))))
 
 abbrev pub seen_migrate : Tool → Which → Which → Result Plan Refusal
 seen_migrate tool which target =
-    with_size tool which (λ d i o vcpus. with_outline tool target (λ j new. demand (nat_lt 0 (core_total new)) (refusal.PoolEmpty (pool_number j))
+    with_size tool which (λ d i o vcpus. with_outline tool target (λ j new. demand (nat_lt 0 (outlined_core_count new)) (refusal.PoolEmpty (pool_number j))
     (Ok (plan.Migrate (domain_number d) (pool_number i) (pool_number j) reply.Done))))
 
 abbrev pub seen_pause : Tool → Which → Result Plan Refusal
@@ -185,28 +185,28 @@ abbrev pub seen_unpause : Tool → Which → Result Plan Refusal
 seen_unpause tool which = with_size tool which (λ d i o vcpus. Ok (plan.Unpause (domain_number d) reply.Done))
 
 -- the reply of a command that asks for weight and cap
-abbrev pub weight_reply : List Stored → Reply
-weight_reply (stored.Credit2 weight cap ∷ units) = reply.Weight weight cap
-weight_reply units = reply.Done
+abbrev pub stored_weight_reply : List Stored → Reply
+stored_weight_reply (stored.Credit2 weight cap ∷ units) = reply.Weight weight cap
+stored_weight_reply units = reply.Done
 
 -- a number that is given, if it is in the range, or its refusal
-abbrev pub given_range : Param → ℕ → ℕ → Option ℕ → Result (Option ℕ) Refusal
-given_range param low high None = Ok None
-given_range param low high (Some n) = (if in_range low high n then Ok (Some n) else Err (refusal.Range param n))
+abbrev pub ranged_or_refused : Param → ℕ → ℕ → Option ℕ → Result (Option ℕ) Refusal
+ranged_or_refused param low high None = Ok None
+ranged_or_refused param low high (Some n) = (if in_range low high n then Ok (Some n) else Err (refusal.Range param n))
 
 -- the plan for the weight and cap of the domain d, with this reply where neither is given
 abbrev pub seen_weight : ℕ → Reply → Option ℕ → Option ℕ → Result Plan Refusal
 seen_weight d answer weight cap =
-    elim (given_range param.Weight 1 65535 weight) [
+    elim (ranged_or_refused param.Weight 1 65535 weight) [
       | Err fault ↦ Err fault
-      | Ok new_weight ↦ elim (given_range param.Cap 0 6400 cap) [
+      | Ok new_weight ↦ elim (ranged_or_refused param.Cap 0 6400 cap) [
         | Err fault ↦ Err fault
         | Ok new_cap ↦ Ok (plan.Credit2Dom (domain_number d) new_weight new_cap (if is_none weight && is_none cap then answer else reply.Done))
       ]
     ]
 
 abbrev pub seen_credit2_dom : Tool → List Stored → Which → Option ℕ → Option ℕ → Result Plan Refusal
-seen_credit2_dom tool units which weight cap = with_size tool which (λ d i o vcpus. demand_scheduler kinds.Credit2 i o (seen_weight d (weight_reply units) weight cap))
+seen_credit2_dom tool units which weight cap = with_size tool which (λ d i o vcpus. demand_scheduler kinds.Credit2 i o (seen_weight d (stored_weight_reply units) weight cap))
 
 -- the plan for a rate limit of the pool i, or the limit that it has
 abbrev pub seen_limit : ℕ → ℕ → Option ℕ → Result Plan Refusal
@@ -218,35 +218,35 @@ abbrev pub seen_credit2_pool : Tool → ℕ → Which → Option ℕ → Result 
 seen_credit2_pool tool rate which limit = with_outline tool which (λ i o. demand_scheduler kinds.Credit2 i o (seen_limit i rate limit))
 
 -- the first unit whose RTDS parameters the command would leave out of range; they are in microseconds
-abbrev pub stored_fault : Option ℕ → Option ℕ → List Stored → Option Refusal
-stored_fault period budget (stored.Rtds set_period set_budget extra ∷ units) =
+abbrev pub stored_refusal : Option ℕ → Option ℕ → List Stored → Option Refusal
+stored_refusal period budget (stored.Rtds set_period set_budget extra ∷ units) =
     let left_period = unwrap_or period (set_period.0 / 1000) in
     let left_budget = unwrap_or budget (set_budget.0 / 1000) in
     elim (in_range 10 1000000000 left_period) [
       | false ↦ Some (refusal.Range param.Period left_period)
       | true ↦ elim (in_range 10 left_period left_budget) [
         | false ↦ Some (refusal.Range param.Budget left_budget)
-        | true ↦ stored_fault period budget units
+        | true ↦ stored_refusal period budget units
       ]
     ]
-stored_fault period budget units = None
+stored_refusal period budget units = None
 
 -- the reply of a command that asks for the RTDS parameters, in microseconds
-abbrev pub rtds_reply : List Stored → Reply
-rtds_reply (stored.Rtds period budget extra ∷ units) = reply.Rtds (period.0 / 1000) (budget.0 / 1000) extra
-rtds_reply units = reply.Done
+abbrev pub stored_rtds_reply : List Stored → Reply
+stored_rtds_reply (stored.Rtds period budget extra ∷ units) = reply.Rtds (period.0 / 1000) (budget.0 / 1000) extra
+stored_rtds_reply units = reply.Done
 
 -- the plan for the units of the domain from first on, whose set values are these
 abbrev pub seen_rtds : ℕ → ℕ → ℕ → List Stored → Option ℕ → Option ℕ → Option Bool → Result Plan Refusal
 seen_rtds d first count units period budget extra =
-    refused_by (stored_fault period budget units)
+    refused_by (stored_refusal period budget units)
     (Ok (plan.RtdsDom (domain_number d) first count (option_map (λ us. span (us * 1000)) period) (option_map (λ us. span (us * 1000)) budget) extra
-    (if is_none period && is_none budget && is_none extra then rtds_reply units else reply.Done)))
+    (if is_none period && is_none budget && is_none extra then stored_rtds_reply units else reply.Done)))
 
 -- the vCPU that is named, if the domain with so many has it, or the refusal
-abbrev pub seen_guest : ℕ → Option ℕ → Result (Option ℕ) Refusal
-seen_guest vcpus None = Ok None
-seen_guest vcpus (Some v) = (if nat_lt v vcpus then Ok (Some v) else Err refusal.NoVcpu)
+abbrev pub guest_or_refused : ℕ → Option ℕ → Result (Option ℕ) Refusal
+guest_or_refused vcpus None = Ok None
+guest_or_refused vcpus (Some v) = (if nat_lt v vcpus then Ok (Some v) else Err refusal.NoVcpu)
 
 -- the plan for the unit of the vCPU, or for all units of a domain with so many vCPUs
 abbrev pub seen_rtds_units : Tool → ℕ → ℕ → Option ℕ → List Stored → Option ℕ → Option ℕ → Option Bool → Result Plan Refusal
@@ -256,22 +256,22 @@ seen_rtds_units tool d vcpus (Some v) units period budget extra = seen_rtds d (v
 -- the same where the vCPU is one of the domain
 abbrev pub seen_rtds_guest : Tool → ℕ → ℕ → List Stored → Option ℕ → Option ℕ → Option ℕ → Option Bool → Result Plan Refusal
 seen_rtds_guest tool d vcpus units vcpu period budget extra =
-    elim (seen_guest vcpus vcpu) [ Err fault ↦ Err fault | Ok guest ↦ seen_rtds_units tool d vcpus guest units period budget extra ]
+    elim (guest_or_refused vcpus vcpu) [ Err fault ↦ Err fault | Ok guest ↦ seen_rtds_units tool d vcpus guest units period budget extra ]
 
 abbrev pub seen_rtds_dom : Tool → List Stored → Which → Option ℕ → Option ℕ → Option ℕ → Option Bool → Result Plan Refusal
 seen_rtds_dom tool units which vcpu period budget extra =
     with_size tool which (λ d i o vcpus. demand_scheduler kinds.Rtds i o (seen_rtds_guest tool d vcpus units vcpu period budget extra))
 
 -- how many vCPUs the domain d of the machine has
-abbrev pub guests_in : Tool → ℕ → Option ℕ
-guests_in tool d = option_map (λ (domain : DomainEntry). domain.vcpus) (slice_get tool.domains d)
+abbrev pub guest_count : Tool → ℕ → Option ℕ
+guest_count tool d = option_map (λ (domain : DomainEntry). domain.vcpus) (slice_get tool.domains d)
 
 -- the entry of a frame, or why it is refused
 abbrev pub seen_entry : Tool → ArincEntry → Result FrameEntry Refusal
 seen_entry tool e =
     elim (seen_domain tool e.dom) [
       | None ↦ Err refusal.NoDomain
-      | Some d ↦ elim (guests_in tool d) [
+      | Some d ↦ elim (guest_count tool d) [
         | None ↦ Err refusal.NoDomain
         | Some vcpus ↦ demand (nat_lt (e.unit * tool.granularity) vcpus) refusal.NoVcpu
             (demand (nat_le 1 e.run) (refusal.Range param.Run e.run) (Ok (record { dom = domain_number d; unit = e.unit; run = span e.run })))
@@ -308,12 +308,12 @@ seen_arinc_set tool which major entries =
     (demand (in_range 1 most_span major) (refusal.Range param.Major major) (seen_frame tool i major entries)))
 
 -- whether one of the ranges has a processor of the core r
-abbrev pub is_named : ℕ → List (ℕ × ℕ) → ℕ → Bool
-is_named g ranges r = list_any (λ (range : ℕ × ℕ). nat_le range.0 (r * g + g - 1) && nat_le (r * g) range.1) ranges
+abbrev pub is_core_named : ℕ → List (ℕ × ℕ) → ℕ → Bool
+is_core_named g ranges r = list_any (λ (range : ℕ × ℕ). nat_le range.0 (r * g + g - 1) && nat_le (r * g) range.1) ranges
 
 -- the set of those of the cores that have a processor in one of the ranges
 abbrev pub named_among : ℕ → List (ℕ × ℕ) → List ℕ → ℕ
-named_among g ranges cores = sum_by (λ r. (if is_named g ranges r then 2 ^ r else 0)) cores
+named_among g ranges cores = sum_by (λ r. (if is_core_named g ranges r then 2 ^ r else 0)) cores
 
 -- the set of the cores that have a processor in one of the ranges; without a range, all
 abbrev pub seen_cores : Tool → List (ℕ × ℕ) → Cores
@@ -332,25 +332,25 @@ seen_elsewhere tool o (e ∷ ranges) = (if bit_and (seen_cores tool (e ∷ range
 
 abbrev pub seen_pin : Tool → Which → Option ℕ → List (ℕ × ℕ) → Result Plan Refusal
 seen_pin tool which vcpu cpus =
-    with_size tool which (λ d i o vcpus. elim (seen_guest vcpus vcpu) [
+    with_size tool which (λ d i o vcpus. elim (guest_or_refused vcpus vcpu) [
       | Err fault ↦ Err fault
-      | Ok guest ↦ refused_by (cpu_fault tool.processors cpus) (refused_by (seen_elsewhere tool o cpus)
+      | Ok guest ↦ refused_by (cpu_refusal tool.processors cpus) (refused_by (seen_elsewhere tool o cpus)
           (Ok (plan.Pin (domain_number d) (option_map (λ v. v / tool.granularity) guest) (seen_cores tool cpus) reply.Done)))
     ])
 
 -- the answer to a command
-abbrev pub seen_judge : Tool → Facts → Command → Result Plan Refusal
-seen_judge tool facts (command.PoolList pool) = seen_pool_list tool pool
-seen_judge tool facts (command.PoolCreate name kind) = seen_pool_create tool name kind
-seen_judge tool facts (command.PoolDestroy which) = seen_pool_destroy tool which
-seen_judge tool facts (command.PoolRename which name) = seen_pool_rename tool which name
-seen_judge tool facts (command.CpuAdd which cpu) = seen_cpu_add tool which cpu
-seen_judge tool facts (command.CpuRemove which cpu) = seen_cpu_remove tool which cpu
-seen_judge tool facts (command.Migrate which target) = seen_migrate tool which target
-seen_judge tool facts (command.Credit2Dom which weight cap) = seen_credit2_dom tool facts.units which weight cap
-seen_judge tool facts (command.Credit2Pool which limit) = seen_credit2_pool tool facts.rate which limit
-seen_judge tool facts (command.RtdsDom which vcpu period budget extra) = seen_rtds_dom tool facts.units which vcpu period budget extra
-seen_judge tool facts (command.Pause which) = seen_pause tool which
-seen_judge tool facts (command.Unpause which) = seen_unpause tool which
-seen_judge tool facts (command.ArincSet which major entries) = seen_arinc_set tool which major entries
-seen_judge tool facts (command.Pin which vcpu cpus) = seen_pin tool which vcpu cpus
+abbrev pub seen_verdict : Tool → Facts → Command → Result Plan Refusal
+seen_verdict tool facts (command.PoolList pool) = seen_pool_list tool pool
+seen_verdict tool facts (command.PoolCreate name kind) = seen_pool_create tool name kind
+seen_verdict tool facts (command.PoolDestroy which) = seen_pool_destroy tool which
+seen_verdict tool facts (command.PoolRename which name) = seen_pool_rename tool which name
+seen_verdict tool facts (command.CpuAdd which cpu) = seen_cpu_add tool which cpu
+seen_verdict tool facts (command.CpuRemove which cpu) = seen_cpu_remove tool which cpu
+seen_verdict tool facts (command.Migrate which target) = seen_migrate tool which target
+seen_verdict tool facts (command.Credit2Dom which weight cap) = seen_credit2_dom tool facts.units which weight cap
+seen_verdict tool facts (command.Credit2Pool which limit) = seen_credit2_pool tool facts.rate which limit
+seen_verdict tool facts (command.RtdsDom which vcpu period budget extra) = seen_rtds_dom tool facts.units which vcpu period budget extra
+seen_verdict tool facts (command.Pause which) = seen_pause tool which
+seen_verdict tool facts (command.Unpause which) = seen_unpause tool which
+seen_verdict tool facts (command.ArincSet which major entries) = seen_arinc_set tool which major entries
+seen_verdict tool facts (command.Pin which vcpu cpus) = seen_pin tool which vcpu cpus

@@ -2,7 +2,7 @@
 
 ghost use Rattle.std.specs.Prelude.{◌≡◌, ◌≤◌, ◌+◌, false, Some, None, length, replicate, slice_set};
 
-use crate::outline::{CoreFlags, DomainSizes, Outline, Outlines, PoolNames, Way};
+use crate::outline::{CoreFlags, DomainSizes, MoveUnderWay, Outline, Outlines, PoolNames};
 use crate::pools::{has_core, size_in};
 use crate::tool::ToolState;
 use sched_base::{DomId, Name, PoolId, ResId};
@@ -62,17 +62,17 @@ impl ToolState {
     ghost use Rattle.sched_model.specs.declared.machine.Machine.{Machine};
     ghost use Rattle.sched_model.specs.declared.state.State.{State};
     ghost use Rattle.sched_model.specs.declared.work.CommandLine.{CommandLine as Line};
-    ghost use Rattle.sched_model.specs.Machine.{verdict, after_command};
+    ghost use Rattle.sched_model.specs.Machine.{line_verdict, after_command};
     ghost use Rattle.sched_model.specs.Places.{at_place};
     ghost use Rattle.cpupool.specs.Tool.{tool_of};
-    ghost use Rattle.cpupool.specs.ToolAdvance.{empty_outline as empty_outline_spec, has_core_at as has_core_at_spec, has_domain_at as has_domain_at_spec, after_advance};
+    ghost use Rattle.cpupool.specs.ToolAdvance.{fresh_outline, has_outlined_core_at, has_outlined_domain_at, after_advance};
 
     /// The next command is accepted with this plan: it is over, and what it does to the tool's part is done.
     pub fn advance(&mut self, p: &Plan)
         requires left { self.old.part.next_command < length self.old.commands }
         requires idle { self.old.part.under_way ≡ None }
         ensures { (m : Machine) → (s : State) → (t : ℕ) → (line : Line) → tool_of m s ≡ self.old
-            → verdict m s line ≡ Ok p.now
+            → line_verdict m s line ≡ Ok p.now
             → self.new ≡ tool_of m (after_command m t line s) }
     {
         self.carry_out(p);
@@ -104,7 +104,7 @@ impl ToolState {
             }
             Plan::CpuAdd { pool, core, .. } => {
                 if self.has_free(*core) {
-                    self.under_way = Some(Way::Core {
+                    self.under_way = Some(MoveUnderWay::Core {
                         r: *core,
                         to: Some(*pool),
                     });
@@ -112,12 +112,12 @@ impl ToolState {
             }
             Plan::CpuRemove { pool, core, .. } => {
                 if self.has_core_at(*pool, *core) {
-                    self.under_way = Some(Way::Core { r: *core, to: None });
+                    self.under_way = Some(MoveUnderWay::Core { r: *core, to: None });
                 }
             }
             Plan::Migrate { dom, from, to, .. } => {
                 if from.0 != to.0 && self.has_domain_at(*from, *dom) {
-                    self.under_way = Some(Way::Domain { d: *dom, to: *to });
+                    self.under_way = Some(MoveUnderWay::Domain { d: *dom, to: *to });
                 }
             }
             _ => {}
@@ -127,7 +127,7 @@ impl ToolState {
 
     /// A pool without cores and domains.
     fn empty_outline(&self, kind: SchedKind) -> Outline
-        ensures { result ≡ empty_outline_spec self.now kind }
+        ensures { result ≡ fresh_outline self.now kind }
     {
         Outline {
             kind,
@@ -145,7 +145,7 @@ impl ToolState {
 
     /// Whether the pool i has the core r.
     fn has_core_at(&self, i: PoolId, r: ResId) -> bool
-        ensures { result ≡ has_core_at_spec self.now.part i.0 r.0 }
+        ensures { result ≡ has_outlined_core_at self.now.part i.0 r.0 }
     {
         match item_at(self.pools.as_slice(), i.0 as usize) {
             None => false,
@@ -155,7 +155,7 @@ impl ToolState {
 
     /// Whether the pool i has the domain d.
     fn has_domain_at(&self, i: PoolId, d: DomId) -> bool
-        ensures { result ≡ has_domain_at_spec self.now.part i.0 d.0 }
+        ensures { result ≡ has_outlined_domain_at self.now.part i.0 d.0 }
     {
         match item_at(self.pools.as_slice(), i.0 as usize) {
             None => false,

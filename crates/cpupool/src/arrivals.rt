@@ -2,10 +2,10 @@
 
 ghost use Rattle.std.specs.Prelude.{◌≡◌, option_map, slice_set};
 ghost use Rattle.sched_model.specs.Places.{change_at};
-ghost use Rattle.cpupool.specs.ToolArrival.{with_core, with_domain as with_domain_spec, without_domain as without_domain_spec, size_at as size_at_spec, handed_over, core_freed, core_arrived, domain_arrived, pools_after};
+ghost use Rattle.cpupool.specs.ToolArrival.{with_core, outline_with_domain, outline_without_domain, outlined_size, handed_over, core_freed, core_arrived, domain_arrived, pools_after};
 ghost use Rattle.cpupool.specs.Tool.{number_of_pool, way_of};
 
-use crate::outline::{CoreFlags, DomainSizes, Outlines, Way};
+use crate::outline::{CoreFlags, DomainSizes, MoveUnderWay, Outlines};
 use crate::pools::{core_home, domain_home, size_in};
 use crate::tool::ToolState;
 use sched_base::{DomId, PoolId, ResId};
@@ -46,7 +46,7 @@ fn set_core(pools: &mut Outlines, i: PoolId, r: ResId, there: bool)
 /// The pool i has the domain d, with so many vCPUs, from now on.
 #[tactic(auto, using(crate::proofs::PlaceLemmas::set_past))]
 fn add_domain(pools: &mut Outlines, i: PoolId, d: DomId, vcpus: u8)
-    ensures { pools.new ≡ change_at i.0 (with_domain_spec d.0 vcpus) pools.old }
+    ensures { pools.new ≡ change_at i.0 (outline_with_domain d.0 vcpus) pools.old }
 {
     if let Some(place) = pools.get_mut(i.0 as usize)
         && let Some(pool) = place
@@ -58,7 +58,7 @@ fn add_domain(pools: &mut Outlines, i: PoolId, d: DomId, vcpus: u8)
 /// The pool i has the domain d no more.
 #[tactic(auto, using(crate::proofs::PlaceLemmas::set_past))]
 fn remove_domain(pools: &mut Outlines, i: PoolId, d: DomId)
-    ensures { pools.new ≡ change_at i.0 (without_domain_spec d.0) pools.old }
+    ensures { pools.new ≡ change_at i.0 (outline_without_domain d.0) pools.old }
 {
     if let Some(place) = pools.get_mut(i.0 as usize)
         && let Some(pool) = place
@@ -69,7 +69,7 @@ fn remove_domain(pools: &mut Outlines, i: PoolId, d: DomId)
 
 /// How many vCPUs the domain d has, where the pool i has it.
 fn size_at(pools: &Outlines, i: PoolId, d: DomId) -> Option<u8>
-    ensures { result ≡ size_at_spec pools.now i.0 d.0 }
+    ensures { result ≡ outlined_size pools.now i.0 d.0 }
 {
     match item_at(pools.as_slice(), i.0 as usize) {
         None => None,
@@ -116,12 +116,12 @@ fn arrive_domain(pools: &mut Outlines, d: DomId, j: PoolId)
 }
 
 /// What was on its way is there.
-fn arrive(pools: &mut Outlines, way: Way)
+fn arrive(pools: &mut Outlines, way: MoveUnderWay)
     ensures { pools.new ≡ pools_after pools.old (way_of way) }
 {
     match way {
-        Way::Core { r, to } => arrive_core(pools, r, to),
-        Way::Domain { d, to } => arrive_domain(pools, d, to),
+        MoveUnderWay::Core { r, to } => arrive_core(pools, r, to),
+        MoveUnderWay::Domain { d, to } => arrive_domain(pools, d, to),
     }
 }
 

@@ -2,9 +2,9 @@
 
 ghost use Rattle.std.specs.Prelude.{◌≡◌, ◌^◌, ◌<◌};
 ghost use Rattle.sched_model.specs.Places.{at_place};
-ghost use Rattle.cpupool.specs.Dues.{sooner_moment as sooner_spec, later_than as later_than_spec, first_end as first_end_spec};
+ghost use Rattle.cpupool.specs.Dues.{sooner_of, moment_past, first_free_end};
 
-use crate::outline::Way;
+use crate::outline::MoveUnderWay;
 use crate::tool::ToolState;
 use sched_base::{Moment, ResId};
 use sched_model::facts::StallEnds;
@@ -12,7 +12,7 @@ use sched_model::places::item_at;
 
 /// The sooner of the moments that are there.
 fn sooner(a: Option<Moment>, b: Option<Moment>) -> Option<Moment>
-    ensures { result ≡ sooner_spec a b }
+    ensures { result ≡ sooner_of a b }
 {
     match (a, b) {
         (None, b) => b,
@@ -24,7 +24,7 @@ fn sooner(a: Option<Moment>, b: Option<Moment>) -> Option<Moment>
 /// The moment, or the next after t where that is later.
 fn later_than(t: Moment, at: Option<Moment>) -> Option<Moment>
     requires { t.0 < 2 ^ 63 }
-    ensures { result ≡ later_than_spec t.0 at }
+    ensures { result ≡ moment_past t.0 at }
 {
     match at {
         None => None,
@@ -34,7 +34,7 @@ fn later_than(t: Moment, at: Option<Moment>) -> Option<Moment>
 
 /// The end of the stall of the first processor of the core r, where no pool has that.
 fn first_end(free: &[Option<StallEnds>], r: ResId) -> Option<Moment>
-    ensures { result ≡ first_end_spec (at_place free.now r.0) }
+    ensures { result ≡ first_free_end (at_place free.now r.0) }
 {
     match item_at(free, r.0 as usize) {
         None => None,
@@ -51,7 +51,7 @@ impl ToolState {
     ghost use Rattle.sched_model.specs.declared.state.State.{State};
     ghost use Rattle.cpupool.specs.Tool.{tool_of};
     ghost use Rattle.journal_core.specs.ToolActions.{tool_may_act, IsLeastLater};
-    ghost use Rattle.cpupool.specs.Dues.{is_anything_due, stall_at as stall_at_spec, command_at as command_at_spec, joining_at as joining_at_spec, soonest_moment, later_than as later_than_spec};
+    ghost use Rattle.cpupool.specs.Dues.{is_anything_due, stall_moment, command_moment, joining_moment, soonest_moment, moment_past};
 
     /// The least moment after t at which a stall or a command may come, or a core of no pool may join one; `None` where
     /// none of them may at any later moment.
@@ -67,7 +67,7 @@ impl ToolState {
     /// The soonest of the three moments, or the next after t where that is later.
     fn soonest_after(&self, t: Moment) -> Option<Moment>
         requires { t.0 < 2 ^ 63 }
-        ensures { result ≡ later_than_spec t.0 (soonest_moment self.now) }
+        ensures { result ≡ moment_past t.0 (soonest_moment self.now) }
     {
         let others = sooner(self.command_at(), self.joining_at());
         later_than(t, sooner(self.stall_at(), others))
@@ -75,7 +75,7 @@ impl ToolState {
 
     /// The moment of the next stall.
     fn stall_at(&self) -> Option<Moment>
-        ensures { result ≡ stall_at_spec self.now }
+        ensures { result ≡ stall_moment self.now }
     {
         match self.stalls.as_slice().get(self.next_stall as usize) {
             None => None,
@@ -85,7 +85,7 @@ impl ToolState {
 
     /// The moment of the next command, while nothing is on its way.
     fn command_at(&self) -> Option<Moment>
-        ensures { result ≡ command_at_spec self.now }
+        ensures { result ≡ command_moment self.now }
     {
         if self.under_way.is_some() {
             return None;
@@ -98,10 +98,10 @@ impl ToolState {
 
     /// The moment at which the core of no pool that is to join one may do so.
     fn joining_at(&self) -> Option<Moment>
-        ensures { result ≡ joining_at_spec self.now.part self.now.part.under_way }
+        ensures { result ≡ joining_moment self.now.part self.now.part.under_way }
     {
         match self.under_way {
-            Some(Way::Core { r, to: Some(_) }) => first_end(self.free.as_slice(), r),
+            Some(MoveUnderWay::Core { r, to: Some(_) }) => first_end(self.free.as_slice(), r),
             _ => None,
         }
     }

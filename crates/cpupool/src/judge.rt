@@ -1,7 +1,7 @@
 //! Commands, judged.
 
 ghost use Rattle.std.specs.Prelude.{◌≡◌};
-ghost use Rattle.sched_model.specs.Commands.{reply_of as reply_of_spec};
+ghost use Rattle.sched_model.specs.Commands.{plan_reply};
 
 use crate::tool::ToolState;
 use sched_model::command::Command;
@@ -11,7 +11,7 @@ use sched_model::plan::Plan;
 
 /// The answer to an accepted command.
 pub fn reply_of(plan: &Plan) -> Reply
-    ensures { result ≡ reply_of_spec plan.now }
+    ensures { result ≡ plan_reply plan.now }
 {
     match plan {
         Plan::PoolList { reply, .. } => *reply,
@@ -36,10 +36,10 @@ impl ToolState {
     ghost use Rattle.sched_model.specs.declared.machine.Machine.{Machine};
     ghost use Rattle.sched_model.specs.declared.state.State.{State};
     ghost use Rattle.sched_model.specs.CheckedMachine.{IsCheckedCommand};
-    ghost use Rattle.sched_model.specs.Commands.{judge as judge_spec};
+    ghost use Rattle.sched_model.specs.Commands.{judged_command};
     ghost use Rattle.cpupool.specs.Tool.{tool_of};
-    ghost use Rattle.cpupool.specs.Facts.{facts_of, KeepsFacts};
-    ghost use Rattle.cpupool.specs.Verdicts.{seen_judge as seen_judge_spec};
+    ghost use Rattle.cpupool.specs.Facts.{command_facts, KeepsFacts};
+    ghost use Rattle.cpupool.specs.Verdicts.{seen_verdict};
 
     /// What the command will do, or why it is refused: the first check that fails.
     ///
@@ -48,8 +48,8 @@ impl ToolState {
     pub fn judge(&self, c: &Command, facts: &Facts) -> Result<Plan, Refusal>
         requires { IsCheckedCommand c.now }
         ensures { (m : Machine) → (s : State) → tool_of m s ≡ self.now
-            → facts_of m s c.now ≡ facts.now → KeepsFacts m s c.now
-            → result ≡ judge_spec m s c.now }
+            → command_facts m s c.now ≡ facts.now → KeepsFacts m s c.now
+            → result ≡ judged_command m s c.now }
     {
         self.seen_judge(c, facts)
     }
@@ -57,7 +57,7 @@ impl ToolState {
     /// The answer to the command.
     fn seen_judge(&self, c: &Command, facts: &Facts) -> Result<Plan, Refusal>
         requires { IsCheckedCommand c.now }
-        ensures { result ≡ seen_judge_spec self.now facts.now c.now }
+        ensures { result ≡ seen_verdict self.now facts.now c.now }
     {
         let units = facts.units.as_slice();
         match c {

@@ -3,7 +3,7 @@
 ghost use Rattle.std.specs.Prelude.{◌≡◌, ◌+◌, ◌-◌, ◌/◌, ◌*◌, ◌^◌, ◌<◌, ◌≤◌, option_map, take, drop};
 ghost use Rattle.sched_base.specs.Numbers.{span};
 ghost use Rattle.sched_model.specs.CheckedMachine.{IsGivenNumber};
-ghost use Rattle.cpupool.specs.Verdicts.{weight_reply as weight_reply_spec, given_range as given_range_spec, stored_fault as stored_fault_spec, rtds_reply as rtds_reply_spec, seen_guest as seen_guest_spec, seen_rtds};
+ghost use Rattle.cpupool.specs.Verdicts.{stored_weight_reply, ranged_or_refused, stored_refusal, stored_rtds_reply, guest_or_refused, seen_rtds};
 
 use crate::pools::{core_total, kind_of};
 use crate::tool::ToolState;
@@ -17,7 +17,7 @@ use sched_model::plan::Plan;
 /// A number that is given, if it is in the range from low to high.
 fn given_range(param: Param, low: u64, high: u64, n: Option<u64>) -> Result<Option<u32>, Refusal>
     requires { high < 2 ^ 32 }
-    ensures { result ≡ given_range_spec param low high n }
+    ensures { result ≡ ranged_or_refused param low high n }
 {
     match n {
         None => Ok(None),
@@ -33,7 +33,7 @@ fn given_range(param: Param, low: u64, high: u64, n: Option<u64>) -> Result<Opti
 
 /// The reply of a command that asks for weight and cap.
 fn weight_reply(units: &[Stored]) -> Reply
-    ensures { result ≡ weight_reply_spec units.now }
+    ensures { result ≡ stored_weight_reply units.now }
 {
     match units {
         [Stored::Credit2 { weight, cap }, ..] => Reply::Weight {
@@ -46,7 +46,7 @@ fn weight_reply(units: &[Stored]) -> Reply
 
 /// The reply of a command that asks for the RTDS parameters, in microseconds.
 fn rtds_reply(units: &[Stored]) -> Reply
-    ensures { result ≡ rtds_reply_spec units.now }
+    ensures { result ≡ stored_rtds_reply units.now }
 {
     match units {
         [
@@ -68,7 +68,7 @@ fn rtds_reply(units: &[Stored]) -> Reply
 /// Why the units may not have the RTDS parameters, given in microseconds: the first one that the command would leave with
 /// a period or a budget out of its range.
 fn stored_fault(period: Option<u64>, budget: Option<u64>, units: &[Stored]) -> Option<Refusal>
-    ensures { result ≡ stored_fault_spec period budget units.now }
+    ensures { result ≡ stored_refusal period budget units.now }
 {
     match units {
         [
@@ -101,7 +101,7 @@ fn stored_fault(period: Option<u64>, budget: Option<u64>, units: &[Stored]) -> O
 
 /// The vCPU that is named, if the domain with so many has it.
 pub(crate) fn guest_of(vcpus: u8, vcpu: Option<u64>) -> Result<Option<u8>, Refusal>
-    ensures { result ≡ seen_guest_spec vcpus vcpu }
+    ensures { result ≡ guest_or_refused vcpus vcpu }
 {
     match vcpu {
         None => Ok(None),

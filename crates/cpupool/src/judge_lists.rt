@@ -4,9 +4,9 @@ ghost use Rattle.std.specs.Prelude.{◌≡◌, ◌*◌, ◌^◌, ◌≤◌, leng
 ghost use Rattle.std.specs.List.{All};
 ghost use Rattle.sched_model.specs.declared.command.ArincEntry.{ArincEntry as EntryRecord};
 ghost use Rattle.sched_model.specs.CheckedMachine.{IsCheckedEntry};
-ghost use Rattle.sched_model.specs.Commands.{cpu_fault as cpu_fault_spec};
+ghost use Rattle.sched_model.specs.Commands.{cpu_refusal};
 ghost use Rattle.sched_model.specs.Places.{numbers_from};
-ghost use Rattle.cpupool.specs.Verdicts.{is_named as is_named_spec, named_among};
+ghost use Rattle.cpupool.specs.Verdicts.{is_core_named, named_among};
 
 use crate::judge_domains::guest_of;
 use crate::outline::Outline;
@@ -35,7 +35,7 @@ fn run_total(entries: &[ArincEntry]) -> u64
 
 /// Why the ranges may not be taken: one of them goes past the last processor.
 fn cpu_fault(processors: u8, ranges: &[(u64, u64)]) -> Option<Refusal>
-    ensures { result ≡ cpu_fault_spec processors ranges.now }
+    ensures { result ≡ cpu_refusal processors ranges.now }
 {
     match ranges {
         [] => None,
@@ -54,7 +54,7 @@ fn cpu_fault(processors: u8, ranges: &[(u64, u64)]) -> Option<Refusal>
 /// Whether one of the ranges has a processor of the core r, where a core has g processors.
 fn is_named(g: u8, ranges: &[(u64, u64)], r: ResId) -> bool
     requires { 1 ≤ g }
-    ensures { result ≡ is_named_spec g ranges.now r.0 }
+    ensures { result ≡ is_core_named g ranges.now r.0 }
 {
     let first = r.0 as u64 * g as u64;
     let last = first + g as u64 - 1;
@@ -83,11 +83,11 @@ impl ToolState {
     ghost use Rattle.std.specs.Prelude.{◌≡◌, ◌+◌, ◌/◌, ◌≤◌, length, option_map};
     ghost use Rattle.std.specs.List.{All};
     ghost use Rattle.sched_model.specs.CheckedMachine.{IsCheckedEntry};
-    ghost use Rattle.cpupool.specs.Verdicts.{guests_in as guests_in_spec, seen_entry, seen_entries, entries_behind, seen_frame, seen_arinc_set, seen_cores, seen_elsewhere, seen_pin};
+    ghost use Rattle.cpupool.specs.Verdicts.{guest_count, seen_entry, seen_entries, entries_behind, seen_frame, seen_arinc_set, seen_cores, seen_elsewhere, seen_pin};
 
     /// How many vCPUs the domain d of the machine has.
     fn guests_in(&self, d: DomId) -> Option<u8>
-        ensures { result ≡ guests_in_spec self.now d.0 }
+        ensures { result ≡ guest_count self.now d.0 }
     {
         match self.domains.as_slice().get(d.0 as usize) {
             None => None,

@@ -1,7 +1,7 @@
 //! The commands on pools and their cores, judged. The first check that fails gives the refusal.
 
 ghost use Rattle.std.specs.Prelude.{◌≡◌};
-ghost use Rattle.cpupool.specs.Verdicts.{last_core as last_core_spec};
+ghost use Rattle.cpupool.specs.Verdicts.{last_core_refusal};
 
 use crate::outline::Outline;
 use crate::pools::{
@@ -17,7 +17,7 @@ use sched_model::plan::Plan;
 
 /// Why a core may not be taken from the pool i: it is the pool's only one, and the pool has a domain.
 fn last_core(i: PoolId, pool: &Outline) -> Option<Refusal>
-    ensures { result ≡ last_core_spec i.0 pool.now }
+    ensures { result ≡ last_core_refusal i.0 pool.now }
 {
     if core_total(pool) != 1 {
         return None;

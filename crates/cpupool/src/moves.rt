@@ -4,7 +4,7 @@ ghost use Rattle.std.specs.Prelude.{◌≡◌, option_map, slice_set};
 ghost use Rattle.sched_model.specs.Places.{at_place};
 ghost use Rattle.cpupool.specs.Steps.{first_end_up};
 
-use crate::outline::{FreeCores, Way};
+use crate::outline::{FreeCores, MoveUnderWay};
 use crate::pools::kind_of;
 use crate::tool::ToolState;
 use sched_base::{DomId, Moment, PoolId, ResId};
@@ -65,14 +65,14 @@ impl ToolState {
     ghost use Rattle.sched_model.specs.declared.machine.Machine.{Machine};
     ghost use Rattle.sched_model.specs.declared.state.State.{State};
     ghost use Rattle.sched_model.specs.Places.{at_place, put_at, clear_at};
-    ghost use Rattle.sched_model.specs.Machine.{is_move_under_way};
+    ghost use Rattle.sched_model.specs.Machine.{has_move_under_way};
     ghost use Rattle.cpupool.specs.Tool.{tool_of};
-    ghost use Rattle.cpupool.specs.Steps.{kind_at as kind_at_spec, move_of, joining_ready};
+    ghost use Rattle.cpupool.specs.Steps.{outlined_kind, move_of, joining_ready};
     ghost use Rattle.journal_core.specs.ToolActions.{may_join};
 
     /// The scheduler of the pool i.
     fn kind_at(&self, i: PoolId) -> SchedKind
-        ensures { result ≡ kind_at_spec self.now.part i.0 }
+        ensures { result ≡ outlined_kind self.now.part i.0 }
     {
         match item_at(self.pools.as_slice(), i.0 as usize) {
             None => SchedKind::Null,
@@ -84,7 +84,7 @@ impl ToolState {
     pub fn moving(&self) -> Option<Move>
         ensures way { result ≡ option_map (move_of self.now.part) self.now.part.under_way }
         ensures none { (m : Machine) → (s : State) → tool_of m s ≡ self.now → is_some result
-            ≡ is_move_under_way s }
+            ≡ has_move_under_way s }
     {
         self.way_under_way()
     }
@@ -95,8 +95,8 @@ impl ToolState {
     {
         match self.under_way {
             None => None,
-            Some(Way::Core { r, to }) => Some(Move::Res { r, to }),
-            Some(Way::Domain { d, to }) => Some(Move::Dom {
+            Some(MoveUnderWay::Core { r, to }) => Some(Move::Res { r, to }),
+            Some(MoveUnderWay::Domain { d, to }) => Some(Move::Dom {
                 d,
                 to,
                 kind: self.kind_at(to),
@@ -118,7 +118,7 @@ impl ToolState {
         ensures { result ≡ joining_ready self.now.part t.0 self.now.part.under_way }
     {
         match self.under_way {
-            Some(Way::Core { r, to: Some(_) }) => is_first_up(t, self.free.as_slice(), r),
+            Some(MoveUnderWay::Core { r, to: Some(_) }) => is_first_up(t, self.free.as_slice(), r),
             _ => false,
         }
     }

@@ -26,11 +26,11 @@ pub(crate) struct NamedDomain<'a> {
 impl ToolState {
     ghost use Rattle.std.specs.Prelude.{◌≡◌, option_map};
     ghost use Rattle.cpupool.specs.Verdicts.{seen_outline, seen_size, seen_at};
-    ghost use Rattle.cpupool.specs.NamedDomains.{named_pool as named_pool_spec, named_domain as named_domain_spec};
+    ghost use Rattle.cpupool.specs.NamedDomains.{seen_named_pool, seen_named_domain};
 
     /// The pool that a command names, with what the tool knows of it.
     pub(crate) fn named_pool(&self, which: &Which) -> Option<NamedPool>
-        ensures { option_map named_pool_spec result ≡ seen_outline self.now which.now }
+        ensures { option_map seen_named_pool result ≡ seen_outline self.now which.now }
     {
         let i = self.pool_of(which)?;
         match item_at(self.pools.as_slice(), i.0 as usize) {
@@ -41,7 +41,7 @@ impl ToolState {
 
     /// The domain d, where the pool i has it.
     fn domain_in(&self, d: DomId, i: PoolId) -> Option<NamedDomain>
-        ensures { option_map named_domain_spec result ≡ seen_at self.now.part d.0 i.0 }
+        ensures { option_map seen_named_domain result ≡ seen_at self.now.part d.0 i.0 }
     {
         match item_at(self.pools.as_slice(), i.0 as usize) {
             None => None,
@@ -54,7 +54,7 @@ impl ToolState {
 
     /// The domain that a command names, with its home and its size.
     pub(crate) fn named_domain(&self, which: &Which) -> Option<NamedDomain>
-        ensures { option_map named_domain_spec result ≡ seen_size self.now which.now }
+        ensures { option_map seen_named_domain result ≡ seen_size self.now which.now }
     {
         let d = self.domain_of(which)?;
         let i = self.domain_pool(d)?;

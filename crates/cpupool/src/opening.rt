@@ -5,9 +5,9 @@ ghost use Rattle.std.specs.List.{All, list_any};
 ghost use Rattle.sched_base.specs.Numbers.{moment};
 ghost use Rattle.sched_model.specs.declared.config.PoolConfig.{PoolConfig as PoolRecord};
 ghost use Rattle.sched_model.specs.Places.{numbers_from};
-ghost use Rattle.sched_model.specs.State.{has_core as has_core_spec};
-ghost use Rattle.cpupool.specs.Tool.{entry_of as entry_of_spec};
-ghost use Rattle.cpupool.specs.OpeningPools.{kind_of_params, size_at_home, opened_outline as opened_outline_spec, opened_outlines as opened_outlines_spec, opened_free as opened_free_spec, HasFewGuests};
+ghost use Rattle.sched_model.specs.State.{has_core_bit};
+ghost use Rattle.cpupool.specs.Tool.{domain_entry};
+ghost use Rattle.cpupool.specs.OpeningPools.{params_kind, size_at_home, outline_at_opening, outlines_at_opening, free_ends_at_opening, HasFewGuests};
 
 use crate::outline::{
     CoreFlags, DomainEntry, DomainSizes, FreeCores, Outline, Outlines, PoolNames,
@@ -21,7 +21,7 @@ use std::alloc::Global;
 
 /// Which scheduler the parameters are of.
 fn kind_of_params(params: &PoolParams) -> SchedKind
-    ensures { result ≡ kind_of_params params.now }
+    ensures { result ≡ params_kind params.now }
 {
     match params {
         PoolParams::Credit2 { .. } => SchedKind::Credit2,
@@ -38,7 +38,7 @@ pub(crate) fn opened_entries(
     domains: &[DomConfig],
 ) -> Result<Row<DomainEntry>, NoMemory>
     requires { All HasFewGuests domains.now }
-    ensures { IfOk result (λ all. all ≡ map entry_of_spec domains.now) }
+    ensures { IfOk result (λ all. all ≡ map domain_entry domains.now) }
 {
     let mut all = Vec::new(alloc);
     for d in domains {
@@ -72,7 +72,7 @@ fn sizes_at_home(i: PoolId, domains: &[DomConfig]) -> DomainSizes
 #[tactic(auto, using(crate::proofs::NumberLemmas::map_numbers_more, sched_laws::proofs::Opened::length_map_numbers))]
 fn flags_of(set: Cores, cores: u8) -> CoreFlags
     requires { cores ≤ 64 }
-    ensures { result ≡ map (has_core_spec set.0) (numbers_from 0 cores) }
+    ensures { result ≡ map (has_core_bit set.0) (numbers_from 0 cores) }
 {
     let mut flags = Short::new();
     for r in 0..cores {
@@ -86,7 +86,7 @@ fn opened_outline(i: PoolId, cores: u8, domains: &[DomConfig], pool: &PoolConfig
     requires cores { cores ≤ 64 }
     requires few { length domains.now ≤ 64 }
     requires guests { All HasFewGuests domains.now }
-    ensures { result ≡ opened_outline_spec cores domains.now i.0 pool.now }
+    ensures { result ≡ outline_at_opening cores domains.now i.0 pool.now }
 {
     Outline {
         kind: kind_of_params(&pool.params),
@@ -108,7 +108,7 @@ fn add_outlines(
     requires cores { cores ≤ 64 }
     requires few { length domains.now ≤ 64 }
     requires guests { All HasFewGuests domains.now }
-    ensures { result ≡ outlines ++ opened_outlines_spec cores domains.now i.0 pools.now }
+    ensures { result ≡ outlines ++ outlines_at_opening cores domains.now i.0 pools.now }
 {
     match pools {
         [] => outlines,
@@ -140,7 +140,7 @@ pub(crate) fn opened_outlines(cores: u8, domains: &[DomConfig], pools: &[PoolCon
     requires cores { cores ≤ 64 }
     requires few { length domains.now ≤ 64 }
     requires guests { All HasFewGuests domains.now }
-    ensures { result ≡ opened_outlines_spec cores domains.now 0 pools.now
+    ensures { result ≡ outlines_at_opening cores domains.now 0 pools.now
         ++ replicate (16 - length pools.now) None }
 {
     let outlines = add_outlines(Short::new(), PoolId(0), cores, domains, pools);
@@ -189,7 +189,7 @@ fn no_stalls(processors: u8) -> StallEnds
 
 /// Whether one of the pools has the core.
 fn is_taken(pools: &[PoolConfig], r: ResId) -> bool
-    ensures { result ≡ list_any (λ (pool : PoolRecord). has_core_spec pool.cores r.0) pools.now }
+    ensures { result ≡ list_any (λ (pool : PoolRecord). has_core_bit pool.cores r.0) pools.now }
 {
     pools.iter().any(|pool| has_core(Cores(pool.cores), r))
 }
@@ -197,7 +197,7 @@ fn is_taken(pools: &[PoolConfig], r: ResId) -> bool
 /// The core r of so many processors, where no pool has it.
 fn free_core(processors: u8, pools: &[PoolConfig], r: ResId) -> Option<StallEnds>
     requires { processors ≤ 4 }
-    ensures { result ≡ opened_free_spec processors pools.now r.0 }
+    ensures { result ≡ free_ends_at_opening processors pools.now r.0 }
 {
     if is_taken(pools, r) {
         None
@@ -211,7 +211,7 @@ fn free_core(processors: u8, pools: &[PoolConfig], r: ResId) -> Option<StallEnds
 pub(crate) fn opened_free(processors: u8, cores: u8, pools: &[PoolConfig]) -> FreeCores
     requires cores { cores ≤ 64 }
     requires processors { processors ≤ 4 }
-    ensures { result ≡ map (opened_free_spec processors pools.now) (numbers_from 0 cores) }
+    ensures { result ≡ map (free_ends_at_opening processors pools.now) (numbers_from 0 cores) }
 {
     let mut free = Short::new();
     for r in 0..cores {

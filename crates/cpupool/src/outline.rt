@@ -46,7 +46,7 @@ pub(crate) type FreeCores = Short<Option<StallEnds>, 64>;
 
 /// What is on its way: a core to a pool, or to none; or a domain to a pool.
 #[derive(Clone, Copy)]
-pub(crate) enum Way {
+pub(crate) enum MoveUnderWay {
     Core { r: ResId, to: Option<PoolId> },
     Domain { d: DomId, to: PoolId },
 }

@@ -4,7 +4,7 @@ ghost use Rattle.std.specs.Prelude.{◌≡◌, ◌+◌, ◌≤◌, ◌<◌, true
 ghost use Rattle.sched_model.specs.Places.{at_place, first_place, first_empty};
 ghost use Rattle.journal_core.specs.Parts.{Outline as PoolOutline};
 ghost use Rattle.cpupool.specs.Tool.{number_of_domain, number_of_pool};
-ghost use Rattle.cpupool.specs.Verdicts.{entry_named, has_core as has_core_spec, core_total as core_total_spec, domain_total as domain_total_spec, flags_from};
+ghost use Rattle.cpupool.specs.Verdicts.{entry_named, has_outlined_core, outlined_core_count, outlined_domain_count, flags_from};
 
 use crate::outline::{DomainEntry, Outline};
 use sched_base::{Cores, DomId, Name, PoolId, ResId};
@@ -75,7 +75,7 @@ pub(crate) fn kind_of(pool: &Outline) -> SchedKind
 
 /// Whether the pool has the core.
 pub(crate) fn has_core(pool: &Outline, r: ResId) -> bool
-    ensures { result ≡ has_core_spec pool.now r.0 }
+    ensures { result ≡ has_outlined_core pool.now r.0 }
 {
     let r = r.0 as usize;
     let cores = pool.cores.as_slice();
@@ -91,7 +91,7 @@ pub(crate) fn size_in(pool: &Outline, d: DomId) -> Option<u8>
 
 /// How many cores the pool has.
 pub(crate) fn core_total(pool: &Outline) -> u64
-    ensures value { result ≡ core_total_spec pool.now }
+    ensures value { result ≡ outlined_core_count pool.now }
     ensures few { result ≤ 64 }
 {
     pool.cores.as_slice().iter().filter(|core| **core).count() as u64
@@ -99,7 +99,7 @@ pub(crate) fn core_total(pool: &Outline) -> u64
 
 /// How many domains the pool has.
 pub(crate) fn domain_total(pool: &Outline) -> u64
-    ensures value { result ≡ domain_total_spec pool.now }
+    ensures value { result ≡ outlined_domain_count pool.now }
     ensures few { result ≤ 64 }
 {
     count_of(pool.domains.as_slice())
@@ -109,7 +109,7 @@ pub(crate) fn domain_total(pool: &Outline) -> u64
 pub(crate) fn core_home(i: PoolId, pools: &[Option<Outline>], r: ResId) -> Option<PoolId>
     requires { i.0 + length pools.now ≤ 16 }
     ensures { option_map number_of_pool result
-        ≡ first_place i.0 (λ (o : PoolOutline). has_core_spec o r.0) pools.now }
+        ≡ first_place i.0 (λ (o : PoolOutline). has_outlined_core o r.0) pools.now }
 {
     match pools {
         [] => None,

@@ -2,12 +2,12 @@
 
 ghost use Rattle.std.specs.Prelude.{◌≡◌, ◌+◌, ◌≤◌, ◌<◌, Some, None, is_some, option_map, length, map};
 ghost use Rattle.std.specs.Option.{ForSome};
-ghost use Rattle.journal_core.specs.Parts.{outline_of as outline_of_spec, first_answer, core_leaving as core_leaving_spec, domain_moving as domain_moving_spec, core_joining as core_joining_spec, leaving_pool as leaving_pool_spec, under_way_of as under_way_of_spec};
-ghost use Rattle.cpupool.specs.Tool.{way_of, size_of as size_of_spec, ends_of as ends_of_spec};
+ghost use Rattle.journal_core.specs.Parts.{pool_outline, first_answer, core_to_leave, domain_to_move, core_to_join, pool_under_way, state_under_way};
+ghost use Rattle.cpupool.specs.Tool.{way_of, domain_size, free_core_ends};
 ghost use Rattle.cpupool.specs.Fits.{DomainFits, PoolFits, StateFits};
 ghost use Rattle.sched_laws.specs.EachPlace.{AllPlaces};
 
-use crate::outline::{CoreFlags, DomainSizes, FreeCores, Outline, Outlines, PoolNames, Way};
+use crate::outline::{CoreFlags, DomainSizes, FreeCores, MoveUnderWay, Outline, Outlines, PoolNames};
 use sched_base::{DomId, Name, PoolId, ResId};
 use sched_model::config::SchedKind;
 use sched_model::facts::{StallEnds, kind_of};
@@ -30,7 +30,7 @@ pub(crate) fn read_cores<T>(cores: &[Option<T>]) -> CoreFlags
 /// How many vCPUs the domain has, where there is one.
 fn size_of(domain: &Option<Domain>) -> Option<u8>
     requires { ForSome domain.now DomainFits }
-    ensures { result ≡ option_map size_of_spec domain.now }
+    ensures { result ≡ option_map domain_size domain.now }
 {
     match domain {
         None => None,
@@ -43,7 +43,7 @@ fn size_of(domain: &Option<Domain>) -> Option<u8>
 fn read_domains(domains: &[Option<Domain>]) -> DomainSizes
     requires few { length domains.now ≤ 64 }
     requires fits { AllPlaces DomainFits domains.now }
-    ensures { result ≡ map (option_map size_of_spec) domains.now }
+    ensures { result ≡ map (option_map domain_size) domains.now }
 {
     let mut sizes = Short::new();
     for domain in domains {
@@ -55,7 +55,7 @@ fn read_domains(domains: &[Option<Domain>]) -> DomainSizes
 /// The pool as the tool knows it.
 fn read_pool(pool: &Option<Pool>) -> Option<Outline>
     requires { ForSome pool.now PoolFits }
-    ensures { result ≡ option_map outline_of_spec pool.now }
+    ensures { result ≡ option_map pool_outline pool.now }
 {
     match pool {
         None => None,
@@ -72,7 +72,7 @@ fn read_pool(pool: &Option<Pool>) -> Option<Outline>
 pub(crate) fn read_pools(pools: &[Option<Pool>]) -> Outlines
     requires few { length pools.now ≤ 16 }
     requires fits { AllPlaces PoolFits pools.now }
-    ensures { result ≡ map (option_map outline_of_spec) pools.now }
+    ensures { result ≡ map (option_map pool_outline) pools.now }
 {
     let mut outlines = Short::new();
     for pool in pools {
@@ -105,7 +105,7 @@ pub(crate) fn read_names(names: &[Option<Name>]) -> PoolNames
 
 /// The ends of the stalls of the core's processors, where there is such a core.
 fn read_free_core(core: &Option<FreeCore>) -> Option<StallEnds>
-    ensures { result ≡ option_map ends_of_spec core.now }
+    ensures { result ≡ option_map free_core_ends core.now }
 {
     match core {
         None => None,
@@ -117,7 +117,7 @@ fn read_free_core(core: &Option<FreeCore>) -> Option<StallEnds>
 #[tactic(auto, using(std::proofs::lemmas::List::map_more))]
 pub(crate) fn read_free(free: &[Option<FreeCore>]) -> FreeCores
     requires { length free.now ≤ 64 }
-    ensures { result ≡ map (option_map ends_of_spec) free.now }
+    ensures { result ≡ map (option_map free_core_ends) free.now }
 {
     let mut all = Short::new();
     for core in free {
@@ -127,16 +127,16 @@ pub(crate) fn read_free(free: &[Option<FreeCore>]) -> FreeCores
 }
 
 /// The first of the cores that is leaving, where the first of these has the number r.
-fn core_leaving(r: ResId, cores: &[Option<Resource>]) -> Option<Way>
+fn core_leaving(r: ResId, cores: &[Option<Resource>]) -> Option<MoveUnderWay>
     requires { r.0 + length cores.now ≤ 64 }
-    ensures { option_map way_of result ≡ first_answer core_leaving_spec r.0 cores.now }
+    ensures { option_map way_of result ≡ first_answer core_to_leave r.0 cores.now }
 {
     match cores {
         [] => None,
         [None, rest @ ..] => core_leaving(ResId(r.0 + 1), rest),
         [Some(c), rest @ ..] => {
             if c.leaving {
-                Some(Way::Core { r, to: None })
+                Some(MoveUnderWay::Core { r, to: None })
             } else {
                 core_leaving(ResId(r.0 + 1), rest)
             }
@@ -145,24 +145,24 @@ fn core_leaving(r: ResId, cores: &[Option<Resource>]) -> Option<Way>
 }
 
 /// The first of the domains that is moving, where the first of these has the number d.
-fn domain_moving(d: DomId, domains: &[Option<Domain>]) -> Option<Way>
+fn domain_moving(d: DomId, domains: &[Option<Domain>]) -> Option<MoveUnderWay>
     requires { d.0 + length domains.now ≤ 64 }
-    ensures { option_map way_of result ≡ first_answer domain_moving_spec d.0 domains.now }
+    ensures { option_map way_of result ≡ first_answer domain_to_move d.0 domains.now }
 {
     match domains {
         [] => None,
         [None, rest @ ..] => domain_moving(DomId(d.0 + 1), rest),
         [Some(domain), rest @ ..] => match domain.moving {
-            Some(to) => Some(Way::Domain { d, to }),
+            Some(to) => Some(MoveUnderWay::Domain { d, to }),
             None => domain_moving(DomId(d.0 + 1), rest),
         },
     }
 }
 
 /// What is on its way from the pool i.
-fn leaving_pool(i: PoolId, pool: &Pool) -> Option<Way>
+fn leaving_pool(i: PoolId, pool: &Pool) -> Option<MoveUnderWay>
     requires { PoolFits pool.now }
-    ensures { option_map way_of result ≡ leaving_pool_spec i.0 pool.now }
+    ensures { option_map way_of result ≡ pool_under_way i.0 pool.now }
 {
     match core_leaving(ResId(0), pool.resources.as_slice()) {
         Some(way) => Some(way),
@@ -171,10 +171,10 @@ fn leaving_pool(i: PoolId, pool: &Pool) -> Option<Way>
 }
 
 /// What is on its way from one of the pools, where the first of these has the number i.
-fn leaving_pools(i: PoolId, pools: &[Option<Pool>]) -> Option<Way>
+fn leaving_pools(i: PoolId, pools: &[Option<Pool>]) -> Option<MoveUnderWay>
     requires few { i.0 + length pools.now ≤ 16 }
     requires fits { AllPlaces PoolFits pools.now }
-    ensures { option_map way_of result ≡ first_answer leaving_pool_spec i.0 pools.now }
+    ensures { option_map way_of result ≡ first_answer pool_under_way i.0 pools.now }
 {
     match pools {
         [] => None,
@@ -187,15 +187,15 @@ fn leaving_pools(i: PoolId, pools: &[Option<Pool>]) -> Option<Way>
 }
 
 /// The first of the cores that is to join a pool, where the first of these has the number r.
-fn core_joining(r: ResId, free: &[Option<FreeCore>]) -> Option<Way>
+fn core_joining(r: ResId, free: &[Option<FreeCore>]) -> Option<MoveUnderWay>
     requires { r.0 + length free.now ≤ 64 }
-    ensures { option_map way_of result ≡ first_answer core_joining_spec r.0 free.now }
+    ensures { option_map way_of result ≡ first_answer core_to_join r.0 free.now }
 {
     match free {
         [] => None,
         [None, rest @ ..] => core_joining(ResId(r.0 + 1), rest),
         [Some(core), rest @ ..] => match core.target {
-            Some(to) => Some(Way::Core {
+            Some(to) => Some(MoveUnderWay::Core {
                 r,
                 to: Some(PoolId(to)),
             }),
@@ -205,9 +205,9 @@ fn core_joining(r: ResId, free: &[Option<FreeCore>]) -> Option<Way>
 }
 
 /// What is on its way.
-pub(crate) fn under_way_of(state: &State) -> Option<Way>
+pub(crate) fn under_way_of(state: &State) -> Option<MoveUnderWay>
     requires { StateFits state.now }
-    ensures { option_map way_of result ≡ under_way_of_spec state.entry.now }
+    ensures { option_map way_of result ≡ state_under_way state.entry.now }
 {
     match leaving_pools(PoolId(0), state.pools.as_slice()) {
         Some(way) => Some(way),

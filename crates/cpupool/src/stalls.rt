@@ -16,8 +16,8 @@ impl ToolState {
     ghost use Rattle.sched_model.specs.declared.machine.Machine.{Machine};
     ghost use Rattle.sched_model.specs.declared.state.State.{State};
     ghost use Rattle.sched_model.specs.Places.{at_place};
-    ghost use Rattle.sched_model.specs.Actions.{home_of_core};
-    ghost use Rattle.sched_model.specs.Machine.{stall_end_of, with_stall_end};
+    ghost use Rattle.sched_model.specs.Actions.{home_pool_of_core};
+    ghost use Rattle.sched_model.specs.Machine.{later_stall_end, state_with_stall};
     ghost use Rattle.cpupool.specs.Tool.{tool_of};
     ghost use Rattle.cpupool.specs.Dues.{free_stall_end, free_stalled};
 
@@ -25,11 +25,11 @@ impl ToolState {
     pub fn stall_free(&mut self, p: ProcId, until: Moment) -> Moment
         requires { IsSome (at_place self.old.part.free (p.0 / self.old.granularity)) }
         ensures end { (m : Machine) → (s : State) → tool_of m s ≡ self.old
-            → home_of_core s (p.0 / m.config.granularity) ≡ None
-            → result ≡ moment (stall_end_of m.config.granularity s p.0 until.0) }
+            → home_pool_of_core s (p.0 / m.config.granularity) ≡ None
+            → result ≡ moment (later_stall_end m.config.granularity s p.0 until.0) }
         ensures state { (m : Machine) → (s : State) → tool_of m s ≡ self.old
-            → home_of_core s (p.0 / m.config.granularity) ≡ None
-            → self.new ≡ tool_of m (with_stall_end m.config.granularity p.0 result.0 s) }
+            → home_pool_of_core s (p.0 / m.config.granularity) ≡ None
+            → self.new ≡ tool_of m (state_with_stall m.config.granularity p.0 result.0 s) }
     {
         self.stall_end(p, until)
     }

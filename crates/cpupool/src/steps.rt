@@ -17,9 +17,9 @@ impl ToolState {
     ghost use Rattle.sched_model.specs.declared.state.State.{State};
     ghost use Rattle.sched_model.specs.declared.event.Refusal.{Refusal};
     ghost use Rattle.sched_model.specs.declared.work.CommandLine.{CommandLine as Line};
-    ghost use Rattle.sched_model.specs.Machine.{verdict, after_command};
+    ghost use Rattle.sched_model.specs.Machine.{line_verdict, after_command};
     ghost use Rattle.cpupool.specs.Tool.{tool_of};
-    ghost use Rattle.cpupool.specs.Steps.{enabled_event, stall_comes as stall_comes_spec, command_comes as command_comes_spec, next_event};
+    ghost use Rattle.cpupool.specs.Steps.{enabled_event, is_stall_due, is_command_due, next_tool_event};
 
     /// The line with the command of this index, from 0.
     pub fn command(&self, k: u32) -> &CommandLine
@@ -31,7 +31,7 @@ impl ToolState {
 
     /// Whether the next stall may come at t.
     pub(crate) fn stall_comes(&self, t: Moment) -> bool
-        ensures { result ≡ stall_comes_spec self.now t.0 }
+        ensures { result ≡ is_stall_due self.now t.0 }
     {
         match self.stalls.as_slice().get(self.next_stall as usize) {
             None => false,
@@ -41,7 +41,7 @@ impl ToolState {
 
     /// Whether the next command may come at t.
     pub(crate) fn command_comes(&self, t: Moment) -> bool
-        ensures { result ≡ command_comes_spec self.now t.0 }
+        ensures { result ≡ is_command_due self.now t.0 }
     {
         match self.commands.as_slice().get(self.next_command as usize) {
             None => false,
@@ -61,7 +61,7 @@ impl ToolState {
 
     /// The stall or the command that may come at t.
     fn next_event(&self, t: Moment) -> Option<ToolEvent>
-        ensures { result ≡ next_event self.now t.0 }
+        ensures { result ≡ next_tool_event self.now t.0 }
     {
         if self.stall_comes(t) {
             Some(ToolEvent::Stall(self.next_stall))
@@ -93,7 +93,7 @@ impl ToolState {
         ensures next { self.new ≡ record self.old
             { part = record self.old.part { next_command = suc self.old.part.next_command } } }
         ensures state { (m : Machine) → (s : State) → (t : ℕ) → (line : Line) → (refusal : Refusal)
-            → tool_of m s ≡ self.old → verdict m s line ≡ Err refusal
+            → tool_of m s ≡ self.old → line_verdict m s line ≡ Err refusal
             → self.new ≡ tool_of m (after_command m t line s) }
     {
         self.next_command += 1;

@@ -2,7 +2,7 @@
 
 use crate::copies::same_work;
 use crate::opening::{opened_entries, opened_free, opened_names, opened_outlines};
-use crate::outline::{DomainEntry, FreeCores, Outlines, PoolNames, Way};
+use crate::outline::{DomainEntry, FreeCores, MoveUnderWay, Outlines, PoolNames};
 use crate::pools::{core_home, domain_home, domain_named, place_named, set_of};
 use crate::reading::{read_cores, read_free, read_names, read_pools, under_way_of};
 use sched_base::{DomId, NoMemory, PoolId, ResId};
@@ -26,7 +26,7 @@ pub struct ToolState {
     pub(crate) names: PoolNames,
     pub(crate) pools: Outlines,
     pub(crate) free: FreeCores,
-    pub(crate) under_way: Option<Way>,
+    pub(crate) under_way: Option<MoveUnderWay>,
     pub(crate) next_stall: u32,
     pub(crate) next_command: u32,
 }
@@ -60,7 +60,7 @@ impl Model for ToolState {
 impl ToolState {
     ghost use Rattle.std.specs.Prelude.{◌≡◌, ℕ, IfOk, is_some, option_map};
     ghost use Rattle.sched_base.specs.Numbers.{pool as pool_number};
-    ghost use Rattle.sched_model.specs.Actions.{home_of_core, home_of_domain};
+    ghost use Rattle.sched_model.specs.Actions.{home_pool_of_core, home_pool_of_domain};
     ghost use Rattle.sched_model.specs.declared.machine.Machine.{Machine};
     ghost use Rattle.sched_model.specs.declared.state.State.{State as StateRecord};
     ghost use Rattle.journal_core.specs.Parts.{tool_of as part_of_tool};
@@ -71,8 +71,8 @@ impl ToolState {
     ghost use Rattle.sched_model.specs.CheckedMachine.{IsChecked, IsCheckedConfig, IsCheckedWork};
     ghost use Rattle.sched_model.specs.Opening.{opening};
     ghost use Rattle.sched_model.specs.Places.{at_place};
-    ghost use Rattle.sched_model.specs.State.{has_core as has_bit};
-    ghost use Rattle.cpupool.specs.Verdicts.{seen_pool, seen_domain, seen_subject, seen_pool_subject, seen_domain_subject, core_home as core_home_spec, domain_home as domain_home_spec};
+    ghost use Rattle.sched_model.specs.State.{has_core_bit};
+    ghost use Rattle.cpupool.specs.Verdicts.{seen_pool, seen_domain, command_subject, seen_pool_subject, seen_domain_subject, outlined_core_home, outlined_domain_home};
 
     /// What the tool keeps of the machine at its opening. It keeps a copy of the workload. All memory is taken here.
     pub fn open(alloc: Global, config: &Config, work: &Work) -> Result<ToolState, NoMemory>
@@ -167,14 +167,14 @@ impl ToolState {
     /// The pool that has the core, where one has it.
     pub fn home_of_core(&self, r: ResId) -> Option<PoolId>
         ensures { (m : Machine) → (s : StateRecord) → tool_of m s ≡ self.now → result
-            ≡ option_map pool_number (home_of_core s r.0) }
+            ≡ option_map pool_number (home_pool_of_core s r.0) }
     {
         self.core_pool(r)
     }
 
     /// The same, by what the tool keeps.
     fn core_pool(&self, r: ResId) -> Option<PoolId>
-        ensures { option_map number_of_pool result ≡ core_home_spec self.now.part.pools r.0 }
+        ensures { option_map number_of_pool result ≡ outlined_core_home self.now.part.pools r.0 }
     {
         core_home(PoolId(0), self.pools.as_slice(), r)
     }
@@ -182,14 +182,14 @@ impl ToolState {
     /// The pool that has the domain, where one has it.
     pub fn home_of_domain(&self, d: DomId) -> Option<PoolId>
         ensures { (m : Machine) → (s : StateRecord) → tool_of m s ≡ self.now → result
-            ≡ option_map pool_number (home_of_domain s d.0) }
+            ≡ option_map pool_number (home_pool_of_domain s d.0) }
     {
         self.domain_pool(d)
     }
 
     /// The same, by what the tool keeps.
     pub(crate) fn domain_pool(&self, d: DomId) -> Option<PoolId>
-        ensures { option_map number_of_pool result ≡ domain_home_spec self.now.part.pools d.0 }
+        ensures { option_map number_of_pool result ≡ outlined_domain_home self.now.part.pools d.0 }
     {
         domain_home(PoolId(0), self.pools.as_slice(), d)
     }
@@ -197,7 +197,7 @@ impl ToolState {
     /// The cores of no pool, with bit r for the core r.
     #[tactic(auto, using(crate::proofs::FreeLemmas::has_free))]
     pub fn free_cores(&self) -> u64
-        ensures { (r : ℕ) → has_bit result r ≡ is_some (at_place self.now.part.free r) }
+        ensures { (r : ℕ) → has_core_bit result r ≡ is_some (at_place self.now.part.free r) }
     {
         set_of(read_cores(self.free.as_slice()).as_slice()).0
     }
@@ -239,7 +239,7 @@ impl ToolState {
 
     /// The subject of the command.
     fn seen_subject(&self, c: &Command) -> Subject
-        ensures { result ≡ seen_subject self.now c.now }
+        ensures { result ≡ command_subject self.now c.now }
     {
         let none = Subject {
             pool: None,

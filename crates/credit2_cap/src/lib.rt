@@ -14,7 +14,7 @@ pub const LEAST_QUOTA: i64 = 500_000;
 /// The budget that a cap gives for each 10,000,000 nanoseconds. The cap is in percent of one processor.
 pub fn total(cap: u32) -> i64
     requires { cap ≤ 6400 }
-    ensures { result ≡ pos (numbers.total cap) }
+    ensures { result ≡ pos (numbers.cap_budget cap) }
 {
     cap as i64 * 100_000
 }
@@ -23,7 +23,7 @@ pub fn total(cap: u32) -> i64
 /// The units are all units of the domain, of which there is at least one.
 pub fn quota(total: i64, units: u32) -> i64
     requires { 1 ≤ units }
-    ensures exact { result ≡ pos (numbers.quota (numbers.above_zero total) units) }
+    ensures exact { result ≡ pos (numbers.budget_quota (numbers.positive_part total) units) }
     ensures least { pos 500000 ≤ℤ result }
     ensures share { pos 500000 ≤ℤ total → result ≤ℤ total }
 {
@@ -32,7 +32,7 @@ pub fn quota(total: i64, units: u32) -> i64
 
 /// What a chosen unit takes of its domain's budget: its quota, or what is left where that is less.
 pub fn take(budget: i64, quota: i64) -> i64
-    ensures exact { pos 0 ≤ℤ quota → result ≡ numbers.take budget (numbers.above_zero quota) }
+    ensures exact { pos 0 ≤ℤ quota → result ≡ numbers.taken_budget budget (numbers.positive_part quota) }
     ensures least { result ≡ int_min quota budget }
     ensures no_more { result ≤ℤ budget }
     ensures some { pos 0 <ℤ budget → pos 0 <ℤ quota → pos 0 <ℤ result }
@@ -48,8 +48,8 @@ pub fn refill(budget: i64, held: i64, total: i64, n: u64) -> i64
     requires few { n ≤ 1000000000 }
     requires held { pos 0 ≤ℤ held }
     requires total { pos 0 ≤ℤ total }
-    ensures exact { result ≡ numbers.refill budget (numbers.above_zero held)
-        (numbers.above_zero total) n }
+    ensures exact { result ≡ numbers.budget_after_refill budget (numbers.positive_part held)
+        (numbers.positive_part total) n }
     ensures room { result ≤ℤ (total -ℤ held) }
     ensures grows { budget ≤ℤ (total -ℤ held) → budget ≤ℤ result }
 {
@@ -61,7 +61,7 @@ pub fn refill(budget: i64, held: i64, total: i64, n: u64) -> i64
 fn grown(budget: i64, total: i64, n: u64) -> i128
     requires few { n ≤ 1000000000 }
     requires some { pos 0 ≤ℤ total }
-    ensures { result ≡ budget +ℤ pos (n * numbers.above_zero total) }
+    ensures { result ≡ budget +ℤ pos (n * numbers.positive_part total) }
 {
     let all = n as u128 * total as u128;
     budget as i128 + all as i128

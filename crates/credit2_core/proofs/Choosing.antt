@@ -11,7 +11,7 @@ use Rattle.sched_model.specs.declared.state.Credit2Records.{Credit2Records}
 use Rattle.sched_model.specs.declared.state.Records.TheVariants.{Credit2Pool}
 use Rattle.sched_model.specs.Places.{same_unit, without_unit}
 use Rattle.sched_model.specs.EligibleUnits.{eligible_units}
-use Rattle.sched_model.specs.Credit2.{greatest_unit, credit_of, choice, own_candidate, is_within_limit, best_other}
+use Rattle.sched_model.specs.Credit2.{richest_unit, unit_credit, credit2_choice, credit2_candidate, is_rate_limited, best_other_credit}
 use Rattle.scheduler_records.specs.Parts.{credit2_scheduler}
 use Rattle.scheduler_records.proofs.Items.{filter-both}
 use Rattle.credit2_core.specs.Choice.{may_take, best_of, credit_or_0}
@@ -22,15 +22,15 @@ or-false : (b : Bool) → b ≡ (b || false)
 or-false true = refl
 or-false false = refl
 
-greatest_some : (records : Credit2Records) (best : UnitId) (units : List UnitId) → is_some (greatest_unit records (Some best) units) ≡ true
+greatest_some : (records : Credit2Records) (best : UnitId) (units : List UnitId) → is_some (richest_unit records (Some best) units) ≡ true
 greatest_some records best [] = refl
-greatest_some records best (u ∷ units) = greatest_some records (if int_lt (credit_of records best) (credit_of records u) then u else best) units
+greatest_some records best (u ∷ units) = greatest_some records (if int_lt (unit_credit records best) (unit_credit records u) then u else best) units
 
 -- whether some unit passes
-pub some_passes : (records : Credit2Records) (p : UnitId → Bool) (units : List UnitId) → is_some (greatest_unit records None (filter p units)) ≡ list_any p units
+pub some_passes : (records : Credit2Records) (p : UnitId → Bool) (units : List UnitId) → is_some (richest_unit records None (filter p units)) ≡ list_any p units
 some_passes records p [] = refl
 some_passes records p (u ∷ units) =
-    elim (p u) as (λ b. is_some (greatest_unit records None (cond b (u ∷ filter p units) (filter p units))) ≡ (b || list_any p units)) [
+    elim (p u) as (λ b. is_some (richest_unit records None (cond b (u ∷ filter p units) (filter p units))) ≡ (b || list_any p units)) [
       | true ↦ greatest_some records u (filter p units)
       | false ↦ some_passes records p units
     ]
@@ -44,11 +44,11 @@ any_filter p q (u ∷ units) =
     ]
 
 -- the greater of two credits is above a third where one of them is
-above_greater : (records : Credit2Records) (own : ℤ) (best u : UnitId) → int_lt own (credit_of records (if int_lt (credit_of records best) (credit_of records u) then u else best)) ≡ (int_lt own (credit_of records best) || int_lt own (credit_of records u))
+above_greater : (records : Credit2Records) (own : ℤ) (best u : UnitId) → int_lt own (unit_credit records (if int_lt (unit_credit records best) (unit_credit records u) then u else best)) ≡ (int_lt own (unit_credit records best) || int_lt own (unit_credit records u))
 above_greater records own best u =
-    elim (int_lt (credit_of records best) (credit_of records u)) as (λ b. int_lt (credit_of records best) (credit_of records u) ≡ b → int_lt own (credit_of records (if b then u else best)) ≡ (int_lt own (credit_of records best) || int_lt own (credit_of records u))) [
-      | true ↦ λ is. greater own (credit_of records best) (credit_of records u) is
-      | false ↦ λ is. no_greater own (credit_of records best) (credit_of records u) is
+    elim (int_lt (unit_credit records best) (unit_credit records u)) as (λ b. int_lt (unit_credit records best) (unit_credit records u) ≡ b → int_lt own (unit_credit records (if b then u else best)) ≡ (int_lt own (unit_credit records best) || int_lt own (unit_credit records u))) [
+      | true ↦ λ is. greater own (unit_credit records best) (unit_credit records u) is
+      | false ↦ λ is. no_greater own (unit_credit records best) (unit_credit records u) is
     ] refl
   where
     greater : (a b c : ℤ) → int_lt b c ≡ true → int_lt a c ≡ (int_lt a b || int_lt a c)
@@ -65,24 +65,24 @@ above_greater records own best u =
 
 -- whether the unit found has more credit
 abbrev above : Credit2Records → ℤ → Option UnitId → Bool
-above records own found = elim found [ None ↦ false | Some u ↦ int_lt own (credit_of records u) ]
+above records own found = elim found [ None ↦ false | Some u ↦ int_lt own (unit_credit records u) ]
 
-above_best : (records : Credit2Records) (own : ℤ) (best : UnitId) (units : List UnitId) → above records own (greatest_unit records (Some best) units) ≡ (int_lt own (credit_of records best) || list_any (λ u. int_lt own (credit_of records u)) units)
-above_best records own best [] = or-false (int_lt own (credit_of records best))
+above_best : (records : Credit2Records) (own : ℤ) (best : UnitId) (units : List UnitId) → above records own (richest_unit records (Some best) units) ≡ (int_lt own (unit_credit records best) || list_any (λ u. int_lt own (unit_credit records u)) units)
+above_best records own best [] = or-false (int_lt own (unit_credit records best))
 above_best records own best (u ∷ units) =
-    above_best records own (if int_lt (credit_of records best) (credit_of records u) then u else best) units
-    ∙ ap (λ b. b || list_any (λ w. int_lt own (credit_of records w)) units) (above_greater records own best u)
-    ∙ or_assoc (int_lt own (credit_of records best)) (int_lt own (credit_of records u)) (list_any (λ w. int_lt own (credit_of records w)) units)
+    above_best records own (if int_lt (unit_credit records best) (unit_credit records u) then u else best) units
+    ∙ ap (λ b. b || list_any (λ w. int_lt own (unit_credit records w)) units) (above_greater records own best u)
+    ∙ or_assoc (int_lt own (unit_credit records best)) (int_lt own (unit_credit records u)) (list_any (λ w. int_lt own (unit_credit records w)) units)
 
-above_any : (records : Credit2Records) (own : ℤ) (units : List UnitId) → above records own (greatest_unit records None units) ≡ list_any (λ u. int_lt own (credit_of records u)) units
+above_any : (records : Credit2Records) (own : ℤ) (units : List UnitId) → above records own (richest_unit records None units) ≡ list_any (λ u. int_lt own (unit_credit records u)) units
 above_any records own [] = refl
 above_any records own (u ∷ units) = above_best records own u units
 
 -- a unit that passes is better than a core's own where the first of them is
 pub better_passes : (records : Credit2Records) (within : Bool) (own : ℤ) (p : UnitId → Bool) (units : List UnitId)
-    → elim (greatest_unit records None (filter p units)) as (λ _. Bool) [ None ↦ false | Some u ↦ within && int_lt own (credit_of records u) ] ≡ list_any (λ u. p u && (within && int_lt own (credit_of records u))) units
-better_passes records true own p units = above_any records own (filter p units) ∙ any_filter p (λ u. int_lt own (credit_of records u)) units
-better_passes records false own p units = none_found (greatest_unit records None (filter p units)) ∙ sym (none_there units)
+    → elim (richest_unit records None (filter p units)) as (λ _. Bool) [ None ↦ false | Some u ↦ within && int_lt own (unit_credit records u) ] ≡ list_any (λ u. p u && (within && int_lt own (unit_credit records u))) units
+better_passes records true own p units = above_any records own (filter p units) ∙ any_filter p (λ u. int_lt own (unit_credit records u)) units
+better_passes records false own p units = none_found (richest_unit records None (filter p units)) ∙ sym (none_there units)
   where
     none_found : (o : Option UnitId) → elim o as (λ _. Bool) [ None ↦ false | Some u ↦ false ] ≡ false
     none_found None = refl
@@ -93,12 +93,12 @@ better_passes records false own p units = none_found (greatest_unit records None
     none_there (u ∷ units) = rw (and-false (p u)) (none_there units)
 
 -- the choice is a scan, where the core's own unit does not go on by the rate limit
-pub choice_scans : (ask : Ask) (scheduler : Scheduler) (records : Credit2Records) (own : Option UnitId) → ask.leaving ≡ false → own_candidate ask scheduler records ≡ own → (is_some own && is_within_limit records ask.since.0 ask.at.0) ≡ false
-    → choice ask scheduler records ≡ greatest_unit records own (eligible_units (record scheduler { records = Credit2Pool records }) ask.home.0 ask.core.0 ask.at.0)
+pub choice_scans : (ask : Ask) (scheduler : Scheduler) (records : Credit2Records) (own : Option UnitId) → ask.leaving ≡ false → credit2_candidate ask scheduler records ≡ own → (is_some own && is_rate_limited records ask.since.0 ask.at.0) ≡ false
+    → credit2_choice ask scheduler records ≡ richest_unit records own (eligible_units (record scheduler { records = Credit2Pool records }) ask.home.0 ask.core.0 ask.at.0)
 choice_scans ask scheduler records own stays is scans =
     let units : List UnitId = eligible_units (record scheduler { records = Credit2Pool records }) ask.home.0 ask.core.0 ask.at.0 in
-    let keeps : Option UnitId → Option UnitId = λ o. if is_some o && is_within_limit records ask.since.0 ask.at.0 then o else greatest_unit records o units in
-    ap (λ (b : Bool). if b then None else keeps (own_candidate ask scheduler records)) stays ∙ ap keeps is ∙ ap (λ (b : Bool). if b then own else greatest_unit records own units) scans
+    let keeps : Option UnitId → Option UnitId = λ o. if is_some o && is_rate_limited records ask.since.0 ask.at.0 then o else richest_unit records o units in
+    ap (λ (b : Bool). if b then None else keeps (credit2_candidate ask scheduler records)) stays ∙ ap keeps is ∙ ap (λ (b : Bool). if b then own else richest_unit records own units) scans
 
 -- two tests in either order
 filter-swap : (p q : UnitId → Bool) (units : List UnitId) → filter p (filter q units) ≡ filter q (filter p units)
@@ -110,10 +110,10 @@ filter-swap p q units = filter-both p q units ∙ same units ∙ sym (filter-bot
 
 -- the best of the others is the first that may run, once the chosen one has left the queue
 pub other_best : (ask : Ask) (queue : List UnitId) (affinity : List (Option (List Cores))) (first records : Credit2Records) (u : UnitId)
-    → credit_or_0 records (best_of (without_unit u queue) affinity ask.home.0 ask.core.0 records) ≡ best_other ask (credit2_scheduler queue affinity first) records u
+    → credit_or_0 records (best_of (without_unit u queue) affinity ask.home.0 ask.core.0 records) ≡ best_other_credit ask (credit2_scheduler queue affinity first) records u
 other_best ask queue affinity first records u =
-    ap (λ (units : List UnitId). credit_or_0 records (greatest_unit records None units)) (filter-swap (may_take affinity ask.home.0 ask.core.0 records) (λ w. not (same_unit u w)) queue) ∙ same_form (greatest_unit records None (without_unit u (filter (may_take affinity ask.home.0 ask.core.0 records) queue)))
+    ap (λ (units : List UnitId). credit_or_0 records (richest_unit records None units)) (filter-swap (may_take affinity ask.home.0 ask.core.0 records) (λ w. not (same_unit u w)) queue) ∙ same_form (richest_unit records None (without_unit u (filter (may_take affinity ask.home.0 ask.core.0 records) queue)))
   where
-    same_form : (o : Option UnitId) → credit_or_0 records o ≡ elim o as (λ _. ℤ) [ None ↦ pos 0 | Some w ↦ credit_of records w ]
+    same_form : (o : Option UnitId) → credit_or_0 records o ≡ elim o as (λ _. ℤ) [ None ↦ pos 0 | Some w ↦ unit_credit records w ]
     same_form None = refl
     same_form (Some w) = refl

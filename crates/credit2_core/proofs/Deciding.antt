@@ -7,8 +7,8 @@ use Rattle.sched_model.specs.declared.state.Scheduler.{Scheduler}
 use Rattle.sched_model.specs.declared.state.Credit2Unit.{Credit2Unit}
 use Rattle.sched_model.specs.declared.state.Credit2Records.{Credit2Records}
 use Rattle.sched_model.specs.declared.state.Records.TheVariants.{Credit2Pool}
-use Rattle.sched_model.specs.Places.{has_unit}
-use Rattle.sched_model.specs.Credit2.{burn_all, burn_cur, reset, switch_off, choice, decide, domain_has_budget}
+use Rattle.sched_model.specs.Places.{has_listed_unit}
+use Rattle.sched_model.specs.Credit2.{burn_all, own_burned_records, reset_records, off_records, credit2_choice, credit2_decision_for, has_domain_budget}
 use Rattle.sched_model.specs.Policy.{decision_by}
 use Rattle.scheduler_records.specs.Parts.{credit2_scheduler}
 use Rattle.sched_laws.proofs.EachPlace.{length_change_each}
@@ -20,7 +20,7 @@ use Rattle.runq.specs.Queue.{Queue}
 use Rattle.queue_laws.specs.Arrivals.{arrivals}
 use Rattle.credit2_core.specs.declared.state.Credit2State.{Credit2State}
 use Rattle.credit2_core.specs.Choice.{records_after_run}
-use Rattle.sched_ops.specs.Affinity.{count_at, is_member_among}
+use Rattle.sched_ops.specs.Affinity.{joined_unit_count, is_member_among}
 use Rattle.credit2_core.specs.Credit2State.{IsSound, IsLineOf, IsSameRoom, scheduler_in}
 use Rattle.credit2_core.proofs.Lists.{each_has}
 use Rattle.credit2_core.proofs.Members.{count_there, waits_off}
@@ -28,14 +28,14 @@ use Rattle.credit2_core.proofs.Ranges.{Few, range_later, range_idle, range_ran}
 use Rattle.credit2_core.proofs.Same.{alike_burn_cur, alike_switch_off, alike_ran}
 use Rattle.std.proofs.lemmas.Bool.{ltb-true}
 
-pub length_reset : (t k : ℕ) (records : Credit2Records) → length (reset t k records).domains ≡ length records.domains
+pub length_reset : (t k : ℕ) (records : Credit2Records) → length (reset_records t k records).domains ≡ length records.domains
 length_reset t zero records = refl
 length_reset t (suc k) records = length_change_each 0 _ (burn_all t records).domains ∙ length_change_each 0 _ records.domains
 
 -- the core idles
-pub sound_idle : (h : Credit2State) (ask : Ask) → IsSound h → h.latest ≤ ask.at.0 → IsLineOf h.affinity (switch_off ask.cur (burn_cur ask.cur ask.at.0 h.records)) h.queue.units → IsSound (record h { records = switch_off ask.cur (burn_cur ask.cur ask.at.0 h.records); latest = ask.at.0 })
+pub sound_idle : (h : Credit2State) (ask : Ask) → IsSound h → h.latest ≤ ask.at.0 → IsLineOf h.affinity (off_records ask.cur (own_burned_records ask.cur ask.at.0 h.records)) h.queue.units → IsSound (record h { records = off_records ask.cur (own_burned_records ask.cur ask.at.0 h.records); latest = ask.at.0 })
 sound_idle h ask sound past line =
-    let burned : Credit2Records = burn_cur ask.cur ask.at.0 h.records in
+    let burned : Credit2Records = own_burned_records ask.cur ask.at.0 h.records in
     let one = alike_burn_cur ask.cur ask.at.0 h.records in
     let two = alike_switch_off ask.cur burned in
     record {
@@ -50,22 +50,22 @@ sound_idle h ask sound past line =
     }
 
 -- the choice is the core's own unit, or one that waits
-pub choice_from : (ask : Ask) (scheduler : Scheduler) (records : Credit2Records) (u : UnitId) → scheduler.records ≡ Credit2Pool records → choice ask scheduler (burn_cur ask.cur ask.at.0 records) ≡ Some u → (ask.cur ≡ Some u) ⊎ (has_unit scheduler.queue u ≡ true)
+pub choice_from : (ask : Ask) (scheduler : Scheduler) (records : Credit2Records) (u : UnitId) → scheduler.records ≡ Credit2Pool records → credit2_choice ask scheduler (own_burned_records ask.cur ask.at.0 records) ≡ Some u → (ask.cur ≡ Some u) ⊎ (has_listed_unit scheduler.queue u ≡ true)
 choice_from ask scheduler records u own is =
-    let P : UnitId → Type 0 = λ w. (ask.cur ≡ Some w) ⊎ (has_unit scheduler.queue w ≡ true) in
+    let P : UnitId → Type 0 = λ w. (ask.cur ≡ Some w) ⊎ (has_listed_unit scheduler.queue w ≡ true) in
     let all : IfUnit P (decision_by scheduler.records ask scheduler).unit = decision_has P ask scheduler (each_has scheduler.queue P (λ w there. inr there)) (λ w cur runs. inl cur) in
-    let burned : Credit2Records = burn_cur ask.cur ask.at.0 records in
-    let chosen : IfUnit P (decide ask scheduler burned (choice ask scheduler burned)).unit = subst (λ r. IfUnit P (decision_by r ask scheduler).unit) own all in
-    subst (λ (o : Option UnitId). IfUnit P (decide ask scheduler burned o).unit) is chosen
+    let burned : Credit2Records = own_burned_records ask.cur ask.at.0 records in
+    let chosen : IfUnit P (credit2_decision_for ask scheduler burned (credit2_choice ask scheduler burned)).unit = subst (λ r. IfUnit P (decision_by r ask scheduler).unit) own all in
+    subst (λ (o : Option UnitId). IfUnit P (credit2_decision_for ask scheduler burned o).unit) is chosen
 
 -- the core runs the chosen unit
-pub sound_ran : (h : Credit2State) (ask : Ask) (u : UnitId) (k : ℕ) (q : Queue) → IsSound h → h.latest ≤ ask.at.0 → IsOwnOf (scheduler_in h) ask.cur → choice ask (credit2_scheduler (arrivals h.queue.units) h.affinity (burn_cur ask.cur ask.at.0 h.records)) (burn_cur ask.cur ask.at.0 h.records) ≡ Some u
-    → IsLineOf h.affinity (records_after_run ask.cur ask.at.0 k u (burn_cur ask.cur ask.at.0 h.records)) q.units → IsSameRoom h.queue q → IsSound (record h { records = records_after_run ask.cur ask.at.0 k u (burn_cur ask.cur ask.at.0 h.records); queue = q; latest = ask.at.0 })
+pub sound_ran : (h : Credit2State) (ask : Ask) (u : UnitId) (k : ℕ) (q : Queue) → IsSound h → h.latest ≤ ask.at.0 → IsOwnOf (scheduler_in h) ask.cur → credit2_choice ask (credit2_scheduler (arrivals h.queue.units) h.affinity (own_burned_records ask.cur ask.at.0 h.records)) (own_burned_records ask.cur ask.at.0 h.records) ≡ Some u
+    → IsLineOf h.affinity (records_after_run ask.cur ask.at.0 k u (own_burned_records ask.cur ask.at.0 h.records)) q.units → IsSameRoom h.queue q → IsSound (record h { records = records_after_run ask.cur ask.at.0 k u (own_burned_records ask.cur ask.at.0 h.records); queue = q; latest = ask.at.0 })
 sound_ran h ask u k q sound past own is line room =
-    let burned : Credit2Records = burn_cur ask.cur ask.at.0 h.records in
-    let chosen : choice ask (scheduler_in h) burned ≡ Some u = is in
-    let from : (ask.cur ≡ Some u) ⊎ (has_unit (arrivals h.queue.units) u ≡ true) = choice_from ask (scheduler_in h) h.records u refl chosen in
-    let pays : domain_has_budget burned u ≡ true = subst (IfUnit (λ w. domain_has_budget burned w ≡ true)) chosen (choice_pays ask.at.0 Few ask (scheduler_in h) burned) in
+    let burned : Credit2Records = own_burned_records ask.cur ask.at.0 h.records in
+    let chosen : credit2_choice ask (scheduler_in h) burned ≡ Some u = is in
+    let from : (ask.cur ≡ Some u) ⊎ (has_listed_unit (arrivals h.queue.units) u ≡ true) = choice_from ask (scheduler_in h) h.records u refl chosen in
+    let pays : has_domain_budget burned u ≡ true = subst (IfUnit (λ w. has_domain_budget burned w ≡ true)) chosen (choice_pays ask.at.0 Few ask (scheduler_in h) burned) in
     let joined : is_member_among h.affinity u ≡ true = elim from [ inl cur ↦ (own u cur).member | inr waits ↦ at_unit (λ w. is_member_among h.affinity w ≡ true) u (arrivals h.queue.units) waits sound.line.joined ] in
     let off : (ask.cur ≡ Some u) ⊎ ((y : Credit2Unit) → unit_rec h.records u ≡ Some y → y.burned ≡ None) = elim from [ inl cur ↦ inl cur | inr waits ↦ inr (waits_off (arrivals h.queue.units) h.records u sound.line.off waits) ] in
     let one = alike_burn_cur ask.cur ask.at.0 h.records in
@@ -74,7 +74,7 @@ sound_ran h ask u k q sound past own is line room =
     let same = room.room in
     record {
       range = range_ran ask (scheduler_in h) h.records u k pays
-          (λ x at. (let low = ltb-true u.n (count_at h.affinity u.dom.0) joined in let e = count_there h.affinity h.records.domains u.dom.0 x sound.counts at in omega (arith, low, e)))
+          (λ x at. (let low = ltb-true u.n (joined_unit_count h.affinity u.dom.0) joined in let e = count_there h.affinity h.records.domains u.dom.0 x sound.counts at in omega (arith, low, e)))
           off (range_later h.latest ask.at.0 h.records past sound.range);
       counts = sound.counts ∙ sym (two.counts ∙ one.counts);
       line = line;

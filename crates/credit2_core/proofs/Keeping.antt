@@ -5,7 +5,7 @@ use Rattle.std.specs.List.{AllByRecursion, list_any}
 use Rattle.std.specs.Option.{ForSome}
 use Rattle.std.proofs.Math.Decide.{ℕ_discrete}
 use Rattle.std.proofs.lemmas.List.{get_or-replicate, length-replicate, length-map}
-use Rattle.sched_base.specs.Numbers.{core_set, domain, has_come}
+use Rattle.sched_base.specs.Numbers.{core_set, domain, has_moment_come}
 use Rattle.unit_places.specs.Masks.{mask_of}
 use Rattle.sched_base.specs.declared.Cores.{Cores}
 use Rattle.sched_base.specs.declared.Moment.{Moment}
@@ -15,11 +15,11 @@ use Rattle.sched_model.specs.declared.state.Credit2Unit.{Credit2Unit}
 use Rattle.sched_model.specs.declared.state.Credit2Domain.{Credit2Domain}
 use Rattle.sched_model.specs.declared.state.Credit2Records.{Credit2Records}
 use Rattle.sched_model.specs.declared.state.Records.TheVariants.{Credit2Pool}
-use Rattle.sched_model.specs.Places.{at_place, put_at, clear_at, change_at, has_unit}
+use Rattle.sched_model.specs.Places.{at_place, put_at, clear_at, change_at, has_listed_unit}
 use Rattle.sched_model.specs.CheckedMachine.{IsWithin}
-use Rattle.sched_model.specs.EligibleUnits.{cores_of}
-use Rattle.sched_model.specs.Policy.{next_refill, pinned_cores as pinned}
-use Rattle.sched_model.specs.Credit2.{max_weight, credit_of, refill_domain, refilled_pool, set_weight, set_cap, set_domain, change_domain, fresh_domain}
+use Rattle.sched_model.specs.EligibleUnits.{unit_cores}
+use Rattle.sched_model.specs.Policy.{next_refill_moment, pinned_cores as pinned}
+use Rattle.sched_model.specs.Credit2.{most_weight, unit_credit, domain_after_refill, refilled_pool, domain_with_weight, domain_with_cap, records_with_terms, change_domain, fresh_credit2_domain}
 use Rattle.sched_base.proofs.Bools.{clash}
 use Rattle.sched_laws.proofs.Choices.{at_unit}
 use Rattle.sched_laws.proofs.EachPlace.{at_place-put_at, at_place-put_at_other, at_place-clear_at_other, at_place-clear_at, EachAt-put_at, EachAt-clear_at, EachPlace-empty, by_option, at_place-change_at}
@@ -41,7 +41,7 @@ use Rattle.queue_laws.proofs.Arrivals.{length-arrivals}
 use Rattle.credit2_core.specs.declared.state.Credit2State.{Credit2State}
 use Rattle.credit2_core.specs.Keys.{key_in}
 use Rattle.credit2_core.specs.Places.{set_counts, unit_counts, refill_of, refills_of}
-use Rattle.sched_ops.specs.Affinity.{count_all, count_at, is_member_among}
+use Rattle.sched_ops.specs.Affinity.{count_all, joined_unit_count, is_member_among}
 use Rattle.credit2_core.specs.Domains.{masked_cores, refreshed_cores}
 use Rattle.credit2_core.specs.Credit2State.{InRange, IsFree, IsSound, IsLineOf, AreMasks, scheduler_in, seen_in}
 use Rattle.credit2_core.proofs.Lists.{each_has, queued_have, length-placed}
@@ -80,14 +80,14 @@ keeps_line h sound = record {
 }
 
 -- one more waits
-pub sound_pushed : (h : Credit2State) (u : UnitId) → IsSound h → IsAway (scheduler_in h) u → IsOrdered h.queue.units → IsSound (record h { queue = after_insert h.queue u (neg_ℤ (credit_of h.records u)) }) × (0 < h.queue.spare)
+pub sound_pushed : (h : Credit2State) (u : UnitId) → IsSound h → IsAway (scheduler_in h) u → IsOrdered h.queue.units → IsSound (record h { queue = after_insert h.queue u (neg_ℤ (unit_credit h.records u)) }) × (0 < h.queue.spare)
 sound_pushed h u sound away ordered =
     let es : List Queued = h.queue.units in
     let small = joined_small h.latest h.records h.affinity u sound.range sound.counts away.member in
     let line = line_pushed h.affinity h.records u es ordered (omega (arith, small)) away.waits_not away.member (on_off h.records u away.off) sound.line in
     let grown = length-placed (record { unit = u; key = key_in h.records u; rank = length es }) es in
-    let few = no_more_wait h.affinity (arrivals (after_insert h.queue u (neg_ℤ (credit_of h.records u))).units) line.apart line.joined in
-    let all = length-arrivals (after_insert h.queue u (neg_ℤ (credit_of h.records u))).units in
+    let few = no_more_wait h.affinity (arrivals (after_insert h.queue u (neg_ℤ (unit_credit h.records u))).units) line.apart line.joined in
+    let all = length-arrivals (after_insert h.queue u (neg_ℤ (unit_credit h.records u))).units in
     let room = sound.room in
     let spare : 0 < h.queue.spare = omega (arith, grown, few, all, room) in (
       record {
@@ -104,7 +104,7 @@ sound_pushed h u sound away ordered =
     )
 
 -- the domain is refilled
-pub sound_refilled : (h : Credit2State) (d t : ℕ) → IsSound h → h.latest ≤ t → has_come t (next_refill (Credit2Pool h.records) d) ≡ true
+pub sound_refilled : (h : Credit2State) (d t : ℕ) → IsSound h → h.latest ≤ t → has_moment_come t (next_refill_moment (Credit2Pool h.records) d) ≡ true
     → IsSound (record h { records = refilled_pool t d h.records; refills = slice_set h.refills d (refill_of (at_place (refilled_pool t d h.records).domains d)); latest = t })
 sound_refilled h d t sound past come = record {
   range = range_refilled t d h.records come (range_later h.latest t h.records past sound.range);
@@ -112,29 +112,29 @@ sound_refilled h d t sound past come = record {
   line = line_refilled h.affinity t d h.records h.queue.units sound.line;
   masks = sound.masks;
   free = sound.free;
-  refills = ap (λ (rs : List (Option Moment)). slice_set rs d (refill_of (at_place (refilled_pool t d h.records).domains d))) sound.refills ∙ refills_written d (refill_domain (max_weight h.records) t) h.records.domains;
+  refills = ap (λ (rs : List (Option Moment)). slice_set rs d (refill_of (at_place (refilled_pool t d h.records).domains d))) sound.refills ∙ refills_written d (domain_after_refill (most_weight h.records) t) h.records.domains;
   room = sound.room;
   small = sound.small;
 }
 
 -- the domain has a new weight or cap
 pub sound_set_domain : (h : Credit2State) (d t : ℕ) (weight percent : Option ℕ) → IsSound h → h.latest ≤ t → ForSome weight IsWeight → ForSome percent IsCap
-    → IsSound (record h { records = set_domain t d weight percent h.records; refills = slice_set h.refills d (refill_of (at_place (set_domain t d weight percent h.records).domains d)); latest = t })
+    → IsSound (record h { records = records_with_terms t d weight percent h.records; refills = slice_set h.refills d (refill_of (at_place (records_with_terms t d weight percent h.records).domains d)); latest = t })
 sound_set_domain h d t weight percent sound past weighs caps =
-    let weighted : Credit2Records = change_domain d (set_weight weight) h.records in
-    let last : List (Option Credit2Domain) = (set_domain t d weight percent h.records).domains in
+    let weighted : Credit2Records = change_domain d (domain_with_weight weight) h.records in
+    let last : List (Option Credit2Domain) = (records_with_terms t d weight percent h.records).domains in
     record {
       range = range_set_domain t d weight percent h.records (if_some weight (IsWithin 1 65535) weighs) (if_some percent (λ (c : ℕ). c ≤ 6400) caps) (range_later h.latest t h.records past sound.range);
       counts = sound.counts ∙ sym (counts_set_domain t d weight percent h.records);
-      line = line_records h.affinity h.records (set_domain t d weight percent h.records) h.queue.units (idle_set_domain t d weight percent h.records) (r_set_domain t (IsElsewhere (arrivals h.queue.units)) d weight percent h.records sound.line.off) sound.line;
+      line = line_records h.affinity h.records (records_with_terms t d weight percent h.records) h.queue.units (idle_set_domain t d weight percent h.records) (r_set_domain t (IsElsewhere (arrivals h.queue.units)) d weight percent h.records sound.line.off) sound.line;
       masks = sound.masks;
       free = sound.free;
-      refills = ap (λ (rs : List (Option Moment)). slice_set rs d (refill_of (at_place last d))) (sound.refills ∙ sym (refills_changed d (set_weight weight) h.records (weight_refill weight))) ∙ refills_written d (set_cap (max_weight weighted) t percent) weighted.domains;
+      refills = ap (λ (rs : List (Option Moment)). slice_set rs d (refill_of (at_place last d))) (sound.refills ∙ sym (refills_changed d (domain_with_weight weight) h.records (weight_refill weight))) ∙ refills_written d (domain_with_cap (most_weight weighted) t percent) weighted.domains;
       room = sound.room;
       small = sound.small;
     }
   where
-    weight_refill : (weight : Option ℕ) (x : Credit2Domain) → (set_weight weight x).refill ≡ x.refill
+    weight_refill : (weight : Option ℕ) (x : Credit2Domain) → (domain_with_weight weight x).refill ≡ x.refill
     weight_refill None x = refl
     weight_refill (Some w) x = refl
 
@@ -152,7 +152,7 @@ sound_limit h limit t last sound past low = record {
 }
 
 -- tables of as many units have as many units
-count_same : (a b : List (Option (List Cores))) (i : ℕ) → set_counts a ≡ set_counts b → count_at a i ≡ count_at b i
+count_same : (a b : List (Option (List Cores))) (i : ℕ) → set_counts a ≡ set_counts b → joined_unit_count a i ≡ joined_unit_count b i
 count_same [] [] i same = refl
 count_same [] (y ∷ b) i same = absurd cc
 count_same (x ∷ a) [] i same = absurd cc
@@ -190,10 +190,10 @@ masks_refreshed affinity next masks now d same written low are u joined =
     elsewhere None other = refl
     elsewhere (Some sets) other = (let e : (u.dom.0 == d) ≡ false = elim (cases_Bool (u.dom.0 == d)) [ inl is ↦ absurd (other (grind (arith, is))) | inr is ↦ is ] in rw e refl)
 
-    by_sets : (o : Option (List Cores)) → at_place next u.dom.0 ≡ o → is_member_among next u ≡ true → u.dom.0 ≡ d → elim o as (λ _. Cores) [ None ↦ mask_of masks u | Some sets ↦ masked_cores masks d sets (length sets) u ] ≡ core_set (cores_of next u)
+    by_sets : (o : Option (List Cores)) → at_place next u.dom.0 ≡ o → is_member_among next u ≡ true → u.dom.0 ≡ d → elim o as (λ _. Cores) [ None ↦ mask_of masks u | Some sets ↦ masked_cores masks d sets (length sets) u ] ≡ core_set (unit_cores next u)
     by_sets None is joined here = absurd (
-        let l = ltb-true u.n (count_at next u.dom.0) joined in
-        let z : count_at next u.dom.0 ≡ 0 = ap (λ (p : Option (List Cores)). elim p as (λ _. ℕ) [ None ↦ 0 | Some sets ↦ length sets ]) is in
+        let l = ltb-true u.n (joined_unit_count next u.dom.0) joined in
+        let z : joined_unit_count next u.dom.0 ≡ 0 = ap (λ (p : Option (List Cores)). elim p as (λ _. ℕ) [ None ↦ 0 | Some sets ↦ length sets ]) is in
         omega (arith, l, z))
     by_sets (Some sets) is joined here =
         let a : (u.dom.0 == d) ≡ true = eq-eqb u.dom.0 d here in
@@ -208,7 +208,7 @@ length_pinned (Some n) cores sets = length_change_item n _ sets
 
 -- the sets of cores of one domain change, of which each unit may have all cores then
 free_elsewhere : (unpinned : Bool) (affinity next : List (Option (List Cores))) (d : ℕ) → ((e : ℕ) → e ≢ d → at_place next e ≡ at_place affinity e)
-    → ((n : ℕ) → nat_lt n (count_at next d) ≡ true → elim (at_place next d) as (λ _. ℕ) [ None ↦ 0 | Some s ↦ (slice_index_or s n (core_set 0)).0 ] ≡ 2 ^ 64 - 1) → IsFree unpinned affinity → IsFree unpinned next
+    → ((n : ℕ) → nat_lt n (joined_unit_count next d) ≡ true → elim (at_place next d) as (λ _. ℕ) [ None ↦ 0 | Some s ↦ (slice_index_or s n (core_set 0)).0 ] ≡ 2 ^ 64 - 1) → IsFree unpinned affinity → IsFree unpinned next
 free_elsewhere unpinned affinity next d same all free = record {
   all = λ is u joined. elim (ℕ_discrete u.dom.0 d) [
     | yes here ↦ (
@@ -237,21 +237,21 @@ free_pinned : (unpinned : Bool) (affinity : List (Option (List Cores))) (d : ℕ
 free_pinned false affinity d unit cores free = record { all = λ is u joined. absurd cc }
 free_pinned true affinity d unit cores free = record { all = λ is. (free_elsewhere true affinity (change_at d (pinned unit cores) affinity) d (λ e other. at_place-change_at_other d e (pinned unit cores) affinity other) (each (grind (arith, is)) (at_place affinity d) refl) free).all refl }
   where
-    each : cores.0 ≡ 2 ^ 64 - 1 → (o : Option (List Cores)) → at_place affinity d ≡ o → (n : ℕ) → nat_lt n (count_at (change_at d (pinned unit cores) affinity) d) ≡ true
+    each : cores.0 ≡ 2 ^ 64 - 1 → (o : Option (List Cores)) → at_place affinity d ≡ o → (n : ℕ) → nat_lt n (joined_unit_count (change_at d (pinned unit cores) affinity) d) ≡ true
         → elim (at_place (change_at d (pinned unit cores) affinity) d) as (λ _. ℕ) [ None ↦ 0 | Some s ↦ (slice_index_or s n (core_set 0)).0 ] ≡ 2 ^ 64 - 1
     each all None at n joined =
         let there : at_place (change_at d (pinned unit cores) affinity) d ≡ None = at_place-change_at d (pinned unit cores) affinity ∙ ap (option_map (pinned unit cores)) at in
-        let l = ltb-true n (count_at (change_at d (pinned unit cores) affinity) d) joined in
-        let z : count_at (change_at d (pinned unit cores) affinity) d ≡ 0 = ap (λ (p : Option (List Cores)). elim p as (λ _. ℕ) [ None ↦ 0 | Some s ↦ length s ]) there in
+        let l = ltb-true n (joined_unit_count (change_at d (pinned unit cores) affinity) d) joined in
+        let z : joined_unit_count (change_at d (pinned unit cores) affinity) d ≡ 0 = ap (λ (p : Option (List Cores)). elim p as (λ _. ℕ) [ None ↦ 0 | Some s ↦ length s ]) there in
         absurd (omega (arith, l, z))
     each all (Some sets) at n joined =
         let there : at_place (change_at d (pinned unit cores) affinity) d ≡ Some (pinned unit cores sets) = at_place-change_at d (pinned unit cores) affinity ∙ ap (option_map (pinned unit cores)) at in
-        let l = ltb-true n (count_at (change_at d (pinned unit cores) affinity) d) joined in
-        let z : count_at (change_at d (pinned unit cores) affinity) d ≡ length (pinned unit cores sets) = ap (λ (p : Option (List Cores)). elim p as (λ _. ℕ) [ None ↦ 0 | Some s ↦ length s ]) there in
+        let l = ltb-true n (joined_unit_count (change_at d (pinned unit cores) affinity) d) joined in
+        let z : joined_unit_count (change_at d (pinned unit cores) affinity) d ≡ length (pinned unit cores sets) = ap (λ (p : Option (List Cores)). elim p as (λ _. ℕ) [ None ↦ 0 | Some s ↦ length s ]) there in
         let same = length_pinned unit cores sets in
         let low : n < length sets = omega (arith, l, z, same) in
         let u : UnitId = record { dom = domain d; n = n } in
-        let here : nat_lt n (count_at affinity d) ≡ true = subst (λ (o : Option (List Cores)). nat_lt n (elim o as (λ _. ℕ) [ None ↦ 0 | Some s ↦ length s ]) ≡ true) (sym at) (lt-ltb n (length sets) low) in
+        let here : nat_lt n (joined_unit_count affinity d) ≡ true = subst (λ (o : Option (List Cores)). nat_lt n (elim o as (λ _. ℕ) [ None ↦ 0 | Some s ↦ length s ]) ≡ true) (sym at) (lt-ltb n (length sets) low) in
         let was : (slice_index_or sets n (core_set 0)).0 ≡ 2 ^ 64 - 1 = sym (ap (λ (o : Option (List Cores)). elim o as (λ _. ℕ) [ None ↦ 0 | Some s ↦ (slice_index_or s n (core_set 0)).0 ]) at) ∙ free.all refl u here in
         ap (λ (o : Option (List Cores)). elim o as (λ _. ℕ) [ None ↦ 0 | Some s ↦ (slice_index_or s n (core_set 0)).0 ]) there ∙ pinned_all unit cores sets n all low was
 
@@ -284,19 +284,19 @@ sound_pinned h d t unit cores now sound past written =
 
 -- one place changes, of which no unit waits
 line_elsewhere : (affinity next : List (Option (List Cores))) (records after : Credit2Records) (d : ℕ) (es : List Queued) → ((e : ℕ) → e ≢ d → at_place next e ≡ at_place affinity e) → ((e : ℕ) → e ≢ d → at_place after.domains e ≡ at_place records.domains e)
-    → ((u : UnitId) → has_unit (arrivals es) u ≡ true → u.dom.0 ≢ d) → AllRunOnly (IsElsewhere (arrivals es)) after → IsLineOf affinity records es → IsLineOf next after es
+    → ((u : UnitId) → has_listed_unit (arrivals es) u ≡ true → u.dom.0 ≢ d) → AllRunOnly (IsElsewhere (arrivals es)) after → IsLineOf affinity records es → IsLineOf next after es
 line_elsewhere affinity next records after d es sets places other only line = record {
   apart = line.apart;
   joined = each_has (arrivals es) (λ u. is_member_among next u ≡ true)
       (λ u there. subst (λ (o : Option (List Cores)). nat_lt u.n (elim o as (λ _. ℕ) [ None ↦ 0 | Some s ↦ length s ]) ≡ true) (sym (sets u.dom.0 (other u there))) (at_unit (λ w. is_member_among affinity w ≡ true) u (arrivals es) there line.joined));
   indices = line.indices;
-  keys = each_keeps records after es (queued_have (λ (u : UnitId). credit_of after u ≡ credit_of records u) es (each_has (arrivals es) (λ u. credit_of after u ≡ credit_of records u)
+  keys = each_keeps records after es (queued_have (λ (u : UnitId). unit_credit after u ≡ unit_credit records u) es (each_has (arrivals es) (λ u. unit_credit after u ≡ unit_credit records u)
       (λ u there. ap (λ (o : Option Credit2Domain). elim o as (λ _. ℤ) [ None ↦ pos 0 | Some x ↦ elim (slice_get x.units u.n) as (λ _. ℤ) [ None ↦ pos 0 | Some y ↦ y.credit ] ]) (places u.dom.0 (other u there))))) line.keys;
   off = only;
 }
 
 -- the domain parts
-pub sound_parted : (h : Credit2State) (d k : ℕ) → IsSound h → HasNoneBusy (scheduler_in h) d → k ≡ count_at h.affinity d
+pub sound_parted : (h : Credit2State) (d k : ℕ) → IsSound h → HasNoneBusy (scheduler_in h) d → k ≡ joined_unit_count h.affinity d
     → IsSound (record h { records = record h.records { domains = clear_at d h.records.domains }; affinity = clear_at d h.affinity; refills = slice_set h.refills d (refill_of (at_place (clear_at d h.records.domains) d)); spare = h.spare + k })
 sound_parted h d k sound idle is =
     let after : Credit2Records = record h.records { domains = clear_at d h.records.domains } in
@@ -307,14 +307,14 @@ sound_parted h d k sound idle is =
       range = range_parted h.latest d h.records sound.range;
       counts = map-set (λ (o : Option (List Cores)). option_map length o) d None h.affinity ∙ ap (λ (ks : List (Option ℕ)). slice_set ks d None) sound.counts ∙ sym (map-set (λ (o : Option Credit2Domain). option_map (λ (x : Credit2Domain). length x.units) o) d None h.records.domains);
       line = line_elsewhere h.affinity (clear_at d h.affinity) h.records after d h.queue.units (λ e other. at_place-clear_at_other d e h.affinity other) (λ e other. at_place-clear_at_other d e h.records.domains other)
-          (λ u there same. clash (has_unit (arrivals h.queue.units) u) there (idle.waiting u same)) (EachAt-clear_at (λ e (x : Credit2Domain). RunsOnly (IsElsewhere (arrivals h.queue.units) e) x.units) d h.records.domains sound.line.off) sound.line;
+          (λ u there same. clash (has_listed_unit (arrivals h.queue.units) u) there (idle.waiting u same)) (EachAt-clear_at (λ e (x : Credit2Domain). RunsOnly (IsElsewhere (arrivals h.queue.units) e) x.units) d h.records.domains sound.line.off) sound.line;
       masks = λ u joined. (
-          let other : u.dom.0 ≢ d = λ e. (let l = ltb-true u.n (count_at (clear_at d h.affinity) u.dom.0) joined in let z : count_at (clear_at d h.affinity) u.dom.0 ≡ 0 = ap (λ (p : Option (List Cores)). elim p as (λ _. ℕ) [ None ↦ 0 | Some s ↦ length s ]) (subst (λ j. at_place (clear_at d h.affinity) j ≡ None) (sym e) (at_place-clear_at d h.affinity)) in omega (arith, l, z)) in
+          let other : u.dom.0 ≢ d = λ e. (let l = ltb-true u.n (joined_unit_count (clear_at d h.affinity) u.dom.0) joined in let z : joined_unit_count (clear_at d h.affinity) u.dom.0 ≡ 0 = ap (λ (p : Option (List Cores)). elim p as (λ _. ℕ) [ None ↦ 0 | Some s ↦ length s ]) (subst (λ j. at_place (clear_at d h.affinity) j ≡ None) (sym e) (at_place-clear_at d h.affinity)) in omega (arith, l, z)) in
           let place : at_place (clear_at d h.affinity) u.dom.0 ≡ at_place h.affinity u.dom.0 = at_place-clear_at_other d u.dom.0 h.affinity other in
           sound.masks u (subst (λ (o : Option (List Cores)). nat_lt u.n (elim o as (λ _. ℕ) [ None ↦ 0 | Some s ↦ length s ]) ≡ true) place joined)
           ∙ ap (λ (o : Option (List Cores)). core_set (elim o as (λ _. ℕ) [ None ↦ 0 | Some s ↦ (slice_index_or s u.n (core_set 0)).0 ])) (sym place));
       free = free_elsewhere h.unpinned h.affinity (clear_at d h.affinity) d (λ e other. at_place-clear_at_other d e h.affinity other)
-          (λ n joined. absurd (let l = ltb-true n (count_at (clear_at d h.affinity) d) joined in let z : count_at (clear_at d h.affinity) d ≡ 0 = ap (λ (p : Option (List Cores)). elim p as (λ _. ℕ) [ None ↦ 0 | Some s ↦ length s ]) (at_place-clear_at d h.affinity) in omega (arith, l, z))) sound.free;
+          (λ n joined. absurd (let l = ltb-true n (joined_unit_count (clear_at d h.affinity) d) joined in let z : joined_unit_count (clear_at d h.affinity) d ≡ 0 = ap (λ (p : Option (List Cores)). elim p as (λ _. ℕ) [ None ↦ 0 | Some s ↦ length s ]) (at_place-clear_at d h.affinity) in omega (arith, l, z))) sound.free;
       refills = ap (λ (rs : List (Option Moment)). slice_set rs d (refill_of (at_place (clear_at d h.records.domains) d))) sound.refills ∙ refills_put d None h.records.domains;
       room = omega (arith, room, all, is);
       small = omega (arith, small, all, is);
@@ -329,18 +329,18 @@ replicate_get (suc k) (suc n) x y at = replicate_get k n x y at
 pub sound_joined : (h : Credit2State) (d weight percent count t : ℕ) (sets now : List Cores) → IsSound h → d < length h.affinity → at_place h.affinity d ≡ None → count ≤ 32 → count ≤ h.spare → IsWithin 1 65535 weight → percent ≤ 6400 → h.latest ≤ t
     → sets ≡ replicate count (core_set (2 ^ 64 - 1)) → ((u : UnitId) → u.n < 256 → mask_of now u ≡ refreshed_cores h.masks (put_at d sets h.affinity) d u)
     → IsSound (record {
-      records = record h.records { domains = put_at d (fresh_domain weight percent count t) h.records.domains };
+      records = record h.records { domains = put_at d (fresh_credit2_domain weight percent count t) h.records.domains };
       affinity = put_at d sets h.affinity;
       queue = h.queue;
       masks = now;
-      refills = slice_set h.refills d (refill_of (at_place (put_at d (fresh_domain weight percent count t) h.records.domains) d));
+      refills = slice_set h.refills d (refill_of (at_place (put_at d (fresh_credit2_domain weight percent count t) h.records.domains) d));
       spare = h.spare - count;
       latest = t;
       unpinned = h.unpinned;
     })
 sound_joined h d weight percent count t sets now sound inside absent few fits within low past each written =
     let long : length sets ≡ count = ap length each ∙ length-replicate count (core_set (2 ^ 64 - 1)) in
-    let fresh : Credit2Domain = fresh_domain weight percent count t in
+    let fresh : Credit2Domain = fresh_credit2_domain weight percent count t in
     let new : Credit2Unit = record { credit = pos start_credit; residual = 0; held = pos 0; burned = None } in
     let after : Credit2Records = record h.records { domains = put_at d fresh h.records.domains } in
     let next : List (Option (List Cores)) = put_at d sets h.affinity in
@@ -360,8 +360,8 @@ sound_joined h d weight percent count t sets now sound inside absent few fits wi
       line = line_elsewhere h.affinity next h.records after d h.queue.units (λ e other. at_place-put_at_other d e sets h.affinity other) (λ e other. at_place-put_at_other d e fresh h.records.domains other)
           (λ u there same. (
           let joined = at_unit (λ w. is_member_among h.affinity w ≡ true) u (arrivals h.queue.units) there sound.line.joined in
-          let l = ltb-true u.n (count_at h.affinity u.dom.0) joined in
-          let z : count_at h.affinity u.dom.0 ≡ 0 = ap (λ (p : Option (List Cores)). elim p as (λ _. ℕ) [ None ↦ 0 | Some s ↦ length s ]) (subst (λ j. at_place h.affinity j ≡ None) (sym same) absent) in
+          let l = ltb-true u.n (joined_unit_count h.affinity u.dom.0) joined in
+          let z : joined_unit_count h.affinity u.dom.0 ≡ 0 = ap (λ (p : Option (List Cores)). elim p as (λ _. ℕ) [ None ↦ 0 | Some s ↦ length s ]) (subst (λ j. at_place h.affinity j ≡ None) (sym same) absent) in
           omega (arith, l, z)))
           (EachAt-put_at (λ e (x : Credit2Domain). RunsOnly (IsElsewhere (arrivals h.queue.units) e) x.units) d fresh h.records.domains sound.line.off (λ n y at. inl (subst (λ (z : Credit2Unit). z.burned ≡ None) (replicate_get count n new y at) refl))) sound.line;
       masks = masks_refreshed h.affinity next h.masks now d (λ e other. at_place-put_at_other d e sets h.affinity other) written (λ u joined. (let l = joined_small t after next u range counts joined in omega (arith, l))) sound.masks;
@@ -394,8 +394,8 @@ all_empty_too (None ∷ affinity) (Some d ∷ domains) same none = absurd cc
 nobody_waits : (affinity : List (Option (List Cores))) (units : List UnitId) → affinity ≡ replicate (length affinity) None → AllByRecursion (λ u. is_member_among affinity u ≡ true) units → units ≡ []
 nobody_waits affinity [] empty joined = refl
 nobody_waits affinity (u ∷ units) empty joined = absurd (
-    let l = ltb-true u.n (count_at affinity u.dom.0) joined.0 in
-    let z : count_at affinity u.dom.0 ≡ 0 = ap (λ (a : List (Option (List Cores))). count_at a u.dom.0) empty ∙ count_at-empty (length affinity) u.dom.0 in
+    let l = ltb-true u.n (joined_unit_count affinity u.dom.0) joined.0 in
+    let z : joined_unit_count affinity u.dom.0 ≡ 0 = ap (λ (a : List (Option (List Cores))). joined_unit_count a u.dom.0) empty ∙ count_at-empty (length affinity) u.dom.0 in
     omega (arith, l, z))
 
 -- a pool that no domain has joined begins anew
@@ -432,8 +432,8 @@ sound_fresh n units latest masks few small =
       };
       counts = empty_counts n;
       line = record { apart = tt; joined = tt; indices = tt; keys = tt; off = λ d x at. EachPlace-empty (λ (y : Credit2Domain). RunsOnly (IsElsewhere [] d) y.units) n d x at };
-      masks = λ u joined. absurd (let l = ltb-true u.n (count_at (replicate n None) u.dom.0) joined in let z = count_at-empty n u.dom.0 in omega (arith, l, z));
-      free = record { all = λ free u joined. absurd (let l = ltb-true u.n (count_at (replicate n None) u.dom.0) joined in let z = count_at-empty n u.dom.0 in omega (arith, l, z)) };
+      masks = λ u joined. absurd (let l = ltb-true u.n (joined_unit_count (replicate n None) u.dom.0) joined in let z = count_at-empty n u.dom.0 in omega (arith, l, z));
+      free = record { all = λ free u joined. absurd (let l = ltb-true u.n (joined_unit_count (replicate n None) u.dom.0) joined in let z = count_at-empty n u.dom.0 in omega (arith, l, z)) };
       refills = empty_refills n;
       room = omega (arith, all);
       small = omega (arith, all, small);
@@ -449,8 +449,8 @@ sound_unpinned h sound vacant = record {
   free = record {
     all = λ is u joined. absurd (
         let none : list_any is_some h.affinity ≡ false = not-true (list_any is_some h.affinity) vacant in
-        let l = ltb-true u.n (count_at h.affinity u.dom.0) joined in
-        let z : count_at h.affinity u.dom.0 ≡ 0 = ap (λ (a : List (Option (List Cores))). count_at a u.dom.0) (all_empty h.affinity none) ∙ count_at-empty (length h.affinity) u.dom.0 in
+        let l = ltb-true u.n (joined_unit_count h.affinity u.dom.0) joined in
+        let z : joined_unit_count h.affinity u.dom.0 ≡ 0 = ap (λ (a : List (Option (List Cores))). joined_unit_count a u.dom.0) (all_empty h.affinity none) ∙ count_at-empty (length h.affinity) u.dom.0 in
         omega (arith, l, z));
   };
   refills = sound.refills;

@@ -7,8 +7,8 @@ use Rattle.sched_base.specs.Numbers.{domain}
 use Rattle.sched_base.specs.declared.Cores.{Cores}
 use Rattle.sched_base.specs.declared.UnitId.{UnitId}
 use Rattle.sched_model.specs.declared.state.Credit2Records.{Credit2Records}
-use Rattle.sched_model.specs.Places.{has_unit, without_unit, same_unit}
-use Rattle.sched_model.specs.Credit2.{burn_cur, reset, take_budget, change_domain, set_running, switch_off, refilled_pool}
+use Rattle.sched_model.specs.Places.{has_listed_unit, without_unit, same_unit}
+use Rattle.sched_model.specs.Credit2.{own_burned_records, reset_records, domain_after_take, change_domain, running_records, off_records, refilled_pool}
 use Rattle.sched_base.proofs.Lists.{AllByRecursion-push, AllByRecursion-filter}
 use Rattle.sched_laws.proofs.Choices.{same_unit_same}
 use Rattle.sched_laws.proofs.Counts.{without_absent}
@@ -48,24 +48,24 @@ module _ (affinity : List (Option (List Cores))) where
     off = subst (λ (units : List UnitId). AllRunOnly (IsElsewhere units) next) (sym order) only;
   }
 
-  pub line_burn_cur : (cur : Option UnitId) (t : ℕ) (records : Credit2Records) (es : List Queued) → IsLineOf affinity records es → IsLineOf affinity (burn_cur cur t records) es
-  line_burn_cur cur t records es line = line_records records (burn_cur cur t records) es (idle_burn_cur cur t records) (r_burn_cur t (IsElsewhere (arrivals es)) cur records line.off) line
+  pub line_burn_cur : (cur : Option UnitId) (t : ℕ) (records : Credit2Records) (es : List Queued) → IsLineOf affinity records es → IsLineOf affinity (own_burned_records cur t records) es
+  line_burn_cur cur t records es line = line_records records (own_burned_records cur t records) es (idle_burn_cur cur t records) (r_burn_cur t (IsElsewhere (arrivals es)) cur records line.off) line
 
-  pub line_take : (u : UnitId) (records : Credit2Records) (es : List Queued) → IsLineOf affinity records es → IsLineOf affinity (change_domain u.dom.0 (take_budget u.n) records) es
-  line_take u records es line = line_records records (change_domain u.dom.0 (take_budget u.n) records) es (idle_take u records) (r_take 0 (IsElsewhere (arrivals es)) u records line.off) line
+  pub line_take : (u : UnitId) (records : Credit2Records) (es : List Queued) → IsLineOf affinity records es → IsLineOf affinity (change_domain u.dom.0 (domain_after_take u.n) records) es
+  line_take u records es line = line_records records (change_domain u.dom.0 (domain_after_take u.n) records) es (idle_take u records) (r_take 0 (IsElsewhere (arrivals es)) u records line.off) line
 
-  pub line_switch_off : (cur : Option UnitId) (records : Credit2Records) (es : List Queued) → IsLineOf affinity records es → IsLineOf affinity (switch_off cur records) es
+  pub line_switch_off : (cur : Option UnitId) (records : Credit2Records) (es : List Queued) → IsLineOf affinity records es → IsLineOf affinity (off_records cur records) es
   line_switch_off cur records es line =
-      line_records records (switch_off cur records) es (idle_switch_off cur records)
-      (run_weaker (λ d n. IsElsewhere (arrivals es) d n × (IsCur cur d n → ⊥)) (IsElsewhere (arrivals es)) (switch_off cur records) (λ d n on. on.0) (r_switch_off 0 (IsElsewhere (arrivals es)) cur records line.off)) line
+      line_records records (off_records cur records) es (idle_switch_off cur records)
+      (run_weaker (λ d n. IsElsewhere (arrivals es) d n × (IsCur cur d n → ⊥)) (IsElsewhere (arrivals es)) (off_records cur records) (λ d n on. on.0) (r_switch_off 0 (IsElsewhere (arrivals es)) cur records line.off)) line
 
-  pub line_set_running : (t : ℕ) (u : UnitId) (records : Credit2Records) (es : List Queued) → has_unit (arrivals es) u ≡ false → IsLineOf affinity records es → IsLineOf affinity (set_running (Some t) u records) es
+  pub line_set_running : (t : ℕ) (u : UnitId) (records : Credit2Records) (es : List Queued) → has_listed_unit (arrivals es) u ≡ false → IsLineOf affinity records es → IsLineOf affinity (running_records (Some t) u records) es
   line_set_running t u records es absent line =
-      line_records records (set_running (Some t) u records) es (idle_set_running (Some t) u records)
+      line_records records (running_records (Some t) u records) es (idle_set_running (Some t) u records)
       (r_set_running t (IsElsewhere (arrivals es)) (IsElsewhere (arrivals es)) u records (λ d n on. on) absent line.off) line
 
-  pub line_reset : (t k : ℕ) (records : Credit2Records) (es ds : List Queued) → arrivals ds ≡ arrivals es → HasCredits (reset t k records) ds → IsLineOf affinity records es → IsLineOf affinity (reset t k records) ds
-  line_reset t k records es ds order keys line = line_rekeyed records (reset t k records) es ds order keys (r_reset t (IsElsewhere (arrivals es)) k records line.off) line
+  pub line_reset : (t k : ℕ) (records : Credit2Records) (es ds : List Queued) → arrivals ds ≡ arrivals es → HasCredits (reset_records t k records) ds → IsLineOf affinity records es → IsLineOf affinity (reset_records t k records) ds
+  line_reset t k records es ds order keys line = line_rekeyed records (reset_records t k records) es ds order keys (r_reset t (IsElsewhere (arrivals es)) k records line.off) line
 
   pub line_refilled : (t d : ℕ) (records : Credit2Records) (es : List Queued) → IsLineOf affinity records es → IsLineOf affinity (refilled_pool t d records) es
   line_refilled t d records es line = line_records records (refilled_pool t d records) es (idle_refilled t d records) (r_refilled t (IsElsewhere (arrivals es)) d records line.off) line
@@ -94,15 +94,15 @@ module _ (affinity : List (Option (List Cores))) where
         room = record { room = (let fewer : length ds + 1 ≡ length es = shorter in omega (arith, fewer)) };
       }
     where
-      times_one : (units : List UnitId) → IsApart units → has_unit units u ≡ true → length (without_unit u units) + 1 ≡ length units
+      times_one : (units : List UnitId) → IsApart units → has_listed_unit units u ≡ true → length (without_unit u units) + 1 ≡ length units
       times_one [] apart has = absurd cc
       times_one (w ∷ units) apart has =
           elim (same_unit u w) as (λ b. same_unit u w ≡ b → length (cond (not b) (w ∷ without_unit u units) (without_unit u units)) + 1 ≡ length (w ∷ units)) [
-            | true ↦ λ is. (let e : without_unit u units ≡ units = without_absent u units (subst (λ (x : UnitId). has_unit units x ≡ false) (sym (same_unit_same u w is)) apart.0) in rw e (omega arith))
+            | true ↦ λ is. (let e : without_unit u units ≡ units = without_absent u units (subst (λ (x : UnitId). has_listed_unit units x ≡ false) (sym (same_unit_same u w is)) apart.0) in rw e (omega arith))
             | false ↦ λ is. (let r = times_one units apart.1 (rest is) in omega (arith, r))
           ] refl
         where
-          rest : same_unit u w ≡ false → has_unit units u ≡ true
+          rest : same_unit u w ≡ false → has_listed_unit units u ≡ true
           rest is = rw is at has
 
       shorter : length (map (closed_up (rank_in u old.units)) (list_without u old.units)) + 1 ≡ length old.units
@@ -126,7 +126,7 @@ module _ (affinity : List (Option (List Cores))) where
   line_left records u old new false ordered low answer when else line = subst (IsLeft records u old) (sym else) (kept records u old low (sym answer) line)
 
   -- one more waits
-  pub line_pushed : (records : Credit2Records) (u : UnitId) (es : List Queued) → IsOrdered es → u.n < 256 → has_unit (arrivals es) u ≡ false → is_member_among affinity u ≡ true → IsOff records u → IsLineOf affinity records es → IsLineOf affinity records (list_with (queued_unit u (key_in records u) (length es)) es)
+  pub line_pushed : (records : Credit2Records) (u : UnitId) (es : List Queued) → IsOrdered es → u.n < 256 → has_listed_unit (arrivals es) u ≡ false → is_member_among affinity u ≡ true → IsOff records u → IsLineOf affinity records es → IsLineOf affinity records (list_with (queued_unit u (key_in records u) (length es)) es)
   line_pushed records u es ordered low absent joined off line =
       let order : arrivals (list_with (queued_unit u (key_in records u) (length es)) es) ≡ arrivals es ++ u ∷ [] = placed_arrivals u (key_in records u) es ordered in
       record {

@@ -3,7 +3,7 @@ use Rattle.std.proofs.Common.{◌≡◌, ◌+◌, ℕ, Bool, true, false, not, L
 use Rattle.std.specs.Prelude.{◌||◌, if◌then◌else◌, nat_lt}
 use Rattle.std.specs.List.{AllByRecursion}
 use Rattle.sched_base.specs.declared.UnitId.{UnitId}
-use Rattle.sched_model.specs.Places.{has_unit, without_unit, same_unit}
+use Rattle.sched_model.specs.Places.{has_listed_unit, without_unit, same_unit}
 use Rattle.sched_base.proofs.Bools.{or_left, or_right, or_more}
 use Rattle.sched_laws.proofs.Choices.{same_unit_same}
 use Rattle.sched_laws.proofs.Counts.{same_unit_refl}
@@ -16,9 +16,9 @@ use Rattle.queue_laws.proofs.Arrivals.{each_arrived}
 use Rattle.std.proofs.Math.Bool.{or-true}
 use Rattle.std.proofs.lemmas.Bool.{or_from, cases_Bool}
 
-pub has_unit-push : (w u : UnitId) (units : List UnitId) → has_unit units w ≡ false → same_unit w u ≡ false → has_unit (units ++ u ∷ []) w ≡ false
+pub has_unit-push : (w u : UnitId) (units : List UnitId) → has_listed_unit units w ≡ false → same_unit w u ≡ false → has_listed_unit (units ++ u ∷ []) w ≡ false
 has_unit-push w u [] absent other = or_from (same_unit w u) false other refl
-has_unit-push w u (x ∷ units) absent other = or_from (same_unit w x) (has_unit (units ++ u ∷ []) w) (or_left _ _ absent) (has_unit-push w u units (or_right (same_unit w x) _ absent) other)
+has_unit-push w u (x ∷ units) absent other = or_from (same_unit w x) (has_listed_unit (units ++ u ∷ []) w) (or_left _ _ absent) (has_unit-push w u units (or_right (same_unit w x) _ absent) other)
 
 pub same_unit-swap : (u w : UnitId) → same_unit u w ≡ false → same_unit w u ≡ false
 same_unit-swap u w other = elim (cases_Bool (same_unit w u)) [
@@ -26,18 +26,18 @@ same_unit-swap u w other = elim (cases_Bool (same_unit w u)) [
   | inr is ↦ is
 ]
 
-pub apart_push : (u : UnitId) (units : List UnitId) → IsApart units → has_unit units u ≡ false → IsApart (units ++ u ∷ [])
+pub apart_push : (u : UnitId) (units : List UnitId) → IsApart units → has_listed_unit units u ≡ false → IsApart (units ++ u ∷ [])
 apart_push u [] apart absent = (refl, tt)
 apart_push u (x ∷ units) apart absent = (
   has_unit-push x u units apart.0 (same_unit-swap u x (or_left _ _ absent)),
   apart_push u units apart.1 (or_right (same_unit u x) _ absent),
 )
 
-pub has_unit-without : (w u : UnitId) (units : List UnitId) → has_unit units w ≡ false → has_unit (without_unit u units) w ≡ false
+pub has_unit-without : (w u : UnitId) (units : List UnitId) → has_listed_unit units w ≡ false → has_listed_unit (without_unit u units) w ≡ false
 has_unit-without w u [] absent = refl
 has_unit-without w u (x ∷ units) absent =
-    elim (not (same_unit u x)) as (λ b. has_unit (cond b (x ∷ without_unit u units) (without_unit u units)) w ≡ false) [
-      | true ↦ or_from (same_unit w x) (has_unit (without_unit u units) w) (or_left _ _ absent) (has_unit-without w u units (or_right (same_unit w x) _ absent))
+    elim (not (same_unit u x)) as (λ b. has_listed_unit (cond b (x ∷ without_unit u units) (without_unit u units)) w ≡ false) [
+      | true ↦ or_from (same_unit w x) (has_listed_unit (without_unit u units) w) (or_left _ _ absent) (has_unit-without w u units (or_right (same_unit w x) _ absent))
       | false ↦ has_unit-without w u units (or_right (same_unit w x) _ absent)
     ]
 
@@ -89,9 +89,9 @@ pub length-placed : (e : Queued) (es : List Queued) → length (list_with e es) 
 length-placed e es = length-put _ e es
 
 -- what holds of whatever is in the list holds of each
-pub each_has : (units : List UnitId) (P : UnitId → Type 0) → ((u : UnitId) → has_unit units u ≡ true → P u) → AllByRecursion P units
+pub each_has : (units : List UnitId) (P : UnitId → Type 0) → ((u : UnitId) → has_listed_unit units u ≡ true → P u) → AllByRecursion P units
 each_has [] P has = tt
-each_has (u ∷ units) P has = (has u (or_more (same_unit u u) (has_unit units u) (same_unit_refl u)), each_has units P (λ w there. has w (later w there)))
+each_has (u ∷ units) P has = (has u (or_more (same_unit u u) (has_listed_unit units u) (same_unit_refl u)), each_has units P (λ w there. has w (later w there)))
   where
-    later : (w : UnitId) → has_unit units w ≡ true → has_unit (u ∷ units) w ≡ true
+    later : (w : UnitId) → has_listed_unit units w ≡ true → has_listed_unit (u ∷ units) w ≡ true
     later w there = rw there (or-true (same_unit w u))

@@ -7,7 +7,7 @@ use Rattle.sched_base.specs.declared.Moment.{Moment}
 use Rattle.sched_model.specs.declared.state.Credit2Domain.{Credit2Domain}
 use Rattle.sched_model.specs.Places.{at_place, numbered_items}
 use Rattle.sched_ops.specs.declared.timer.Timer.TheVariants.{Refill}
-use Rattle.sched_ops.specs.Timers.{Armed, refills, first_due, soonest_timer}
+use Rattle.sched_ops.specs.Timers.{Armed, refills, first_due_timer, soonest_timer}
 use Rattle.due_heap.specs.Dues.{GoesFirst}
 use Rattle.credit2_core.specs.Places.{refill_of, refills_of}
 
@@ -32,30 +32,30 @@ module _ (t : ℕ) where
       by_refill rest None is = rest
       by_refill rest (Some r) is = absurd (none 0 (moment r) (ap (option_map moment) is))
 
-  pub none_due : (n : ℕ) (domains : List (Option Credit2Domain)) → ((i : ℕ) (at : Moment) → refill_of (at_place domains i) ≡ Some at → t < at.0) → first_due t (refills (numbered_items n domains)) ≡ None
+  pub none_due : (n : ℕ) (domains : List (Option Credit2Domain)) → ((i : ℕ) (at : Moment) → refill_of (at_place domains i) ≡ Some at → t < at.0) → first_due_timer t (refills (numbered_items n domains)) ≡ None
   none_due n [] later = refl
   none_due n (None ∷ domains) later = none_due (suc n) domains (λ i at. later (suc i) at)
   none_due n (Some x ∷ domains) later = by_refill (none_due (suc n) domains (λ i at. later (suc i) at)) x.refill refl
     where
-      by_refill : first_due t (refills (numbered_items (suc n) domains)) ≡ None → (o : Option ℕ) → x.refill ≡ o → first_due t (elim o as (λ _. List Armed) [ None ↦ refills (numbered_items (suc n) domains) | Some at ↦ (moment at, Refill (domain n)) ∷ refills (numbered_items (suc n) domains) ]) ≡ None
+      by_refill : first_due_timer t (refills (numbered_items (suc n) domains)) ≡ None → (o : Option ℕ) → x.refill ≡ o → first_due_timer t (elim o as (λ _. List Armed) [ None ↦ refills (numbered_items (suc n) domains) | Some at ↦ (moment at, Refill (domain n)) ∷ refills (numbered_items (suc n) domains) ]) ≡ None
       by_refill rest None is = rest
       by_refill rest (Some r) is = (let e = le_false r t (later 0 (moment r) (ap (option_map moment) is)) in rw e rest)
 
-  pub some_due : (n : ℕ) (domains : List (Option Credit2Domain)) (i : ℕ) (at : Moment) → refill_of (at_place domains i) ≡ Some at → at.0 ≤ t → is_some (first_due t (refills (numbered_items n domains))) ≡ true
+  pub some_due : (n : ℕ) (domains : List (Option Credit2Domain)) (i : ℕ) (at : Moment) → refill_of (at_place domains i) ≡ Some at → at.0 ≤ t → is_some (first_due_timer t (refills (numbered_items n domains))) ≡ true
   some_due n [] i at is come = absurd cc
   some_due n (None ∷ domains) zero at is come = absurd cc
   some_due n (None ∷ domains) (suc i) at is come = some_due (suc n) domains i at is come
   some_due n (Some x ∷ domains) zero at is come = by_refill x.refill is
     where
-      by_refill : (o : Option ℕ) → option_map moment o ≡ Some at → is_some (first_due t (elim o as (λ _. List Armed) [ None ↦ refills (numbered_items (suc n) domains) | Some at ↦ (moment at, Refill (domain n)) ∷ refills (numbered_items (suc n) domains) ])) ≡ true
+      by_refill : (o : Option ℕ) → option_map moment o ≡ Some at → is_some (first_due_timer t (elim o as (λ _. List Armed) [ None ↦ refills (numbered_items (suc n) domains) | Some at ↦ (moment at, Refill (domain n)) ∷ refills (numbered_items (suc n) domains) ])) ≡ true
       by_refill None e = absurd cc
       by_refill (Some r) e = (let same : ◌≡◌ {A = Moment} (moment r) at = cc in let low : r ≤ t = subst (λ (m : Moment). m.0 ≤ t) (sym same) come in let f = le_true r t low in rw f refl)
   some_due n (Some x ∷ domains) (suc i) at is come = by_refill (some_due (suc n) domains i at is come) x.refill
     where
-      by_refill : is_some (first_due t (refills (numbered_items (suc n) domains))) ≡ true → (o : Option ℕ) → is_some (first_due t (elim o as (λ _. List Armed) [ None ↦ refills (numbered_items (suc n) domains) | Some at ↦ (moment at, Refill (domain n)) ∷ refills (numbered_items (suc n) domains) ])) ≡ true
+      by_refill : is_some (first_due_timer t (refills (numbered_items (suc n) domains))) ≡ true → (o : Option ℕ) → is_some (first_due_timer t (elim o as (λ _. List Armed) [ None ↦ refills (numbered_items (suc n) domains) | Some at ↦ (moment at, Refill (domain n)) ∷ refills (numbered_items (suc n) domains) ])) ≡ true
       by_refill rest None = rest
       by_refill rest (Some r) =
-          elim (nat_le r t) as (λ b. is_some (cond b (Some (moment r, Refill (domain n))) (first_due t (refills (numbered_items (suc n) domains)))) ≡ true) [ true ↦ refl | false ↦ rest ]
+          elim (nat_le r t) as (λ b. is_some (cond b (Some (moment r, Refill (domain n))) (first_due_timer t (refills (numbered_items (suc n) domains)))) ≡ true) [ true ↦ refl | false ↦ rest ]
 
 -- no later one is sooner than the best so far
 stays : (n : ℕ) (best : Armed) (domains : List (Option Credit2Domain)) → ((i : ℕ) (at : Moment) → refill_of (at_place domains i) ≡ Some at → best.0.0 ≤ at.0) → soonest_timer (Some best) (refills (numbered_items n domains)) ≡ Some best

@@ -11,7 +11,7 @@ use Rattle.sched_base.proofs.Bools.{and_left, and_right, or_left, or_right}
 use Rattle.arrival_queue.specs.Queues.{Queued, queued_unit, list_with, list_without, is_of, has_unit}
 use Rattle.queue_laws.specs.Arrivals.{arrivals}
 use Rattle.credit2_core.specs.Keys.{KeysWhere, HasCredits, key_in, is_passed}
-use Rattle.sched_ops.specs.Affinity.{count_at, is_member_among}
+use Rattle.sched_ops.specs.Affinity.{joined_unit_count, is_member_among}
 use Rattle.credit2_core.proofs.Lists.{All-put, queued_have}
 use Rattle.std.proofs.Math.Bool.{or-true}
 
@@ -57,10 +57,10 @@ module _ (records : Credit2Records) where
   keys_moved u r es keys = All-put (λ (e : Queued). is_passed u.dom.0 (u.n + 1) e.unit ≡ true → e.key ≡ key_in records e.unit) _ (queued_unit u (key_in records u) r) (list_without u es) (λ _. refl) (keys_gone u es keys)
 
   -- all units of the domain are passed: the next domain
-  pub keys_next : (affinity : List (Option (List Cores))) (d : ℕ) (es : List Queued) → AllByRecursion (λ u. is_member_among affinity u ≡ true) (arrivals es) → KeysWhere (is_passed d (count_at affinity d)) records es → KeysWhere (is_passed (d + 1) 0) records es
+  pub keys_next : (affinity : List (Option (List Cores))) (d : ℕ) (es : List Queued) → AllByRecursion (λ u. is_member_among affinity u ≡ true) (arrivals es) → KeysWhere (is_passed d (joined_unit_count affinity d)) records es → KeysWhere (is_passed (d + 1) 0) records es
   keys_next affinity d es joined keys = each es (queued_have (λ u. is_member_among affinity u ≡ true) es joined) keys
     where
-      passed : (w : UnitId) → is_member_among affinity w ≡ true → is_passed (d + 1) 0 w ≡ true → is_passed d (count_at affinity d) w ≡ true
+      passed : (w : UnitId) → is_member_among affinity w ≡ true → is_passed (d + 1) 0 w ≡ true → is_passed d (joined_unit_count affinity d) w ≡ true
       passed w there is = elim (or_cases (nat_lt w.dom.0 (d + 1)) (w.dom.0 == d + 1 && nat_lt w.n 0) is) [
         | inr here ↦ absurd (let l = ltb-true w.n 0 (and_right (w.dom.0 == d + 1) (nat_lt w.n 0) here) in omega (arith, l))
         | inl low ↦ elim (cases_lt w.dom.0 d) [
@@ -69,12 +69,12 @@ module _ (records : Credit2Records) where
               let l = ltb-true w.dom.0 (d + 1) low in
               let dom : w.dom.0 ≡ d = omega (arith, l, more) in
               let e : (w.dom.0 == d) ≡ true = eq-eqb w.dom.0 d dom in
-              let n : nat_lt w.n (count_at affinity d) ≡ true = subst (λ k. nat_lt w.n (count_at affinity k) ≡ true) dom there in
+              let n : nat_lt w.n (joined_unit_count affinity d) ≡ true = subst (λ k. nat_lt w.n (joined_unit_count affinity k) ≡ true) dom there in
               rw (e, n) (or-true (nat_lt w.dom.0 d)))
         ]
       ]
 
-      each : (xs : List Queued) → AllByRecursion (λ (e : Queued). is_member_among affinity e.unit ≡ true) xs → KeysWhere (is_passed d (count_at affinity d)) records xs → KeysWhere (is_passed (d + 1) 0) records xs
+      each : (xs : List Queued) → AllByRecursion (λ (e : Queued). is_member_among affinity e.unit ≡ true) xs → KeysWhere (is_passed d (joined_unit_count affinity d)) records xs → KeysWhere (is_passed (d + 1) 0) records xs
       each [] there keys = tt
       each (e ∷ xs) there keys = (λ is. keys.0 (passed e.unit there.0 is), each xs there.1 keys.1)
 
@@ -82,7 +82,7 @@ module _ (records : Credit2Records) where
   pub keys_all : (affinity : List (Option (List Cores))) (es : List Queued) → AllByRecursion (λ u. is_member_among affinity u ≡ true) (arrivals es) → KeysWhere (is_passed (length affinity) 0) records es → HasCredits records es
   keys_all affinity es joined keys = each es (queued_have (λ u. is_member_among affinity u ≡ true) es joined) keys
     where
-      outside : (places : List (Option (List Cores))) (d : ℕ) → length places ≤ d → count_at places d ≡ 0
+      outside : (places : List (Option (List Cores))) (d : ℕ) → length places ≤ d → joined_unit_count places d ≡ 0
       outside [] d high = refl
       outside (p ∷ places) zero high = absurd (omega (arith, high))
       outside (p ∷ places) (suc d) high = outside places d (omega (arith, high))
@@ -90,7 +90,7 @@ module _ (records : Credit2Records) where
       inside : (w : UnitId) → is_member_among affinity w ≡ true → is_passed (length affinity) 0 w ≡ true
       inside w there = elim (cases_lt w.dom.0 (length affinity)) [
         | inl low ↦ (let e = lt-ltb w.dom.0 (length affinity) low in rw e refl)
-        | inr high ↦ absurd (let l = ltb-true w.n (count_at affinity w.dom.0) there in let z = outside affinity w.dom.0 high in omega (arith, l, z))
+        | inr high ↦ absurd (let l = ltb-true w.n (joined_unit_count affinity w.dom.0) there in let z = outside affinity w.dom.0 high in omega (arith, l, z))
       ]
 
       each : (xs : List Queued) → AllByRecursion (λ (e : Queued). is_member_among affinity e.unit ≡ true) xs → KeysWhere (is_passed (length affinity) 0) records xs → HasCredits records xs

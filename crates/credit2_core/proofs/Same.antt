@@ -7,7 +7,7 @@ use Rattle.std.proofs.lemmas.List.{length-map}
 use Rattle.sched_model.specs.declared.state.Credit2Domain.{Credit2Domain}
 use Rattle.sched_model.specs.declared.state.Credit2Records.{Credit2Records}
 use Rattle.sched_model.specs.Places.{at_place, change_at, change_each, change_item}
-use Rattle.sched_model.specs.Credit2.{max_weight, burn_unit, burn_units, change_domain, give_back, burn_cur, reset, take_budget, set_running, switch_off, refill_domain, refilled_pool, set_weight, set_cap, set_domain}
+use Rattle.sched_model.specs.Credit2.{most_weight, burned_unit, burned_domain, change_domain, domain_after_return, own_burned_records, reset_records, domain_after_take, running_records, off_records, domain_after_refill, refilled_pool, domain_with_weight, domain_with_cap, records_with_terms}
 use Rattle.sched_laws.proofs.EachPlace.{by_option, by_cond}
 use Rattle.sched_laws.proofs.Lists.{length_change_item}
 use Rattle.scheduler_records.specs.Bounds.{own_charged, reset_by}
@@ -45,68 +45,68 @@ counts_changed d f records same = map-change_at (λ (o : Option Credit2Domain). 
 pub refills_changed : (d : ℕ) (f : Credit2Domain → Credit2Domain) (records : Credit2Records) → SameRefill f → refills_of (change_domain d f records).domains ≡ refills_of records.domains
 refills_changed d f records same = map-change_at refill_of d f records.domains (λ x at. ap (option_map moment) (same x))
 
-give_count : (n : ℕ) → SameCount (give_back n)
+give_count : (n : ℕ) → SameCount (domain_after_return n)
 give_count n x = by_option (λ (z : Credit2Domain). length z.units ≡ length x.units) (slice_get x.units n) x _ (λ none. refl) (λ u is. length_change_item n (λ y. record y { held = _ }) x.units)
 
-give_refill : (n : ℕ) → SameRefill (give_back n)
+give_refill : (n : ℕ) → SameRefill (domain_after_return n)
 give_refill n x = by_option (λ (z : Credit2Domain). z.refill ≡ x.refill) (slice_get x.units n) x _ (λ none. refl) (λ u is. refl)
 
 own_count : (most t n : ℕ) → SameCount (own_charged most t n)
 own_count most t n x =
-    let charged : Credit2Domain = record x { units = change_item n (burn_unit most t x) x.units } in
-    let first : length charged.units ≡ length x.units = length_change_item n (burn_unit most t x) x.units in
-    by_cond (λ (z : Credit2Domain). length z.units ≡ length x.units) (x.cap == 0) charged (give_back n charged) (λ free. first) (λ capped. give_count n charged ∙ first)
+    let charged : Credit2Domain = record x { units = change_item n (burned_unit most t x) x.units } in
+    let first : length charged.units ≡ length x.units = length_change_item n (burned_unit most t x) x.units in
+    by_cond (λ (z : Credit2Domain). length z.units ≡ length x.units) (x.cap == 0) charged (domain_after_return n charged) (λ free. first) (λ capped. give_count n charged ∙ first)
 
 own_refill : (most t n : ℕ) → SameRefill (own_charged most t n)
 own_refill most t n x =
-    let charged : Credit2Domain = record x { units = change_item n (burn_unit most t x) x.units } in
-    by_cond (λ (z : Credit2Domain). z.refill ≡ x.refill) (x.cap == 0) charged (give_back n charged) (λ free. refl) (λ capped. give_refill n charged)
+    let charged : Credit2Domain = record x { units = change_item n (burned_unit most t x) x.units } in
+    by_cond (λ (z : Credit2Domain). z.refill ≡ x.refill) (x.cap == 0) charged (domain_after_return n charged) (λ free. refl) (λ capped. give_refill n charged)
 
-take_count : (n : ℕ) → SameCount (take_budget n)
+take_count : (n : ℕ) → SameCount (domain_after_take n)
 take_count n x = by_cond (λ (z : Credit2Domain). length z.units ≡ length x.units) (x.cap == 0) x _ (λ free. refl) (λ capped. length_change_item n _ x.units)
 
-take_refill : (n : ℕ) → SameRefill (take_budget n)
+take_refill : (n : ℕ) → SameRefill (domain_after_take n)
 take_refill n x = by_cond (λ (z : Credit2Domain). z.refill ≡ x.refill) (x.cap == 0) x _ (λ free. refl) (λ capped. refl)
 
-weight_count : (weight : Option ℕ) → SameCount (set_weight weight)
+weight_count : (weight : Option ℕ) → SameCount (domain_with_weight weight)
 weight_count None x = refl
 weight_count (Some weight) x = length-map x.units _
 
-cap_count : (most t : ℕ) (percent : Option ℕ) → SameCount (set_cap most t percent)
+cap_count : (most t : ℕ) (percent : Option ℕ) → SameCount (domain_with_cap most t percent)
 cap_count most t None x = refl
-cap_count most t (Some percent) x = length-map (burn_units most t x).units _ ∙ length-map x.units (burn_unit most t x)
+cap_count most t (Some percent) x = length-map (burned_domain most t x).units _ ∙ length-map x.units (burned_unit most t x)
 
 -- neither changes
 pub record IsAlike (records next : Credit2Records) : Type 0 where
   pub counts : unit_counts next.domains ≡ unit_counts records.domains
   pub refills : refills_of next.domains ≡ refills_of records.domains
 
-pub alike_burn_cur : (cur : Option UnitId) (t : ℕ) (records : Credit2Records) → IsAlike records (burn_cur cur t records)
+pub alike_burn_cur : (cur : Option UnitId) (t : ℕ) (records : Credit2Records) → IsAlike records (own_burned_records cur t records)
 alike_burn_cur None t records = record { counts = refl; refills = refl }
 alike_burn_cur (Some u) t records =
     subst (IsAlike records) (sym (burn_cur-own u t records))
-    (record { counts = counts_changed u.dom.0 (own_charged (max_weight records) t u.n) records (own_count (max_weight records) t u.n); refills = refills_changed u.dom.0 (own_charged (max_weight records) t u.n) records (own_refill (max_weight records) t u.n) })
+    (record { counts = counts_changed u.dom.0 (own_charged (most_weight records) t u.n) records (own_count (most_weight records) t u.n); refills = refills_changed u.dom.0 (own_charged (most_weight records) t u.n) records (own_refill (most_weight records) t u.n) })
 
-pub alike_set_running : (from : Option ℕ) (u : UnitId) (records : Credit2Records) → IsAlike records (set_running from u records)
+pub alike_set_running : (from : Option ℕ) (u : UnitId) (records : Credit2Records) → IsAlike records (running_records from u records)
 alike_set_running from u records = record {
   counts = counts_changed u.dom.0 (λ d. record d { units = change_item u.n (λ x. record x { burned = from }) d.units }) records (λ x. length_change_item u.n (λ y. record y { burned = from }) x.units);
   refills = refills_changed u.dom.0 (λ d. record d { units = change_item u.n (λ x. record x { burned = from }) d.units }) records (λ x. refl);
 }
 
-pub alike_switch_off : (cur : Option UnitId) (records : Credit2Records) → IsAlike records (switch_off cur records)
+pub alike_switch_off : (cur : Option UnitId) (records : Credit2Records) → IsAlike records (off_records cur records)
 alike_switch_off None records = record { counts = refl; refills = refl }
 alike_switch_off (Some u) records = alike_set_running None u records
 
-alike_take : (u : UnitId) (records : Credit2Records) → IsAlike records (change_domain u.dom.0 (take_budget u.n) records)
-alike_take u records = record { counts = counts_changed u.dom.0 (take_budget u.n) records (take_count u.n); refills = refills_changed u.dom.0 (take_budget u.n) records (take_refill u.n) }
+alike_take : (u : UnitId) (records : Credit2Records) → IsAlike records (change_domain u.dom.0 (domain_after_take u.n) records)
+alike_take u records = record { counts = counts_changed u.dom.0 (domain_after_take u.n) records (take_count u.n); refills = refills_changed u.dom.0 (domain_after_take u.n) records (take_refill u.n) }
 
-alike_reset : (t k : ℕ) (records : Credit2Records) → IsAlike records (reset t k records)
+alike_reset : (t k : ℕ) (records : Credit2Records) → IsAlike records (reset_records t k records)
 alike_reset t zero records = record { counts = refl; refills = refl }
 alike_reset t (suc k) records =
-    let f : ℕ → Credit2Domain → Credit2Domain = λ n. reset_by (max_weight records) t (suc k) in
+    let f : ℕ → Credit2Domain → Credit2Domain = λ n. reset_by (most_weight records) t (suc k) in
     subst (IsAlike records) (sym (reset-each t (suc k) records (omega arith)))
     (record {
-      counts = map-change_each (λ (o : Option Credit2Domain). option_map (λ (d : Credit2Domain). length d.units) o) 0 f records.domains (λ n x. ap (λ j. Some j) (length-map (burn_units (max_weight records) t x).units _ ∙ length-map x.units (burn_unit (max_weight records) t x)));
+      counts = map-change_each (λ (o : Option Credit2Domain). option_map (λ (d : Credit2Domain). length d.units) o) 0 f records.domains (λ n x. ap (λ j. Some j) (length-map (burned_domain (most_weight records) t x).units _ ∙ length-map x.units (burned_unit (most_weight records) t x)));
       refills = map-change_each refill_of 0 f records.domains (λ n x. refl);
     })
 
@@ -115,18 +115,18 @@ alike_then a b c one two = record { counts = two.counts ∙ one.counts; refills 
 
 pub alike_ran : (cur : Option UnitId) (t k : ℕ) (u : UnitId) (records : Credit2Records) → IsAlike records (records_after_run cur t k u records)
 alike_ran cur t k u records =
-    let begun : Credit2Records = reset t k records in
-    let taken : Credit2Records = change_domain u.dom.0 (take_budget u.n) begun in
-    let off : Credit2Records = switch_off cur taken in
+    let begun : Credit2Records = reset_records t k records in
+    let taken : Credit2Records = change_domain u.dom.0 (domain_after_take u.n) begun in
+    let off : Credit2Records = off_records cur taken in
     alike_then records off (records_after_run cur t k u records) (alike_then records taken off (alike_then records begun taken (alike_reset t k records) (alike_take u begun)) (alike_switch_off cur taken)) (alike_set_running (Some t) u off)
 
 pub counts_refilled : (t d : ℕ) (records : Credit2Records) → unit_counts (refilled_pool t d records).domains ≡ unit_counts records.domains
-counts_refilled t d records = counts_changed d (refill_domain (max_weight records) t) records (λ x. length-map x.units (burn_unit (max_weight records) t x))
+counts_refilled t d records = counts_changed d (domain_after_refill (most_weight records) t) records (λ x. length-map x.units (burned_unit (most_weight records) t x))
 
-pub counts_set_domain : (t d : ℕ) (weight percent : Option ℕ) (records : Credit2Records) → unit_counts (set_domain t d weight percent records).domains ≡ unit_counts records.domains
+pub counts_set_domain : (t d : ℕ) (weight percent : Option ℕ) (records : Credit2Records) → unit_counts (records_with_terms t d weight percent records).domains ≡ unit_counts records.domains
 counts_set_domain t d weight percent records =
-    let weighted : Credit2Records = change_domain d (set_weight weight) records in
-    counts_changed d (set_cap (max_weight weighted) t percent) weighted (cap_count (max_weight weighted) t percent) ∙ counts_changed d (set_weight weight) records (weight_count weight)
+    let weighted : Credit2Records = change_domain d (domain_with_weight weight) records in
+    counts_changed d (domain_with_cap (most_weight weighted) t percent) weighted (cap_count (most_weight weighted) t percent) ∙ counts_changed d (domain_with_weight weight) records (weight_count weight)
 
 -- the moments of the refills, where those of one domain are written anew
 pub refills_written : (d : ℕ) (f : Credit2Domain → Credit2Domain) (domains : List (Option Credit2Domain)) → slice_set (refills_of domains) d (refill_of (at_place (change_at d f domains) d)) ≡ refills_of (change_at d f domains)

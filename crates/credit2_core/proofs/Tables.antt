@@ -11,9 +11,9 @@ use Rattle.sched_base.specs.declared.UnitId.{UnitId}
 use Rattle.sched_model.specs.declared.state.Credit2Domain.{Credit2Domain}
 use Rattle.sched_model.specs.declared.state.Credit2Records.{Credit2Records}
 use Rattle.sched_model.specs.Places.{at_place}
-use Rattle.sched_model.specs.EligibleUnits.{has_budget, cores_of, is_allowed_by}
-use Rattle.sched_model.specs.Credit2.{domain_has_budget}
-use Rattle.arrival_queue.specs.Filters.{first_that, has_domain, may_run}
+use Rattle.sched_model.specs.EligibleUnits.{has_cap_budget, unit_cores, is_allowed_by}
+use Rattle.sched_model.specs.Credit2.{has_domain_budget}
+use Rattle.arrival_queue.specs.Filters.{first_that, has_core_bit, may_run}
 use Rattle.arrival_queue.specs.Queues.{Queued}
 use Rattle.sched_ops.specs.Affinity.{is_member_among}
 use Rattle.credit2_core.specs.Domains.{may_run_at, may_run_bit, AreRunnable, set_of, masked_cores}
@@ -26,19 +26,19 @@ use Rattle.std.proofs.lemmas.Bool.{le-ltb}
 low_bit : (place : Option Credit2Domain) (r : ℕ) → ((may_run_bit place + 2 * r) % 2 == 1) ≡ may_run_at place
 low_bit None r = (let e : (0 + 2 * r) % 2 ≡ 0 = omega arith in rw e refl)
 low_bit (Some d) r =
-    elim (has_budget d) as (λ b. (((if b then 1 else 0) + 2 * r) % 2 == 1) ≡ b) [
+    elim (has_cap_budget d) as (λ b. (((if b then 1 else 0) + 2 * r) % 2 == 1) ≡ b) [
       | true ↦ (let e : (1 + 2 * r) % 2 ≡ 1 = omega arith in rw e refl)
       | false ↦ (let e : (0 + 2 * r) % 2 ≡ 0 = omega arith in rw e refl)
     ]
 
 half : (place : Option Credit2Domain) (r : ℕ) → (may_run_bit place + 2 * r) / 2 ≡ r
 half None r = omega arith
-half (Some d) r = elim (has_budget d) as (λ b. ((if b then 1 else 0) + 2 * r) / 2 ≡ r) [ true ↦ omega arith | false ↦ omega arith ]
+half (Some d) r = elim (has_cap_budget d) as (λ b. ((if b then 1 else 0) + 2 * r) / 2 ≡ r) [ true ↦ omega arith | false ↦ omega arith ]
 
 power : (i : ℕ) → 2 ^ suc i ≡ 2 * 2 ^ i
 power i = grind arith
 
-pub set_has : (domains : List (Option Credit2Domain)) (i : ℕ) → has_domain (set_of domains) i ≡ may_run_at (at_place domains i)
+pub set_has : (domains : List (Option Credit2Domain)) (i : ℕ) → has_core_bit (set_of domains) i ≡ may_run_at (at_place domains i)
 set_has [] i = (let e : 0 / 2 ^ i ≡ 0 = none (2 ^ i) in rw e refl)
   where
     none : (k : ℕ) → 0 / k ≡ 0
@@ -63,14 +63,14 @@ filter-same p q (x ∷ xs) same =
 
 -- a unit that has joined passes the search of the run queue just where it may take the core
 pub passes_same : (affinity : List (Option (List Cores))) (masks : List Cores) (records : Credit2Records) (set core home : ℕ) (u : UnitId) → AreRunnable records.domains set → AreMasks affinity masks → is_member_among affinity u ≡ true
-    → (has_domain set u.dom.0 && may_run masks (record { 0 = core }) (record { 0 = home }) u) ≡ may_take affinity home core records u
+    → (has_core_bit set u.dom.0 && may_run masks (record { 0 = core }) (record { 0 = home }) u) ≡ may_take affinity home core records u
 passes_same affinity masks records set core home u runnable are joined =
-    let mask : mask_of masks u ≡ core_set (cores_of affinity u) = are u joined in
-    let may : may_run masks (record { 0 = core }) (record { 0 = home }) u ≡ is_allowed_by affinity home core u = ap (λ (m : Cores). sets.is_allowed m.0 core home) mask in
-    ap (λ (b : Bool). b && may_run masks (record { 0 = core }) (record { 0 = home }) u) (runnable.each u.dom.0) ∙ ap (λ (b : Bool). domain_has_budget records u && b) may ∙ and_comm (domain_has_budget records u) (is_allowed_by affinity home core u)
+    let mask : mask_of masks u ≡ core_set (unit_cores affinity u) = are u joined in
+    let may : may_run masks (record { 0 = core }) (record { 0 = home }) u ≡ is_allowed_by affinity home core u = ap (λ (m : Cores). sets.is_core_allowed m.0 core home) mask in
+    ap (λ (b : Bool). b && may_run masks (record { 0 = core }) (record { 0 = home }) u) (runnable.each u.dom.0) ∙ ap (λ (b : Bool). has_domain_budget records u && b) may ∙ and_comm (has_domain_budget records u) (is_allowed_by affinity home core u)
 
 pub passes_each : (affinity : List (Option (List Cores))) (masks : List Cores) (records : Credit2Records) (set core home : ℕ) (units : List UnitId) → AreRunnable records.domains set → AreMasks affinity masks → AllByRecursion (λ u. is_member_among affinity u ≡ true) units
-    → AllByRecursion (λ u. (has_domain set u.dom.0 && may_run masks (record { 0 = core }) (record { 0 = home }) u) ≡ may_take affinity home core records u) units
+    → AllByRecursion (λ u. (has_core_bit set u.dom.0 && may_run masks (record { 0 = core }) (record { 0 = home }) u) ≡ may_take affinity home core records u) units
 passes_each affinity masks records set core home [] runnable are joined = tt
 passes_each affinity masks records set core home (u ∷ units) runnable are joined = (passes_same affinity masks records set core home u runnable are joined.0, passes_each affinity masks records set core home units runnable are joined.1)
 

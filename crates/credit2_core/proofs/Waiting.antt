@@ -9,9 +9,9 @@ use Rattle.sched_base.specs.declared.UnitId.{UnitId}
 use Rattle.sched_model.specs.declared.state.Credit2Records.{Credit2Records}
 use Rattle.sched_model.specs.Places.{without_unit}
 use Rattle.sched_model.specs.Places as places
-use Rattle.sched_model.specs.Credit2.{greatest_unit, credit_of, is_within_limit, is_better, change_unit, burn_unit, max_weight}
+use Rattle.sched_model.specs.Credit2.{richest_unit, unit_credit, is_rate_limited, has_more_credit, change_unit, burned_unit, most_weight}
 use Rattle.arrival_queue.specs.declared.key.Key.{Key}
-use Rattle.arrival_queue.specs.Queues.{Queued, queued_unit, list_with, list_without, rank_in, closed_up, has_unit, is_less, goes_before}
+use Rattle.arrival_queue.specs.Queues.{Queued, queued_unit, list_with, list_without, rank_in, closed_up, has_unit, is_lesser_key, goes_before}
 use Rattle.arrival_queue.specs.Filters.{first_that}
 use Rattle.arrival_queue.specs.Order.{GoesBeforeAll, IsInOrder, EachRankOnce, EachUnitOnce}
 use Rattle.queue_laws.specs.Arrivals.{arrivals, HasRanks, RanksBelow, HasUnits, HasIndices, least_by, own_or}
@@ -54,10 +54,10 @@ moved_arrivals u k es ordered low small there =
     ∙ ap arrivals none
 
 -- whether a unit waits, by its number and by its name
-pub has_arrived : (u : UnitId) (es : List Queued) → u.n < 256 → AreSmall (arrivals es) → has_unit u es ≡ places.has_unit (arrivals es) u
+pub has_arrived : (u : UnitId) (es : List Queued) → u.n < 256 → AreSmall (arrivals es) → has_unit u es ≡ places.has_listed_unit (arrivals es) u
 has_arrived u es low small = sym (laws.has_arrived u es low (queued_have (λ (w : UnitId). w.n < 256) es small))
 
-less_key : (a b : ℤ) → is_less (record { first = neg_ℤ a; second = 0 }) (record { first = neg_ℤ b; second = 0 }) ≡ int_lt b a
+less_key : (a b : ℤ) → is_lesser_key (record { first = neg_ℤ a; second = 0 }) (record { first = neg_ℤ b; second = 0 }) ≡ int_lt b a
 less_key a b = elim (cases_Bool (int_lt b a)) [
   | inl is ↦ (let e : int_lt (neg_ℤ a) (neg_ℤ b) ≡ true = lower a b is in rw (e, is) refl)
   | inr is ↦ (let e : int_lt (neg_ℤ a) (neg_ℤ b) ≡ false = higher a b is in rw (e, is) (no_less (int_lt (neg_ℤ b) (neg_ℤ a))))
@@ -73,37 +73,37 @@ less_key a b = elim (cases_Bool (int_lt b a)) [
     no_less true = refl
     no_less false = refl
 
-greatest_least : (records : Credit2Records) (best : Option UnitId) (units : List UnitId) → greatest_unit records best units ≡ least_by (key_in records) best units
+greatest_least : (records : Credit2Records) (best : Option UnitId) (units : List UnitId) → richest_unit records best units ≡ least_by (key_in records) best units
 greatest_least records best [] = refl
 greatest_least records None (u ∷ units) = greatest_least records (Some u) units
 greatest_least records (Some best) (u ∷ units) =
-    ap (λ (b : Bool). greatest_unit records (Some (if b then u else best)) units) (sym (less_key (credit_of records u) (credit_of records best)))
-    ∙ greatest_least records (Some (if is_less (key_in records u) (key_in records best) then u else best)) units
+    ap (λ (b : Bool). richest_unit records (Some (if b then u else best)) units) (sym (less_key (unit_credit records u) (unit_credit records best)))
+    ∙ greatest_least records (Some (if is_lesser_key (key_in records u) (key_in records best) then u else best)) units
 
-pub first_greatest : (records : Credit2Records) (p : UnitId → Bool) (es : List Queued) → IsOrdered es → HasCredits records es → first_that p es ≡ greatest_unit records None (filter p (arrivals es))
+pub first_greatest : (records : Credit2Records) (p : UnitId → Bool) (es : List Queued) → IsOrdered es → HasCredits records es → first_that p es ≡ richest_unit records None (filter p (arrivals es))
 first_greatest records p es ordered keys = first_is_least (key_in records) p es ordered.order keys ∙ sym (greatest_least records None (filter p (arrivals es)))
 
 -- of a unit and those that wait: the unit, or the first of those that wait where it has more credit
-pub greatest_own : (records : Credit2Records) (own : UnitId) (units : List UnitId) → greatest_unit records (Some own) units ≡ richer_of records own (greatest_unit records None units)
+pub greatest_own : (records : Credit2Records) (own : UnitId) (units : List UnitId) → richest_unit records (Some own) units ≡ richer_of records own (richest_unit records None units)
 greatest_own records own units =
     greatest_least records (Some own) units ∙ least_by_own (key_in records) own units ∙ by_found (least_by (key_in records) None units) ∙ ap (richer_of records own) (sym (greatest_least records None units))
   where
     by_found : (o : Option UnitId) → ◌≡◌ {A = Option UnitId} (Some (own_or (key_in records) own o)) (richer_of records own o)
     by_found None = refl
-    by_found (Some u) = ap (λ (b : Bool). Some (if b then u else own)) (less_key (credit_of records u) (credit_of records own))
+    by_found (Some u) = ap (λ (b : Bool). Some (if b then u else own)) (less_key (unit_credit records u) (unit_credit records own))
 
 -- of two units in the order of the queue the second has no more credit
-no_richer : (records : Credit2Records) (a b : Queued) → a.key ≡ key_in records a.unit → b.key ≡ key_in records b.unit → goes_before a b ≡ true → int_lt (credit_of records a.unit) (credit_of records b.unit) ≡ false
-no_richer records a b own other before = elim (cases_Bool (int_lt (credit_of records a.unit) (credit_of records b.unit))) [
+no_richer : (records : Credit2Records) (a b : Queued) → a.key ≡ key_in records a.unit → b.key ≡ key_in records b.unit → goes_before a b ≡ true → int_lt (unit_credit records a.unit) (unit_credit records b.unit) ≡ false
+no_richer records a b own other before = elim (cases_Bool (int_lt (unit_credit records a.unit) (unit_credit records b.unit))) [
   | inl is ↦ (
-      let first : is_less a.key b.key ≡ false =
-      ap (λ (k : Key). is_less k b.key) own ∙ ap (is_less (key_in records a.unit)) other ∙ less_key (credit_of records a.unit) (credit_of records b.unit)
-      ∙ turned (credit_of records a.unit) (credit_of records b.unit) is
+      let first : is_lesser_key a.key b.key ≡ false =
+      ap (λ (k : Key). is_lesser_key k b.key) own ∙ ap (is_lesser_key (key_in records a.unit)) other ∙ less_key (unit_credit records a.unit) (unit_credit records b.unit)
+      ∙ turned (unit_credit records a.unit) (unit_credit records b.unit) is
       in
-      let second : is_less b.key a.key ≡ true =
-      ap (λ (k : Key). is_less k a.key) other ∙ ap (is_less (key_in records b.unit)) own ∙ less_key (credit_of records b.unit) (credit_of records a.unit) ∙ is
+      let second : is_lesser_key b.key a.key ≡ true =
+      ap (λ (k : Key). is_lesser_key k a.key) other ∙ ap (is_lesser_key (key_in records b.unit)) own ∙ less_key (unit_credit records b.unit) (unit_credit records a.unit) ∙ is
       in
-      absurd (no_way (is_less a.key b.key) (is_less b.key a.key) (nat_lt a.rank b.rank) first second before)
+      absurd (no_way (is_lesser_key a.key b.key) (is_lesser_key b.key a.key) (nat_lt a.rank b.rank) first second before)
       )
   | inr is_not ↦ is_not
 ]
@@ -152,16 +152,16 @@ none_better records own since t p q (e ∷ es) order keys worse_first =
     both u = p u && q u
 
     burned : ℤ
-    burned = credit_of (change_unit own (burn_unit (max_weight records) t) records) own
+    burned = unit_credit (change_unit own (burned_unit (most_weight records) t) records) own
 
     still : (w : Bool) (b c d : ℤ) → (w && int_lt b c) ≡ false → int_lt c d ≡ false → (w && int_lt b d) ≡ false
     still false b c d first second = refl
     still true b c d first second = grind (arith, ints, first, second)
 
-    worse : is_better records own since t e.unit ≡ false → (x : Queued) → goes_before e x ≡ true → x.key ≡ key_in records x.unit → is_better records own since t x.unit ≡ false
-    worse worse_own x before key = still (not (is_within_limit records since t)) burned (credit_of records e.unit) (credit_of records x.unit) worse_own (no_richer records e x keys.0 key before)
+    worse : has_more_credit records own since t e.unit ≡ false → (x : Queued) → goes_before e x ≡ true → x.key ≡ key_in records x.unit → has_more_credit records own since t x.unit ≡ false
+    worse worse_own x before key = still (not (is_rate_limited records since t)) burned (unit_credit records e.unit) (unit_credit records x.unit) worse_own (no_richer records e x keys.0 key before)
 
-    behind : is_better records own since t e.unit ≡ false → (xs : List Queued) → GoesBeforeAll e xs → HasCredits records xs → is_better_of records own since t (first_that both xs) ≡ false
+    behind : has_more_credit records own since t e.unit ≡ false → (xs : List Queued) → GoesBeforeAll e xs → HasCredits records xs → is_better_of records own since t (first_that both xs) ≡ false
     behind worse_own [] before each = refl
     behind worse_own (x ∷ xs) before each =
         elim (p x.unit && q x.unit) as (λ b. is_better_of records own since t (if b then Some x.unit else first_that both xs) ≡ false) [ true ↦ worse worse_own x before.0 each.0 | false ↦ behind worse_own xs before.1 each.1 ]

@@ -7,8 +7,8 @@ use Rattle.sched_base.specs.declared.Cores.{Cores}
 use Rattle.sched_base.specs.declared.UnitId.{UnitId}
 use Rattle.sched_model.specs.declared.state.Credit2Records.{Credit2Records}
 use Rattle.sched_model.specs.declared.state.Scheduler.{Scheduler}
-use Rattle.sched_model.specs.Places.{has_unit}
-use Rattle.sched_model.specs.EligibleUnits.{cores_of}
+use Rattle.sched_model.specs.Places.{has_listed_unit}
+use Rattle.sched_model.specs.EligibleUnits.{unit_cores}
 use Rattle.state_ranges.specs.Fits.{Credit2Fits}
 use Rattle.state_ranges.specs.Budgets.{Budgets, None2, AllRunOnly}
 use Rattle.scheduler_records.specs.Parts.{credit2_scheduler}
@@ -34,7 +34,7 @@ pub record IsLineOf (affinity : List (Option (List Cores))) (records : Credit2Re
   pub joined : AllByRecursion (λ u. is_member_among affinity u ≡ true) (arrivals es)
   pub indices : AllByRecursion (λ (u : UnitId). u.n < 256) (arrivals es)
   pub keys : HasCredits records es
-  pub off : AllRunOnly (λ d n. has_unit (arrivals es) (record { dom = domain d; n = n }) ≡ false) records
+  pub off : AllRunOnly (λ d n. has_listed_unit (arrivals es) (record { dom = domain d; n = n }) ≡ false) records
 
 -- the same of all that is kept
 abbrev pub IsLine : Credit2State → Type 0
@@ -52,11 +52,11 @@ pub record IsSameRoom (old new : Queue) : Type 0 where
 
 -- the table of masks has the sets of cores of the units that have joined
 abbrev pub AreMasks : List (Option (List Cores)) → List Cores → Type 0
-AreMasks affinity masks = (u : UnitId) → is_member_among affinity u ≡ true → mask_of masks u ≡ core_set (cores_of affinity u)
+AreMasks affinity masks = (u : UnitId) → is_member_among affinity u ≡ true → mask_of masks u ≡ core_set (unit_cores affinity u)
 
 -- each unit that has joined may have all cores, where none was pinned to fewer
 pub record IsFree (unpinned : Bool) (affinity : List (Option (List Cores))) : Type 0 where
-  pub all : unpinned ≡ true → (u : UnitId) → is_member_among affinity u ≡ true → cores_of affinity u ≡ 2 ^ 64 - 1
+  pub all : unpinned ≡ true → (u : UnitId) → is_member_among affinity u ≡ true → unit_cores affinity u ≡ 2 ^ 64 - 1
 
 -- all that always holds
 pub record IsSound (h : Credit2State) : Type 0 where

@@ -6,13 +6,13 @@ use Rattle.sched_base.specs.declared.Cores.{Cores}
 use Rattle.sched_base.specs.declared.UnitId.{UnitId}
 use Rattle.sched_model.specs.declared.state.Credit2Domain.{Credit2Domain}
 use Rattle.sched_model.specs.Places.{at_place}
-use Rattle.sched_model.specs.EligibleUnits.{has_budget}
-use Rattle.arrival_queue.specs.Filters.{has_domain}
+use Rattle.sched_model.specs.EligibleUnits.{has_cap_budget}
+use Rattle.arrival_queue.specs.Filters.{has_core_bit}
 
 -- 1 where the cap lets the domain run
 abbrev pub may_run_bit : Option Credit2Domain → ℕ
 may_run_bit None = 0
-may_run_bit (Some d) = (if has_budget d then 1 else 0)
+may_run_bit (Some d) = (if has_cap_budget d then 1 else 0)
 
 -- the set of the domains that may run, with bit d for the domain d
 abbrev pub set_of : List (Option Credit2Domain) → ℕ
@@ -21,15 +21,15 @@ set_of (place ∷ domains) = may_run_bit place + 2 * set_of domains
 
 -- whether the cap of the domain at the place lets it run
 abbrev pub may_run_at : Option Credit2Domain → Bool
-may_run_at place = elim place [ None ↦ false | Some d ↦ has_budget d ]
+may_run_at place = elim place [ None ↦ false | Some d ↦ has_cap_budget d ]
 
 -- the set is that of the domains that may run
 pub record AreRunnable (domains : List (Option Credit2Domain)) (set : ℕ) : Type 0 where
-  pub each : (i : ℕ) → has_domain set i ≡ may_run_at (at_place domains i)
+  pub each : (i : ℕ) → has_core_bit set i ≡ may_run_at (at_place domains i)
 
 -- the same of all domains but one
 abbrev pub AreRunnableBut : ℕ → List (Option Credit2Domain) → ℕ → Type 0
-AreRunnableBut d domains set = (i : ℕ) → i ≢ d → has_domain set i ≡ may_run_at (at_place domains i)
+AreRunnableBut d domains set = (i : ℕ) → i ≢ d → has_core_bit set i ≡ may_run_at (at_place domains i)
 
 -- the unit's mask, once those of the first k of the domain's units are written into the table
 abbrev pub masked_cores : List Cores → ℕ → List Cores → ℕ → UnitId → Cores

@@ -4,13 +4,13 @@ use Rattle.std.specs.List.{AllByRecursion}
 use Rattle.sched_base.specs.declared.UnitId.{UnitId}
 use Rattle.arrival_queue.specs.declared.key.Key.{Key}
 use Rattle.arrival_queue.specs.Queues.{Queued}
-use Rattle.runq.specs.Queue.{plain}
+use Rattle.runq.specs.Queue.{single_key}
 use Rattle.sched_model.specs.declared.state.Credit2Records.{Credit2Records}
-use Rattle.sched_model.specs.Credit2.{credit_of}
+use Rattle.sched_model.specs.Credit2.{unit_credit}
 
 -- the key of a unit of these records
 abbrev pub key_in : Credit2Records → UnitId → Key
-key_in records u = plain (neg_ℤ (credit_of records u))
+key_in records u = single_key (neg_ℤ (unit_credit records u))
 
 -- each queued unit that passes the test has its key
 abbrev pub KeysWhere : (UnitId → Bool) → Credit2Records → List Queued → Type 0

@@ -3,13 +3,13 @@ use Rattle.std.specs.Prelude.{ℕ, ◌≡◌, ◌==◌, Bool, true, false, not, 
 use Rattle.std.specs.Option.{ForSome}
 use Rattle.sched_model.specs.declared.config.PoolParams.TheVariants as pool_params
 use Rattle.sched_model.specs.declared.state.Credit2Records.{Credit2Records}
-use Rattle.sched_model.specs.Credit2.{max_weight}
-use Rattle.arrival_queue.specs.Filters.{first_that, has_domain}
+use Rattle.sched_model.specs.Credit2.{most_weight}
+use Rattle.arrival_queue.specs.Filters.{first_that, has_core_bit}
 use Rattle.arrival_queue.specs.Queues.{Queued}
 use Rattle.sched_ops.specs.Seen.{Seen, vacant_scheduler}
 use Rattle.credit2_core.specs.declared.state.Credit2State.{Credit2State}
 use Rattle.credit2_core.specs.declared.line.Ready.{Ready}
-use Rattle.credit2_core.specs.Choice.{first_ready}
+use Rattle.credit2_core.specs.Choice.{first_ready_unit}
 use Rattle.credit2_core.specs.Domains.{AreRunnable, AreRunnableBut}
 use Rattle.credit2_core.specs.Credit2State.{IsSound, seen_in}
 
@@ -29,18 +29,18 @@ IsWhole state = ForSome state IsSound
 -- the set is that of the domains that may run, the unit the first that waits of one of them, and the weight the greatest
 pub record IsReadyIn (h : Credit2State) (ready : Ready) : Type 0 where
   pub domains : AreRunnable h.records.domains ready.domains.0
-  pub first : ready.first ≡ first_ready h.records h.queue.units
-  pub most : ready.most ≡ max_weight h.records
+  pub first : ready.first ≡ first_ready_unit h.records h.queue.units
+  pub most : ready.most ≡ most_weight h.records
 
 -- the same, where the record of a domain was written since; the unit, where it stands, is the first by the set that was
 pub record IsReadyBut (d : ℕ) (stands : Bool) (records : Credit2Records) (es : List Queued) (ready : Ready) : Type 0 where
   pub domains : AreRunnableBut d records.domains ready.domains.0
-  pub first : stands ≡ true → ready.first ≡ first_that (λ u. has_domain ready.domains.0 u.dom.0) es
-  pub most : ready.most ≡ max_weight records
+  pub first : stands ≡ true → ready.first ≡ first_that (λ u. has_core_bit ready.domains.0 u.dom.0) es
+  pub most : ready.most ≡ most_weight records
 
 -- whether the unit is the first also where the domain d may run now, or may not
 abbrev pub stays_first : Ready → ℕ → Bool → Bool
-stays_first ready d true = has_domain ready.domains.0 d
+stays_first ready d true = has_core_bit ready.domains.0 d
 stays_first ready d false = elim ready.first [ None ↦ true | Some u ↦ not (u.dom.0 == d) ]
 
 -- and so is what is kept beside it

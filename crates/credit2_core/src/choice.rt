@@ -6,8 +6,8 @@ ghost use Rattle.sched_base.specs.declared.UnitId.{UnitId as Unit};
 ghost use Rattle.arrival_queue.specs.Filters.{first_that};
 ghost use Rattle.queue_laws.specs.Arrivals.{arrivals};
 ghost use Rattle.sched_model.specs.Places.{without_unit, is_unit};
-ghost use Rattle.sched_model.specs.Policy.{better_waits as better_waits_spec};
-ghost use Rattle.sched_model.specs.Credit2.{max_weight, own_candidate as own_candidate_spec, choice as choice_spec, reset as reset_spec, is_within_limit as is_within_limit_spec};
+ghost use Rattle.sched_model.specs.Policy.{has_better_waiting};
+ghost use Rattle.sched_model.specs.Credit2.{most_weight, credit2_candidate, credit2_choice, reset_records, is_rate_limited};
 ghost use Rattle.sched_ops.specs.Conditions.{IsNow, IsOwnOf};
 ghost use Rattle.scheduler_records.specs.Bounds.{PoolFits};
 ghost use Rattle.credit2_core.specs.Credit2State.{IsFree, IsSound, IsLine, IsSameRoom, AreMasks, scheduler_in, seen_in};
@@ -26,7 +26,7 @@ use scheduler_records::eligible::is_allowed;
 /// The core's own unit, where it may go on.
 fn own_candidate(state: &Credit2State, ask: &Ask) -> Option<UnitId>
     requires { ask.now.core.0 < 64 }
-    ensures { result ≡ own_candidate_spec ask.now (scheduler_in state.now) state.now.records }
+    ensures { result ≡ credit2_candidate ask.now (scheduler_in state.now) state.now.records }
 {
     let u = ask.cur?;
     if ask.runnable
@@ -46,7 +46,7 @@ pub fn choice(state: &Credit2State, ready: &Ready, ask: &Ask) -> Option<UnitId>
     requires core { ask.now.core.0 < 64 }
     requires line { IsLine state.now }
     requires masks { AreMasks state.now.affinity state.now.masks }
-    ensures { result ≡ choice_spec ask.now (scheduler_in state.now) state.now.records }
+    ensures { result ≡ credit2_choice ask.now (scheduler_in state.now) state.now.records }
 {
     if ask.leaving {
         return None;
@@ -84,7 +84,7 @@ pub fn reset_pool(state: &mut Credit2State, t: Moment, m: u64)
     requires fits { PoolFits t.0 state.old.records }
     requires places { length state.old.affinity ≤ 64 }
     requires line { IsLine state.old }
-    ensures records { state.new.records ≡ reset_spec t.0 m state.old.records }
+    ensures records { state.new.records ≡ reset_records t.0 m state.old.records }
     ensures order { arrivals state.new.queue.units ≡ arrivals state.old.queue.units }
     ensures line { IsLine state.new }
     ensures room { IsSameRoom state.old.queue state.new.queue }
@@ -126,9 +126,9 @@ fn better_than(
     waiting: Option<UnitId>,
 ) -> bool
     requires sound { IsSound state.now }
-    requires most { most ≡ max_weight state.now.records }
+    requires most { most ≡ most_weight state.now.records }
     requires now { IsNow (seen_in state.now) t.0 }
-    ensures { (since : ℕ) → is_within_limit_spec state.now.records since t.0 ≡ false → result
+    ensures { (since : ℕ) → is_rate_limited state.now.records since t.0 ≡ false → result
         ≡ is_better_of state.now.records own since t.0 waiting }
 {
     match waiting {
@@ -182,7 +182,7 @@ pub fn better_waits(
     requires ready { IsReadyIn state.now ready.now }
     requires core { core.0 < 64 }
     requires own { IsOwnOf (scheduler_in state.now) cur }
-    ensures { result ≡ better_waits_spec cur since.0 t.0 core.0 home.0 (scheduler_in state.now) }
+    ensures { result ≡ has_better_waiting cur since.0 t.0 core.0 home.0 (scheduler_in state.now) }
 {
     match cur {
         None => best_ready(state, ready, core, home).is_some(),

@@ -3,9 +3,9 @@
 ghost use Rattle.sched_model.specs.CheckedMachine.{most_span};
 ghost use Rattle.std.specs.Prelude.{◌≡◌, ◌≤◌, ◌<◌, length, Some, None, true, false};
 ghost use Rattle.queue_laws.specs.Arrivals.{arrivals};
-ghost use Rattle.sched_model.specs.Places.{without_unit, has_unit, is_unit};
+ghost use Rattle.sched_model.specs.Places.{without_unit, has_listed_unit, is_unit};
 ghost use Rattle.sched_model.specs.Policy.{decision_of, after_decision};
-ghost use Rattle.sched_model.specs.Credit2.{burn_cur as burn_cur_spec, decide, resets_for as resets_for_spec, set_running as set_running_spec, switch_off as switch_off_spec};
+ghost use Rattle.sched_model.specs.Credit2.{own_burned_records, credit2_decision_for, reset_count, running_records, off_records};
 ghost use Rattle.sched_ops.specs.Seen.{Tells, seen_at};
 ghost use Rattle.sched_ops.specs.Conditions.{IsAsked};
 ghost use Rattle.scheduler_records.specs.Bounds.{PoolFits};
@@ -29,7 +29,7 @@ fn charge_own(state: &mut Credit2State, ready: &mut Ready, ask: &Ask)
     requires sound { IsSound state.old }
     requires ready { IsReadyIn state.old ready.old }
     requires asked { IsAsked (seen_in state.old) ask.now }
-    ensures records { state.new.records ≡ burn_cur_spec ask.now.cur ask.now.at.0 state.old.records }
+    ensures records { state.new.records ≡ own_burned_records ask.now.cur ask.now.at.0 state.old.records }
     ensures fits { PoolFits ask.now.at.0 state.new.records }
     ensures line { IsLine state.new }
     ensures ready { IsReadyIn state.new ready.new }
@@ -44,7 +44,7 @@ fn charge_own(state: &mut Credit2State, ready: &mut Ready, ask: &Ask)
 /// The core's own unit runs no more.
 fn stop_own(state: &mut Credit2State, ask: &Ask)
     requires { IsLine state.old }
-    ensures records { state.new.records ≡ switch_off_spec ask.now.cur state.old.records }
+    ensures records { state.new.records ≡ off_records ask.now.cur state.old.records }
     ensures line { IsLine state.new }
     ensures rest { state.new ≡ record state.old
         { records = state.new.records; latest = ask.now.at.0 } }
@@ -56,8 +56,8 @@ fn stop_own(state: &mut Credit2State, ask: &Ask)
 /// The unit, which does not wait, runs from the moment of the question.
 fn start(state: &mut Credit2State, ask: &Ask, u: UnitId)
     requires line { IsLine state.old }
-    requires waits_not { has_unit (arrivals state.old.queue.units) u ≡ false }
-    ensures records { state.new.records ≡ set_running_spec (Some ask.now.at.0) u state.old.records }
+    requires waits_not { has_listed_unit (arrivals state.old.queue.units) u ≡ false }
+    ensures records { state.new.records ≡ running_records (Some ask.now.at.0) u state.old.records }
     ensures line { IsLine state.new }
     ensures rest { state.new ≡ record state.old { records = state.new.records } }
 {
@@ -84,10 +84,10 @@ fn run_unit(state: &mut Credit2State, ready: &mut Ready, ask: &Ask, u: UnitId) -
     requires line { IsLine state.old }
     requires masks { AreMasks state.old.affinity state.old.masks }
     requires free { IsFree state.old.unpinned state.old.affinity }
-    ensures tells { Tells result (decide ask.now (scheduler_in state.old) state.old.records
+    ensures tells { Tells result (credit2_decision_for ask.now (scheduler_in state.old) state.old.records
         (Some u)) }
     ensures records { state.new.records ≡ records_after_run ask.now.cur ask.now.at.0
-        (resets_for_spec ask.now.at.0 u state.old.records) u state.old.records }
+        (reset_count ask.now.at.0 u state.old.records) u state.old.records }
     ensures order { arrivals state.new.queue.units
         ≡ without_unit u (arrivals state.old.queue.units) }
     ensures line { IsLine state.new }
@@ -113,8 +113,8 @@ fn run_unit(state: &mut Credit2State, ready: &mut Ready, ask: &Ask, u: UnitId) -
 /// The core idles.
 fn idle(state: &mut Credit2State, ask: &Ask) -> Choice
     requires { IsLine state.old }
-    ensures tells { Tells result (decide ask.now (scheduler_in state.old) state.old.records None) }
-    ensures records { state.new.records ≡ switch_off_spec ask.now.cur state.old.records }
+    ensures tells { Tells result (credit2_decision_for ask.now (scheduler_in state.old) state.old.records None) }
+    ensures records { state.new.records ≡ off_records ask.now.cur state.old.records }
     ensures line { IsLine state.new }
     ensures rest { state.new ≡ record state.old
         { records = state.new.records; latest = ask.now.at.0 } }

@@ -3,10 +3,10 @@
 ghost use Rattle.std.specs.Prelude.{◌≡◌, ◌≢◌, ◌<◌, ◌≤◌, ◌^◌, ◌&&◌, ℕ, length, nat_lt, slice_set};
 ghost use Rattle.sched_base.specs.declared.UnitId.{UnitId as Unit};
 ghost use Rattle.unit_places.specs.Masks.{mask_of};
-ghost use Rattle.arrival_queue.specs.Filters.{has_domain};
+ghost use Rattle.arrival_queue.specs.Filters.{has_core_bit};
 ghost use Rattle.sched_model.specs.Places.{at_place};
 ghost use Rattle.credit2_core.specs.Places.{refill_of};
-ghost use Rattle.sched_ops.specs.Affinity.{count_at as count_at_spec};
+ghost use Rattle.sched_ops.specs.Affinity.{joined_unit_count};
 ghost use Rattle.credit2_core.specs.Domains.{may_run_at, may_run_bit, set_of, masked_cores};
 
 use due_heap::{DueHeap, put_id};
@@ -52,8 +52,8 @@ pub fn may_run(domains: &[Option<Credit2Domain>], d: DomId) -> bool
 
 /// The set of domains with one domain, or without it. There is no domain from 64 on.
 pub fn with_domain(set: u64, d: DomId, is_in: bool) -> u64
-    ensures others { (i : ℕ) → i ≢ d.0 → has_domain result i ≡ has_domain set i }
-    ensures there { has_domain result d.0 ≡ (is_in && nat_lt d.0 64) }
+    ensures others { (i : ℕ) → i ≢ d.0 → has_core_bit result i ≡ has_core_bit set i }
+    ensures there { has_core_bit result d.0 ≡ (is_in && nat_lt d.0 64) }
 {
     if d.0 < 64 {
         put_id(set, d.0 as u16, is_in)
@@ -92,7 +92,7 @@ pub fn rearm(refills: &mut DueHeap, domains: &[Option<Credit2Domain>], d: DomId)
 
 /// How many units the domain has.
 pub fn count_at(affinity: &[Option<Pins>], d: DomId) -> u8
-    ensures exact { result ≡ count_at_spec affinity.now d.0 }
+    ensures exact { result ≡ joined_unit_count affinity.now d.0 }
     ensures few { result ≤ 32 }
 {
     match item_at(affinity, d.0 as usize) {

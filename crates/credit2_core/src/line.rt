@@ -4,13 +4,13 @@ ghost use Rattle.std.specs.Prelude.{◌≡◌, ◌≤◌, ◌<◌, ◌+◌, neg_
 ghost use Rattle.std.specs.List.{AllByRecursion};
 ghost use Rattle.sched_base.specs.declared.UnitId.{UnitId as Unit};
 ghost use Rattle.queue_laws.specs.Arrivals.{arrivals};
-ghost use Rattle.sched_model.specs.Credit2.{credit_of as credit_of_spec};
+ghost use Rattle.sched_model.specs.Credit2.{unit_credit};
 ghost use Rattle.credit2_core.specs.Keys.{HasCredits, KeysWhere, is_passed};
 ghost use Rattle.sched_ops.specs.Affinity.{is_member_among};
 ghost use Rattle.sched_model.specs.EligibleUnits.{is_allowed_by};
 ghost use Rattle.credit2_core.specs.Credit2State.{AreMasks, IsFree, IsLine, IsSameLine};
-ghost use Rattle.arrival_queue.specs.Filters.{has_domain as domain_in};
-ghost use Rattle.credit2_core.specs.Choice.{best_of, richer_of, first_ready as first_ready_spec, first_with as first_with_spec};
+ghost use Rattle.arrival_queue.specs.Filters.{has_core_bit};
+ghost use Rattle.credit2_core.specs.Choice.{best_of, richer_of, first_ready_unit, first_with_unit};
 ghost use Rattle.credit2_core.specs.Domains.{AreRunnable};
 ghost use Rattle.credit2_core.specs.Whole.{IsReadyIn, IsReadyBut, stays_first};
 
@@ -26,7 +26,7 @@ use scheduler_records::eligible::is_allowed;
 
 /// The key of a unit.
 pub fn key_of(records: &Credit2Records, u: UnitId) -> i128
-    ensures { result ≡ neg_ℤ (credit_of_spec records.now u) }
+    ensures { result ≡ neg_ℤ (unit_credit records.now u) }
 {
     -(credit_of(records, u) as i128)
 }
@@ -99,7 +99,7 @@ pub struct Ready {
 /// The first unit that waits of a domain that may run. The set is that of these domains.
 pub fn first_ready(state: &Credit2State, domains: Allowed) -> Option<UnitId>
     requires { AreRunnable state.now.records.domains domains.0 }
-    ensures { result ≡ first_ready_spec state.now.records state.now.queue.units }
+    ensures { result ≡ first_ready_unit state.now.records state.now.queue.units }
 {
     state.queue.first_where(&domains)
 }
@@ -171,7 +171,7 @@ pub fn richer(records: &Credit2Records, own: UnitId, waiting: Option<UnitId>) ->
 
 /// The first unit of a domain that may run, once the unit waits too, behind all others.
 pub fn first_with(records: &Credit2Records, ready: Ready, u: UnitId) -> Option<UnitId>
-    ensures { result ≡ first_with_spec records.now (domain_in ready.domains.0 u.dom.0) ready.first u }
+    ensures { result ≡ first_with_unit records.now (has_core_bit ready.domains.0 u.dom.0) ready.first u }
 {
     if !has_domain(ready.domains, u.dom) {
         return ready.first;

@@ -8,12 +8,12 @@ ghost use Rattle.sched_model.specs.declared.config.SchedKind.TheVariants as kind
 ghost use Rattle.sched_model.specs.declared.config.DomParams.TheVariants as dom_params;
 ghost use Rattle.sched_model.specs.declared.config.ParamChange.TheVariants as changes;
 ghost use Rattle.sched_model.specs.Places.{at_place};
-ghost use Rattle.sched_model.specs.Policy.{join as join_spec, part as part_spec, set_params as set_params_spec};
+ghost use Rattle.sched_model.specs.Policy.{joined_scheduler, parted_scheduler, changed_scheduler};
 ghost use Rattle.sched_ops.specs.Seen.{seen_at, units_of};
-ghost use Rattle.sched_ops.specs.Conditions.{IsNow, HasNoneBusy, IsChange, has_joined as joined_spec};
+ghost use Rattle.sched_ops.specs.Conditions.{IsNow, HasNoneBusy, IsChange, has_joined_domain};
 ghost use Rattle.sched_laws.specs.RecordRanges.{IsWeight, IsCap};
 ghost use Rattle.credit2_core.specs.Credit2State.{IsSound, scheduler_in, seen_in};
-ghost use Rattle.arrival_queue.specs.Filters.{first_that, has_domain};
+ghost use Rattle.arrival_queue.specs.Filters.{first_that, has_core_bit};
 ghost use Rattle.credit2_core.specs.Domains.{AreRunnableBut, refreshed_cores};
 ghost use Rattle.credit2_core.specs.Whole.{IsReadyIn};
 
@@ -43,7 +43,7 @@ fn refresh(masks: &mut Masks, affinity: &[Option<Pins>], d: DomId)
 fn reweigh(state: &Credit2State, ready: &mut Ready, d: DomId)
     requires few { length state.now.records.domains ≤ 64 }
     requires domains { AreRunnableBut d.0 state.now.records.domains ready.old.domains }
-    requires first { ready.old.first ≡ first_that (λ u. has_domain ready.old.domains u.dom.0)
+    requires first { ready.old.first ≡ first_that (λ u. has_core_bit ready.old.domains u.dom.0)
         state.now.queue.units }
     ensures { IsReadyIn state.now ready.new }
 {
@@ -70,7 +70,7 @@ pub fn join(
     requires weight { IsWeight weight }
     requires cap { IsCap cap }
     requires now { IsNow (seen_in state.old) t.0 }
-    ensures scheduler { scheduler_in state.new ≡ join_spec d.0 units (dom_params.Credit2 weight cap)
+    ensures scheduler { scheduler_in state.new ≡ joined_scheduler d.0 units (dom_params.Credit2 weight cap)
         t.0 (scheduler_in state.old) }
     ensures spare { state.new.spare ≡ state.old.spare - units }
     ensures latest { state.new.latest ≡ t.0 }
@@ -92,9 +92,9 @@ pub fn join(
 pub fn part(state: &mut Credit2State, ready: &mut Ready, d: DomId)
     requires sound { IsSound state.old }
     requires ready { IsReadyIn state.old ready.old }
-    requires joined { joined_spec (scheduler_in state.old) d.0 ≡ true }
+    requires joined { has_joined_domain (scheduler_in state.old) d.0 ≡ true }
     requires idle { HasNoneBusy (scheduler_in state.old) d.0 }
-    ensures scheduler { scheduler_in state.new ≡ part_spec d.0 (scheduler_in state.old) }
+    ensures scheduler { scheduler_in state.new ≡ parted_scheduler d.0 (scheduler_in state.old) }
     ensures spare { state.new.spare ≡ state.old.spare + units_of (scheduler_in state.old) d.0 }
     ensures latest { state.new.latest ≡ state.old.latest }
     ensures sound { IsSound state.new }
@@ -119,12 +119,12 @@ pub fn set_domain(
 )
     requires sound { IsSound state.old }
     requires ready { IsReadyIn state.old ready.old }
-    requires joined { joined_spec (scheduler_in state.old) d.0 ≡ true }
+    requires joined { has_joined_domain (scheduler_in state.old) d.0 ≡ true }
     requires weight { ForSome weight IsWeight }
     requires cap { ForSome cap IsCap }
     requires now { IsNow (seen_in state.old) t.0 }
     ensures seen { seen_in state.new ≡ seen_at t.0
-        (set_params_spec (changes.Dom d weight cap) t.0 (scheduler_in state.old))
+        (changed_scheduler (changes.Dom d weight cap) t.0 (scheduler_in state.old))
         (seen_in state.old) }
     ensures sound { IsSound state.new }
     ensures ready { IsReadyIn state.new ready.new }
@@ -141,7 +141,7 @@ pub fn set_rate(state: &mut Credit2State, limit: u32, t: Moment)
     requires limit { limit ≤ 500000 }
     requires now { IsNow (seen_in state.old) t.0 }
     ensures seen { seen_in state.new ≡ seen_at t.0
-        (set_params_spec (changes.Rate limit) t.0 (scheduler_in state.old)) (seen_in state.old) }
+        (changed_scheduler (changes.Rate limit) t.0 (scheduler_in state.old)) (seen_in state.old) }
     ensures sound { IsSound state.new }
     ensures rest { state.new ≡ record state.old
         { records = record state.old.records { limit = limit }; latest = t.0 } }
@@ -160,10 +160,10 @@ fn stay_unpinned(unpinned: bool, cores: Cores) -> bool
 /// The set of cores of one of the domain's units, or of all of them, changes at t.
 pub fn pin(state: &mut Credit2State, d: DomId, unit: Option<u8>, cores: Cores, t: Moment)
     requires sound { IsSound state.old }
-    requires joined { joined_spec (scheduler_in state.old) d.0 ≡ true }
+    requires joined { has_joined_domain (scheduler_in state.old) d.0 ≡ true }
     requires now { IsNow (seen_in state.old) t.0 }
     ensures seen { seen_in state.new ≡ seen_at t.0
-        (set_params_spec (changes.Pin d unit cores) t.0 (scheduler_in state.old))
+        (changed_scheduler (changes.Pin d unit cores) t.0 (scheduler_in state.old))
         (seen_in state.old) }
     ensures sound { IsSound state.new }
     ensures rest { state.new ≡ record state.old {
@@ -186,7 +186,7 @@ pub fn set_params(state: &mut Credit2State, ready: &mut Ready, change: &ParamCha
     requires now { IsNow (seen_in state.old) t.0 }
     requires change { IsChange kinds.Credit2 (scheduler_in state.old) change.now }
     ensures seen { seen_in state.new ≡ seen_at t.0
-        (set_params_spec change.now t.0 (scheduler_in state.old)) (seen_in state.old) }
+        (changed_scheduler change.now t.0 (scheduler_in state.old)) (seen_in state.old) }
     ensures sound { IsSound state.new }
     ensures ready { IsReadyIn state.new ready.new }
 {

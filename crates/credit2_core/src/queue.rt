@@ -2,11 +2,11 @@
 
 ghost use Rattle.std.specs.Prelude.{◌≡◌, true, Some, ◌≤◌};
 ghost use Rattle.sched_model.specs.declared.config.PoolParams.TheVariants as pool_params;
-ghost use Rattle.sched_model.specs.Policy.{enqueue as enqueue_spec};
-ghost use Rattle.sched_ops.specs.Seen.{with_scheduler, restarted_scheduler, dequeue as dequeue_spec};
+ghost use Rattle.sched_model.specs.Policy.{scheduler_with_queued};
+ghost use Rattle.sched_ops.specs.Seen.{with_scheduler, restarted_scheduler, scheduler_without_unit};
 ghost use Rattle.sched_ops.specs.Conditions.{IsAway, Keeps, is_member, is_vacant};
 ghost use Rattle.sched_ops.specs.Told.{IsInRange};
-ghost use Rattle.sched_model.specs.Policy.{stored_of};
+ghost use Rattle.sched_model.specs.Policy.{unit_stored};
 ghost use Rattle.credit2_core.specs.Credit2State.{IsSound, scheduler_in, seen_in};
 ghost use Rattle.credit2_core.specs.Whole.{IsReadyIn};
 
@@ -23,7 +23,7 @@ pub fn enqueue(state: &mut Credit2State, ready: &mut Ready, u: UnitId)
     requires sound { IsSound state.old }
     requires ready { IsReadyIn state.old ready.old }
     requires away { IsAway (scheduler_in state.old) u }
-    ensures seen { seen_in state.new ≡ with_scheduler (enqueue_spec u (scheduler_in state.old))
+    ensures seen { seen_in state.new ≡ with_scheduler (scheduler_with_queued u (scheduler_in state.old))
         (seen_in state.old) }
     ensures sound { IsSound state.new }
     ensures ready { IsReadyIn state.new ready.new }
@@ -39,7 +39,7 @@ pub fn enqueue(state: &mut Credit2State, ready: &mut Ready, u: UnitId)
 pub fn dequeue(state: &mut Credit2State, ready: &mut Ready, u: UnitId)
     requires sound { IsSound state.old }
     requires ready { IsReadyIn state.old ready.old }
-    ensures seen { seen_in state.new ≡ with_scheduler (dequeue_spec u (scheduler_in state.old))
+    ensures seen { seen_in state.new ≡ with_scheduler (scheduler_without_unit u (scheduler_in state.old))
         (seen_in state.old) }
     ensures sound { IsSound state.new }
     ensures ready { IsReadyIn state.new ready.new }
@@ -69,7 +69,7 @@ pub fn restart(state: &mut Credit2State, limit: u32)
 pub fn stored(state: &Credit2State, u: UnitId) -> Stored
     requires sound { IsSound state.now }
     requires member { is_member (scheduler_in state.now) u ≡ true }
-    ensures value { stored_of (scheduler_in state.now).records u ≡ Some result }
+    ensures value { unit_stored (scheduler_in state.now).records u ≡ Some result }
     ensures range { IsInRange result }
 {
     match item_at(state.records.domains.as_slice(), u.dom.0 as usize) {

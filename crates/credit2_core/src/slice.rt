@@ -2,11 +2,11 @@
 
 ghost use Rattle.std.specs.Prelude.{◌≡◌, ◌≤◌, ◌<◌, length};
 ghost use Rattle.queue_laws.specs.Arrivals.{arrivals};
-ghost use Rattle.sched_model.specs.Credit2.{change_domain, max_weight, take_budget};
+ghost use Rattle.sched_model.specs.Credit2.{change_domain, most_weight, domain_after_take};
 ghost use Rattle.scheduler_records.specs.Bounds.{PoolParamsFit};
 ghost use Rattle.credit2_core.specs.Credit2State.{IsFree, IsLine, AreMasks};
 ghost use Rattle.credit2_core.specs.Whole.{IsReadyIn, IsReadyBut};
-ghost use Rattle.credit2_core.specs.Choice.{best_of, credit_or_0, slice_beside as slice_beside_spec};
+ghost use Rattle.credit2_core.specs.Choice.{best_of, credit_or_0, unit_slice};
 
 use crate::choice::other_credit;
 use crate::line::{Ready, follow};
@@ -20,10 +20,10 @@ use scheduler_records::credit2_slice::slice_in;
 
 /// How long the unit runs, where the best of the others has so much credit. The greatest weight of the pool is most.
 fn slice_beside(records: &Credit2Records, most: u32, u: UnitId, other: i64) -> u64
-    requires most { most ≡ max_weight records.now }
+    requires most { most ≡ most_weight records.now }
     requires params { PoolParamsFit records.now }
     requires limit { records.now.limit ≤ 500000 }
-    ensures exact { result ≡ slice_beside_spec records.now u other }
+    ensures exact { result ≡ unit_slice records.now u other }
     ensures few { result ≤ 500000000 }
 {
     match item_at(records.domains.as_slice(), u.dom.0 as usize) {
@@ -45,16 +45,16 @@ pub fn take_slice(
     requires core { ask.now.core.0 < 64 }
     requires few { length state.old.records.domains ≤ 64 }
     requires params { PoolParamsFit state.old.records }
-    requires taken { PoolParamsFit (change_domain u.dom.0 (take_budget u.n) state.old.records) }
+    requires taken { PoolParamsFit (change_domain u.dom.0 (domain_after_take u.n) state.old.records) }
     requires limit { state.old.records.limit ≤ 500000 }
     requires line { IsLine state.old }
     requires masks { AreMasks state.old.affinity state.old.masks }
     requires free { IsFree state.old.unpinned state.old.affinity }
     ensures records { state.new.records
-        ≡ change_domain u.dom.0 (take_budget u.n) state.old.records }
+        ≡ change_domain u.dom.0 (domain_after_take u.n) state.old.records }
     ensures line { IsLine state.new }
     ensures ready { IsReadyIn state.new ready.new }
-    ensures slice { result ≡ slice_beside_spec state.new.records u
+    ensures slice { result ≡ unit_slice state.new.records u
         (credit_or_0 state.new.records (best_of (arrivals state.new.queue.units) state.new.affinity
         ask.now.home.0 ask.now.core.0 state.new.records)) }
     ensures short { result ≤ 500000000 }

@@ -5,10 +5,10 @@ ghost use Rattle.sched_model.specs.Places.{numbered_items};
 ghost use Rattle.sched_ops.specs.declared.timer.Timer.TheVariants as timers;
 ghost use Rattle.sched_ops.specs.Seen.{seen_at};
 ghost use Rattle.sched_ops.specs.Conditions.{IsNow};
-ghost use Rattle.sched_ops.specs.Timers.{timer_at, is_due, timer_event, after_timer, first_due as first_due_spec, refills};
+ghost use Rattle.sched_ops.specs.Timers.{next_scheduler_timer, is_due, timer_event, after_timer, first_due_timer, refills};
 ghost use Rattle.credit2_core.specs.Credit2State.{IsSound, scheduler_in, seen_in};
 ghost use Rattle.credit2_core.specs.Whole.{IsReadyIn};
-ghost use Rattle.credit2_core.specs.Timing.{come_at, periods_at as periods_at_spec, budget_at as budget_at_spec};
+ghost use Rattle.credit2_core.specs.Timing.{come_at, domain_periods, domain_budget};
 
 use crate::domains::rearm;
 use crate::line::{Ready, follow};
@@ -37,7 +37,7 @@ fn come(place: &Option<Credit2Domain>, t: Moment) -> Option<u64>
 /// The first refill, by domain, that has come at t. The first of the domains has the number n.
 fn first_due(n: u8, t: Moment, domains: &[Option<Credit2Domain>]) -> Option<(Moment, Timer)>
     requires { n + length domains.now ≤ 64 }
-    ensures { result ≡ first_due_spec t.0 (refills (numbered_items n domains.now)) }
+    ensures { result ≡ first_due_timer t.0 (refills (numbered_items n domains.now)) }
 {
     match domains {
         [] => None,
@@ -51,7 +51,7 @@ fn first_due(n: u8, t: Moment, domains: &[Option<Credit2Domain>]) -> Option<(Mom
 /// The first refill, by domain, that has come at t; where there is none, the one of the least moment.
 pub fn timer_due(state: &Credit2State, t: Moment) -> Option<(Moment, Timer)>
     requires { IsSound state.now }
-    ensures { result ≡ timer_at t.0 (scheduler_in state.now) }
+    ensures { result ≡ next_scheduler_timer t.0 (scheduler_in state.now) }
 {
     match state.refills.least() {
         None => None,
@@ -67,7 +67,7 @@ pub fn timer_due(state: &Credit2State, t: Moment) -> Option<(Moment, Timer)>
 
 /// How many of the domain's periods have come at t since its refill was due.
 fn periods_at(records: &Credit2Records, d: DomId, t: Moment) -> u64
-    ensures { result ≡ periods_at_spec records.now d.0 t.0 }
+    ensures { result ≡ domain_periods records.now d.0 t.0 }
 {
     match item_at(records.domains.as_slice(), d.0 as usize) {
         None => 0,
@@ -77,7 +77,7 @@ fn periods_at(records: &Credit2Records, d: DomId, t: Moment) -> u64
 
 /// The budget that is left to the domain.
 fn budget_at(records: &Credit2Records, d: DomId) -> i64
-    ensures { result ≡ budget_at_spec records.now d.0 }
+    ensures { result ≡ domain_budget records.now d.0 }
 {
     match item_at(records.domains.as_slice(), d.0 as usize) {
         None => 0,

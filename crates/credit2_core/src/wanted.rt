@@ -1,11 +1,11 @@
 //! The cores for which one that waits is better.
 
 ghost use Rattle.std.specs.Prelude.{◌≡◌, ◌≤◌, ℕ, length};
-ghost use Rattle.sched_model.specs.State.{has_core};
+ghost use Rattle.sched_model.specs.State.{has_core_bit};
 ghost use Rattle.sched_model.specs.Places.{at_place};
 ghost use Rattle.sched_laws.specs.EachPlace.{EachPlace};
 ghost use Rattle.sched_ops.specs.Conditions.{IsNow};
-ghost use Rattle.sched_ops.specs.WantedCores.{MayAsk, is_wanted};
+ghost use Rattle.sched_ops.specs.WantedCores.{MayAsk, is_core_wanted};
 ghost use Rattle.credit2_core.specs.Credit2State.{IsSound, scheduler_in, seen_in};
 ghost use Rattle.credit2_core.specs.Whole.{IsReadyIn};
 
@@ -29,7 +29,7 @@ fn wanted_by_core(
     requires ready { IsReadyIn state.now ready.now }
     requires few { length cores.now ≤ 64 }
     requires asks { EachPlace (MayAsk t.0 (scheduler_in state.now)) cores.now }
-    ensures { (r : ℕ) → has_core result.0 r ≡ is_wanted t.0 home.0 (scheduler_in state.now) r
+    ensures { (r : ℕ) → has_core_bit result.0 r ≡ is_core_wanted t.0 home.0 (scheduler_in state.now) r
         (at_place cores.now r) }
 {
     wanted_where(cores, |core, cur, since| {
@@ -51,7 +51,7 @@ pub fn wanted(
     requires ready { IsReadyIn state.now ready.now }
     requires few { length cores.now ≤ 64 }
     requires asks { EachPlace (MayAsk t.0 (scheduler_in state.now)) cores.now }
-    ensures { (r : ℕ) → has_core result.0 r ≡ is_wanted t.0 home.0 (scheduler_in state.now) r
+    ensures { (r : ℕ) → has_core_bit result.0 r ≡ is_core_wanted t.0 home.0 (scheduler_in state.now) r
         (at_place cores.now r) }
 {
     state.queue.law_order();

@@ -15,17 +15,17 @@ const MOST_CREDIT: i64 = 10_500_000;
 /// How many resets at once a credit calls for: one, and one more for each whole 10,000,000 that it is below 0.
 /// That many are just enough to bring it above 0.
 pub fn resets(credit: i64) -> u64
-    ensures exact { result ≡ numbers.resets credit }
+    ensures exact { result ≡ numbers.called_resets credit }
     ensures some { 1 ≤ result }
     ensures few { result ≤ 1000000000000 }
-    ensures enough { pos 0 <ℤ numbers.raise credit result }
+    ensures enough { pos 0 <ℤ numbers.raised_credit credit result }
 {
     1 + below_zero(credit) / START_CREDIT
 }
 
 /// How far a number is below 0.
 fn below_zero(n: i64) -> u64
-    ensures { result ≡ numbers.below_zero n }
+    ensures { result ≡ numbers.negative_part n }
 {
     if n < 0 { n.unsigned_abs() } else { 0 }
 }
@@ -33,7 +33,7 @@ fn below_zero(n: i64) -> u64
 /// The credit after so many resets at once, which is 10,500,000 at most.
 pub fn raise(credit: i64, m: u64) -> i64
     requires { m ≤ 1000000000000 }
-    ensures exact { result ≡ numbers.raise credit m }
+    ensures exact { result ≡ numbers.raised_credit credit m }
     ensures most { result ≤ℤ pos 10500000 }
 {
     let raised = credit as i128 + (m * START_CREDIT) as i128;

@@ -21,8 +21,8 @@ use Rattle.sched_model.specs.declared.config.PoolParams.{PoolParams}
 use Rattle.sched_model.specs.declared.config.PoolParams.TheVariants as pool_params
 use Rattle.sched_model.specs.declared.config.SchedKind.{SchedKind}
 use Rattle.sched_model.specs.declared.config.SchedKind.TheVariants as kinds
-use Rattle.sched_model.specs.State.{has_core}
-use Rattle.sched_model.specs.Opening.{core_count}
+use Rattle.sched_model.specs.State.{has_core_bit}
+use Rattle.sched_model.specs.Opening.{machine_core_count}
 use Rattle.sched_model.specs.Actions.{units_from}
 use Rattle.sched_model.specs.CheckedMachine.{IsWithin, IsGranularity, HasUnit, IsCheckedFrame, PoolParamsPass, IsCheckedPool, IsCheckedScript, DomParamsPass, IsCheckedDomain, IsCheckedConfig, most_span}
 use Rattle.sched_model.proofs.PlaceLemmas.{length-numbers_from}
@@ -40,11 +40,11 @@ use Rattle.dom_file.specs.declared.head.Head.{Head}
 use Rattle.dom_file.specs.Steps.{◌>>=◌, at, each, Gives}
 use Rattle.dom_file.specs.Values.{table_of, array_of}
 use Rattle.dom_file.specs.Heads.{head_of}
-use Rattle.dom_file.specs.Pins.{unit_count}
+use Rattle.dom_file.specs.Pins.{guest_unit_count}
 use Rattle.dom_file.specs.Pools.{default_pool}
 use Rattle.dom_file.specs.Domains.{domains_in}
-use Rattle.dom_file.specs.Finish.{number_below, unit_count_at, entry_of, frame_of, params_of, finished_pool, finished_pools, total_units, few_units}
-use Rattle.dom_file.specs.Configs.{tables_of, pool_tables_in, domain_tables_in, all_pools, config_of}
+use Rattle.dom_file.specs.Finish.{number_below, units_of_domain, entry_of, frame_of, params_of, finished_pool, finished_pools, total_units, unit_count_check}
+use Rattle.dom_file.specs.Configs.{tables_of, pool_tables_in, domain_tables_in, pools_of_tables, config_of}
 use Rattle.dom_file.proofs.Passed.{bind_ok, at_ok, kept, ok_is, absent_or_ok, array_ok, Pairs, each_ok, length-Pairs, get-Pairs, one_core}
 use Rattle.dom_file.proofs.CheckedPools.{IsCheckedHead, head_ok, IsFrameDraft, DraftPasses, IsPoolDraft, ArePoolDrafts, pools_ok, default_pool_ok}
 use Rattle.dom_file.proofs.CheckedDomains.{IsDomainDraft, AreDomainDrafts, domains_ok}
@@ -56,9 +56,9 @@ length-units_from : (g d : ℕ) (domains : List DomConfig) → length (units_fro
 length-units_from g d [] = refl
 length-units_from g d (domain ∷ domains) =
     let count = (length domain.guests + g - 1) / g in
-    rw (length-append, length-map, length-numbers_from, length-units_from g (suc d) domains) (sym (sum_by-cons (λ (d : DomConfig). unit_count g (length d.guests)) domain domains))
+    rw (length-append, length-map, length-numbers_from, length-units_from g (suc d) domains) (sym (sum_by-cons (λ (d : DomConfig). guest_unit_count g (length d.guests)) domain domains))
 
-few_units_ok : (g : ℕ) (domains : List DomConfig) (few : ⊤) → few_units g domains ≡ Ok few → total_units g domains ≤ 256
+few_units_ok : (g : ℕ) (domains : List DomConfig) (few : ⊤) → unit_count_check g domains ≡ Ok few → total_units g domains ≤ 256
 few_units_ok g domains few e = leb-true (total_units g domains) 256 (kept (leb (total_units g domains) 256) tt few (Range (pos (total_units g domains))) e).0
 
 -- ---- frames
@@ -67,13 +67,13 @@ below_ok : (count : ℕ) (z : ℤ) (n : ℕ) → number_below count z ≡ Ok n �
 below_ok count (pos m) n e = let k = kept (ltb m count) m n (Range (pos m)) e in subst (λ n. n < count) k.1 (ltb-true m count k.0)
 below_ok count (negsuc m) n e = absurd cc
 
-unit_fits : (g unit guests : ℕ) → IsGranularity g → unit < unit_count g guests → unit * g < guests
-unit_fits g unit guests (inl is) inside = let h : unit < unit_count 1 guests = subst (λ g. unit < unit_count g guests) is inside in rw is (omega arith)
-unit_fits g unit guests (inr (inl is)) inside = let h : unit < unit_count 2 guests = subst (λ g. unit < unit_count g guests) is inside in rw is (omega arith)
-unit_fits g unit guests (inr (inr is)) inside = let h : unit < unit_count 4 guests = subst (λ g. unit < unit_count g guests) is inside in rw is (omega arith)
+unit_fits : (g unit guests : ℕ) → IsGranularity g → unit < guest_unit_count g guests → unit * g < guests
+unit_fits g unit guests (inl is) inside = let h : unit < guest_unit_count 1 guests = subst (λ g. unit < guest_unit_count g guests) is inside in rw is (omega arith)
+unit_fits g unit guests (inr (inl is)) inside = let h : unit < guest_unit_count 2 guests = subst (λ g. unit < guest_unit_count g guests) is inside in rw is (omega arith)
+unit_fits g unit guests (inr (inr is)) inside = let h : unit < guest_unit_count 4 guests = subst (λ g. unit < guest_unit_count g guests) is inside in rw is (omega arith)
 
 abbrev units_of_found : ℕ → Option DomConfig → ℕ
-units_of_found g found = elim found [ None ↦ 0 | Some d ↦ unit_count g (length d.guests) ]
+units_of_found g found = elim found [ None ↦ 0 | Some d ↦ guest_unit_count g (length d.guests) ]
 
 unit_is_there : (g n unit : ℕ) (domains : List DomConfig) (found : Option DomConfig) → IsGranularity g → slice_get domains n ≡ found → unit < units_of_found g found → (domain : DomConfig) × (slice_get domains n ≡ Some domain) × (unit * g < length domain.guests)
 unit_is_there g n unit domains None gran is inside = absurd (omega arith)
@@ -85,12 +85,12 @@ IsEntryOf config draft entry = (entry.run ≡ draft.run) × HasUnit config entry
 
 entry_ok : (config : Config) → IsGranularity config.granularity → (draft : EntryDraft) (entry : FrameEntry) → entry_of config.granularity config.domains draft ≡ Ok entry → IsEntryOf config draft entry
 entry_ok config gran draft entry e =
-    let s0 = bind_ok (number_below (length config.domains) draft.dom) (λ dom. number_below (unit_count_at config.granularity config.domains dom) draft.unit >>= λ unit. Ok (record { dom = domain_number dom; unit = unit; run = draft.run })) entry e in
+    let s0 = bind_ok (number_below (length config.domains) draft.dom) (λ dom. number_below (units_of_domain config.granularity config.domains dom) draft.unit >>= λ unit. Ok (record { dom = domain_number dom; unit = unit; run = draft.run })) entry e in
     let dom = s0.0 in
-    let s1 = bind_ok (number_below (unit_count_at config.granularity config.domains dom) draft.unit) (λ unit. Ok (record { dom = domain_number dom; unit = unit; run = draft.run })) entry s0.2 in
+    let s1 = bind_ok (number_below (units_of_domain config.granularity config.domains dom) draft.unit) (λ unit. Ok (record { dom = domain_number dom; unit = unit; run = draft.run })) entry s0.2 in
     let unit = s1.0 in
     let made : FrameEntry = record { dom = domain_number dom; unit = unit; run = draft.run } in
-    let inside = below_ok (unit_count_at config.granularity config.domains dom) draft.unit unit s1.1 in
+    let inside = below_ok (units_of_domain config.granularity config.domains dom) draft.unit unit s1.1 in
     subst (IsEntryOf config draft) (ok_is DomCause made entry s1.2) (refl, unit_is_there config.granularity dom unit config.domains (slice_get config.domains dom) gran refl inside)
 
 runs-Pairs : (config : Config) (ds : List EntryDraft) (es : List FrameEntry) → Pairs (IsEntryOf config) ds es → sum_by (λ (e : FrameEntry). e.run.0) es ≡ sum_by (λ (e : EntryDraft). e.run.0) ds
@@ -194,7 +194,7 @@ pool_tables_ok table tables e = absent_or_ok FewPools (get_member (codes "pool")
 domain_tables_ok : (table : Members) (tables : List Members) → domain_tables_in table ≡ Ok tables → length tables ≤ 64
 domain_tables_ok table tables e = absent_or_ok (λ (ts : List Members). length ts ≤ 64) (get_member (codes "domain") table) [] (tables_of 0 64) tables (omega arith) (λ d h. (tables_ok 0 64 d tables h).most) e
 
-all_pools_ok : (head : Head) → IsCheckedHead head → (tables : Option (List Members)) → FewPools tables → (pools : List PoolDraft) → all_pools head tables ≡ Ok pools → ArePoolDrafts head pools × IsWithin 1 16 (length pools)
+all_pools_ok : (head : Head) → IsCheckedHead head → (tables : Option (List Members)) → FewPools tables → (pools : List PoolDraft) → pools_of_tables head tables ≡ Ok pools → ArePoolDrafts head pools × IsWithin 1 16 (length pools)
 all_pools_ok head checked None few pools e = subst (λ pools. ArePoolDrafts head pools × IsWithin 1 16 (length pools)) (ok_is DomFault (default_pool head ∷ []) pools e) (default_pool_ok head checked, record { least = omega arith; most = omega arith })
 all_pools_ok head checked (Some tables) few pools e =
     let h = pools_ok head checked tables pools e in
@@ -202,23 +202,23 @@ all_pools_ok head checked (Some tables) few pools e =
 
 -- ---- the whole
 
-pool_ok : (head : Head) (config : Config) → IsGranularity config.granularity → core_count config ≡ head.processors / head.granularity → (draft : PoolDraft) (pool : PoolConfig) → IsPoolDraft head draft → IsPoolOf config.granularity config.domains draft pool → IsCheckedPool config pool
+pool_ok : (head : Head) (config : Config) → IsGranularity config.granularity → machine_core_count config ≡ head.processors / head.granularity → (draft : PoolDraft) (pool : PoolConfig) → IsPoolDraft head draft → IsPoolOf config.granularity config.domains draft pool → IsCheckedPool config pool
 pool_ok head config gran count draft pool checked of = record {
   name = rw of.name checked.name;
   cores = rw (of.cores, count) checked.cores;
   params = rw of.kind (params_ok config gran draft.kind draft.params checked.params pool.params of.params);
-  one_core = λ arinc r s at_r at_s. one_core draft.cores r s (checked.one_core (sym of.kind ∙ arinc)) (subst (λ cores. has_core cores r ≡ true) of.cores at_r) (subst (λ cores. has_core cores s ≡ true) of.cores at_s);
+  one_core = λ arinc r s at_r at_s. one_core draft.cores r s (checked.one_core (sym of.kind ∙ arinc)) (subst (λ cores. has_core_bit cores r ≡ true) of.cores at_r) (subst (λ cores. has_core_bit cores s ≡ true) of.cores at_s);
 }
 
 same_draft : (ds : List PoolDraft) (i : ℕ) (p q : PoolDraft) → slice_get ds i ≡ Some p → slice_get ds i ≡ Some q → p ≡ q
 same_draft ds i p q at_p at_q = cc
 
-domain_ok : (head : Head) (config : Config) (ds : List PoolDraft) → config.granularity ≡ head.granularity → core_count config ≡ head.processors / head.granularity → Pairs (IsPoolOf config.granularity config.domains) ds config.pools → (domain : DomConfig) → IsDomainDraft head ds domain → IsCheckedDomain config domain
+domain_ok : (head : Head) (config : Config) (ds : List PoolDraft) → config.granularity ≡ head.granularity → machine_core_count config ≡ head.processors / head.granularity → Pairs (IsPoolOf config.granularity config.domains) ds config.pools → (domain : DomConfig) → IsDomainDraft head ds domain → IsCheckedDomain config domain
 domain_ok head config ds same_g count pairs domain checked =
     let R = IsPoolOf config.granularity config.domains in
     let home = checked.home in
-    let units : length (units_from config.granularity 0 (domain ∷ [])) ≡ unit_count head.granularity (length domain.guests) =
-    length-units_from config.granularity 0 (domain ∷ []) ∙ sum_by-cons (λ (d : DomConfig). unit_count config.granularity (length d.guests)) domain [] ∙ rw same_g (omega arith) in
+    let units : length (units_from config.granularity 0 (domain ∷ [])) ≡ guest_unit_count head.granularity (length domain.guests) =
+    length-units_from config.granularity 0 (domain ∷ []) ∙ sum_by-cons (λ (d : DomConfig). guest_unit_count config.granularity (length d.guests)) domain [] ∙ rw same_g (omega arith) in
     record {
       name = checked.name;
       home = omega (arith, slice_get_within ds domain.home.0 home.0 home.1, length-Pairs R ds config.pools pairs);
@@ -233,7 +233,7 @@ domain_ok head config ds same_g count pairs domain checked =
       scripts = All-from_recursion IsCheckedScript domain.guests checked.scripts;
       pins = record {
         count = elim checked.pins.0 [ inl none ↦ inl none | inr each ↦ inr (each ∙ sym units) ];
-        cores = All-from_recursion (λ (c : Cores). IsWithin 1 (2 ^ core_count config - 1) c.0) domain.pins (rw count checked.pins.1);
+        cores = All-from_recursion (λ (c : Cores). IsWithin 1 (2 ^ machine_core_count config - 1) c.0) domain.pins (rw count checked.pins.1);
       };
     }
 
@@ -268,7 +268,7 @@ parts_ok h ds domains pools parts =
       cores_apart = λ i j r p q at_i at_j in_p in_q.
           let d = get-Pairs R ds pools i p parts.pairs at_i in
           let e = get-Pairs R ds pools j q parts.pairs at_j in
-          parts.ds.cores_apart r i j d.0 e.0 d.1 e.1 (subst (λ cores. has_core cores r ≡ true) d.2.cores in_p, subst (λ cores. has_core cores r ≡ true) e.2.cores in_q);
+          parts.ds.cores_apart r i j d.0 e.0 d.1 e.1 (subst (λ cores. has_core_bit cores r ≡ true) d.2.cores in_p, subst (λ cores. has_core_bit cores r ≡ true) e.2.cores in_q);
       pool_names_apart = λ i j p q at_i at_j named.
           let d = get-Pairs R ds pools i p parts.pairs at_i in
           let e = get-Pairs R ds pools j q parts.pairs at_j in
@@ -282,17 +282,17 @@ parts_ok h ds domains pools parts =
 pub config_ok : (table : Members) (config : Config) → config_of table ≡ Ok config → IsCheckedConfig config
 unfolding config_of
 config_ok table config e =
-    let s0 = bind_ok (head_of table) (λ head. at Top 0 (codes "pool") (pool_tables_in table) >>= λ pool_tables. at Top 0 (codes "domain") (domain_tables_in table) >>= λ domain_tables. all_pools head pool_tables >>= λ ds. domains_in head ds [] domain_tables >>= λ domains. at Top 0 (codes "domain") (few_units head.granularity domains) >>= λ few. finished_pools head.granularity domains [] ds >>= λ pools. Ok (record { granularity = head.granularity; processors = head.processors; horizon = head.horizon; pools = pools; domains = domains })) config e in
+    let s0 = bind_ok (head_of table) (λ head. at Top 0 (codes "pool") (pool_tables_in table) >>= λ pool_tables. at Top 0 (codes "domain") (domain_tables_in table) >>= λ domain_tables. pools_of_tables head pool_tables >>= λ ds. domains_in head ds [] domain_tables >>= λ domains. at Top 0 (codes "domain") (unit_count_check head.granularity domains) >>= λ few. finished_pools head.granularity domains [] ds >>= λ pools. Ok (record { granularity = head.granularity; processors = head.processors; horizon = head.horizon; pools = pools; domains = domains })) config e in
     let head = s0.0 in
-    let s1 = bind_ok (at Top 0 (codes "pool") (pool_tables_in table)) (λ pool_tables. at Top 0 (codes "domain") (domain_tables_in table) >>= λ domain_tables. all_pools head pool_tables >>= λ ds. domains_in head ds [] domain_tables >>= λ domains. at Top 0 (codes "domain") (few_units head.granularity domains) >>= λ few. finished_pools head.granularity domains [] ds >>= λ pools. Ok (record { granularity = head.granularity; processors = head.processors; horizon = head.horizon; pools = pools; domains = domains })) config s0.2 in
+    let s1 = bind_ok (at Top 0 (codes "pool") (pool_tables_in table)) (λ pool_tables. at Top 0 (codes "domain") (domain_tables_in table) >>= λ domain_tables. pools_of_tables head pool_tables >>= λ ds. domains_in head ds [] domain_tables >>= λ domains. at Top 0 (codes "domain") (unit_count_check head.granularity domains) >>= λ few. finished_pools head.granularity domains [] ds >>= λ pools. Ok (record { granularity = head.granularity; processors = head.processors; horizon = head.horizon; pools = pools; domains = domains })) config s0.2 in
     let pool_tables = s1.0 in
-    let s2 = bind_ok (at Top 0 (codes "domain") (domain_tables_in table)) (λ domain_tables. all_pools head pool_tables >>= λ ds. domains_in head ds [] domain_tables >>= λ domains. at Top 0 (codes "domain") (few_units head.granularity domains) >>= λ few. finished_pools head.granularity domains [] ds >>= λ pools. Ok (record { granularity = head.granularity; processors = head.processors; horizon = head.horizon; pools = pools; domains = domains })) config s1.2 in
+    let s2 = bind_ok (at Top 0 (codes "domain") (domain_tables_in table)) (λ domain_tables. pools_of_tables head pool_tables >>= λ ds. domains_in head ds [] domain_tables >>= λ domains. at Top 0 (codes "domain") (unit_count_check head.granularity domains) >>= λ few. finished_pools head.granularity domains [] ds >>= λ pools. Ok (record { granularity = head.granularity; processors = head.processors; horizon = head.horizon; pools = pools; domains = domains })) config s1.2 in
     let domain_tables = s2.0 in
-    let s3 = bind_ok (all_pools head pool_tables) (λ ds. domains_in head ds [] domain_tables >>= λ domains. at Top 0 (codes "domain") (few_units head.granularity domains) >>= λ few. finished_pools head.granularity domains [] ds >>= λ pools. Ok (record { granularity = head.granularity; processors = head.processors; horizon = head.horizon; pools = pools; domains = domains })) config s2.2 in
+    let s3 = bind_ok (pools_of_tables head pool_tables) (λ ds. domains_in head ds [] domain_tables >>= λ domains. at Top 0 (codes "domain") (unit_count_check head.granularity domains) >>= λ few. finished_pools head.granularity domains [] ds >>= λ pools. Ok (record { granularity = head.granularity; processors = head.processors; horizon = head.horizon; pools = pools; domains = domains })) config s2.2 in
     let ds = s3.0 in
-    let s4 = bind_ok (domains_in head ds [] domain_tables) (λ domains. at Top 0 (codes "domain") (few_units head.granularity domains) >>= λ few. finished_pools head.granularity domains [] ds >>= λ pools. Ok (record { granularity = head.granularity; processors = head.processors; horizon = head.horizon; pools = pools; domains = domains })) config s3.2 in
+    let s4 = bind_ok (domains_in head ds [] domain_tables) (λ domains. at Top 0 (codes "domain") (unit_count_check head.granularity domains) >>= λ few. finished_pools head.granularity domains [] ds >>= λ pools. Ok (record { granularity = head.granularity; processors = head.processors; horizon = head.horizon; pools = pools; domains = domains })) config s3.2 in
     let domains = s4.0 in
-    let s5 = bind_ok (at Top 0 (codes "domain") (few_units head.granularity domains)) (λ few. finished_pools head.granularity domains [] ds >>= λ pools. Ok (record { granularity = head.granularity; processors = head.processors; horizon = head.horizon; pools = pools; domains = domains })) config s4.2 in
+    let s5 = bind_ok (at Top 0 (codes "domain") (unit_count_check head.granularity domains)) (λ few. finished_pools head.granularity domains [] ds >>= λ pools. Ok (record { granularity = head.granularity; processors = head.processors; horizon = head.horizon; pools = pools; domains = domains })) config s4.2 in
     let few = s5.0 in
     let s6 = bind_ok (finished_pools head.granularity domains [] ds) (λ pools. Ok (record { granularity = head.granularity; processors = head.processors; horizon = head.horizon; pools = pools; domains = domains })) config s5.2 in
     let pools = s6.0 in
@@ -307,7 +307,7 @@ config_ok table config e =
       count = in_pools.1;
       domains = in_domains.0;
       few_domains = omega (arith, in_domains.1, few_domains);
-      few_units = few_units_ok head.granularity domains few (at_ok Top 0 (codes "domain") (few_units head.granularity domains) few s5.1);
+      few_units = few_units_ok head.granularity domains few (at_ok Top 0 (codes "domain") (unit_count_check head.granularity domains) few s5.1);
       pairs = pool_pairs head.granularity domains ds pools s6.1;
     } in
     subst IsCheckedConfig (ok_is DomFault (machine_of head pools domains) config s6.2) (parts_ok head ds domains pools parts)

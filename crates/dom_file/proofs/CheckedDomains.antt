@@ -6,7 +6,7 @@ use Rattle.std.specs.Str.{bytes_eq}
 use Rattle.std.proofs.lemmas.Bool.{eqb-true, false≢true}
 use Rattle.std.proofs.lemmas.List.Elements.{All-from_recursion}
 use Rattle.sched_base.specs.Numbers.{span, pool as pool_number, core_set}
-use Rattle.sched_base.specs.Names.{is_name}
+use Rattle.sched_base.specs.Names.{is_valid_name}
 use Rattle.sched_base.specs.declared.Cores.{Cores}
 use Rattle.sched_base.specs.declared.Span.{Span}
 use Rattle.sched_model.specs.declared.config.SchedKind.{SchedKind}
@@ -24,12 +24,12 @@ use Rattle.dom_file.specs.declared.fault.DomCause.TheVariants.{Range, Twice, NoS
 use Rattle.dom_file.specs.declared.fault.DomFault.{DomFault}
 use Rattle.dom_file.specs.declared.head.Head.{Head}
 use Rattle.dom_file.specs.Steps.{◌>>=◌, at, each}
-use Rattle.dom_file.specs.Values.{required_value, number_of, number_or, array_of, name_of}
-use Rattle.dom_file.specs.Keys.{only_known}
+use Rattle.dom_file.specs.Values.{required_value, number_of, number_or_default, array_of, name_of}
+use Rattle.dom_file.specs.Keys.{key_check}
 use Rattle.dom_file.specs.Cores.{cores_of}
 use Rattle.dom_file.specs.Guests.{span_of, script_of, scripts_of}
-use Rattle.dom_file.specs.Pins.{unit_count, pin_of, pins_in}
-use Rattle.dom_file.specs.Domains.{has_name, domain_name_in, home_place_in, home_at, home_in, domain_keys, period_in, budget_in, extra_in, params_in, domain_in, domains_in}
+use Rattle.dom_file.specs.Pins.{guest_unit_count, pin_of, pins_in}
+use Rattle.dom_file.specs.Domains.{has_domain_named, domain_name_in, home_place_in, home_with_cores, home_in, known_domain_keys, period_in, budget_in, extra_in, params_in, domain_in, domains_in}
 use Rattle.dom_file.proofs.Passed.{bind_ok, at_ok, kept_not, ok_is, absent_or_ok, number_ok, number_or_ok, name_ok, array_ok, each_ok, length-Pairs, all-Pairs, length-push, none_passes, Apart, apart-push, other_name}
 use Rattle.sched_base.proofs.Lists.{AllByRecursion-push}
 use Rattle.dom_file.proofs.CheckedPools.{IsCheckedHead, cores_in_all, cores_ok}
@@ -131,20 +131,20 @@ home_of_pool_ok pools n (Some p) home is e =
 
 home_ok : (pools : List PoolDraft) (table : Members) (home : HomePool) → home_in pools table ≡ Ok home → IsHomePool pools home
 home_ok pools table home e =
-    let s = bind_ok (home_place_in pools table) (home_at pools) home e in
+    let s = bind_ok (home_place_in pools table) (home_with_cores pools) home e in
     home_of_pool_ok pools s.0 (slice_get pools s.0) home refl s.2
 
 -- ---- parameters
 
 params_ok : (kind : SchedKind) (i : ℕ) (table : Members) (params : DomParams) → params_in kind i table ≡ Ok params → DomParamsPass kind params
 params_ok kinds.Credit2 i table params e =
-    let s0 = bind_ok (at Domain i (codes "weight") (number_or (codes "weight") 256 1 65535 table)) (λ weight. at Domain i (codes "cap") (number_or (codes "cap") 0 0 6400 table) >>= λ cap. Ok (dom_params.Credit2 weight cap)) params e in
+    let s0 = bind_ok (at Domain i (codes "weight") (number_or_default (codes "weight") 256 1 65535 table)) (λ weight. at Domain i (codes "cap") (number_or_default (codes "cap") 0 0 6400 table) >>= λ cap. Ok (dom_params.Credit2 weight cap)) params e in
     let weight = s0.0 in
-    let s1 = bind_ok (at Domain i (codes "cap") (number_or (codes "cap") 0 0 6400 table)) (λ cap. Ok (dom_params.Credit2 weight cap)) params s0.2 in
+    let s1 = bind_ok (at Domain i (codes "cap") (number_or_default (codes "cap") 0 0 6400 table)) (λ cap. Ok (dom_params.Credit2 weight cap)) params s0.2 in
     let cap = s1.0 in
     subst (DomParamsPass kinds.Credit2) (ok_is DomFault (dom_params.Credit2 weight cap) params s1.2) (
-      number_or_ok (codes "weight") 256 1 65535 table weight (record { least = omega arith; most = omega arith }) (at_ok Domain i (codes "weight") (number_or (codes "weight") 256 1 65535 table) weight s0.1),
-      (number_or_ok (codes "cap") 0 0 6400 table cap (record { least = omega arith; most = omega arith }) (at_ok Domain i (codes "cap") (number_or (codes "cap") 0 0 6400 table) cap s1.1)).most,
+      number_or_ok (codes "weight") 256 1 65535 table weight (record { least = omega arith; most = omega arith }) (at_ok Domain i (codes "weight") (number_or_default (codes "weight") 256 1 65535 table) weight s0.1),
+      (number_or_ok (codes "cap") 0 0 6400 table cap (record { least = omega arith; most = omega arith }) (at_ok Domain i (codes "cap") (number_or_default (codes "cap") 0 0 6400 table) cap s1.1)).most,
     )
 params_ok kinds.Rtds i table params e =
     let s0 = bind_ok (at Domain i (codes "period_us") (period_in table)) (λ period. at Domain i (codes "budget_us") (budget_in period table) >>= λ budget. at Domain i (codes "extratime") (extra_in table) >>= λ extra. Ok (dom_params.Rtds (span (period * 1000)) (span (budget * 1000)) extra)) params e in
@@ -167,44 +167,44 @@ abbrev pub IsHome : List PoolDraft → DomConfig → Type 0
 IsHome pools domain = (p : PoolDraft) × (slice_get pools domain.home.0 ≡ Some p) × (0 < p.cores) × DomParamsPass p.kind domain.params
 
 pub record IsDomainDraft (head : Head) (pools : List PoolDraft) (domain : DomConfig) : Type 0 where
-  pub name : is_name domain.name ≡ true
+  pub name : is_valid_name domain.name ≡ true
   pub home : IsHome pools domain
   pub count : IsWithin 1 32 (length domain.guests)
   pub scripts : AllByRecursion IsCheckedScript domain.guests
-  pub pins : ArePins head (unit_count head.granularity (length domain.guests)) domain.pins
+  pub pins : ArePins head (guest_unit_count head.granularity (length domain.guests)) domain.pins
 
 record IsNextDomain (head : Head) (pools : List PoolDraft) (domains : List DomConfig) (domain : DomConfig) : Type 0 where
   pub draft : IsDomainDraft head pools domain
-  pub new_name : has_name domains domain.name ≡ false
+  pub new_name : has_domain_named domains domain.name ≡ false
 
-domain_name_ok : (domains : List DomConfig) (table : Members) (name : List ℕ) → domain_name_in domains table ≡ Ok name → (is_name name ≡ true) × (has_name domains name ≡ false)
+domain_name_ok : (domains : List DomConfig) (table : Members) (name : List ℕ) → domain_name_in domains table ≡ Ok name → (is_valid_name name ≡ true) × (has_domain_named domains name ≡ false)
 domain_name_ok domains table name e =
-    let s0 = bind_ok (required_value table (codes "name")) (λ d. name_of d >>= λ n. cond (has_name domains n) (Err Twice) (Ok n)) name e in
+    let s0 = bind_ok (required_value table (codes "name")) (λ d. name_of d >>= λ n. cond (has_domain_named domains n) (Err Twice) (Ok n)) name e in
     let d = s0.0 in
-    let s1 = bind_ok (name_of d) (λ n. cond (has_name domains n) (Err Twice) (Ok n)) name s0.2 in
+    let s1 = bind_ok (name_of d) (λ n. cond (has_domain_named domains n) (Err Twice) (Ok n)) name s0.2 in
     let n = s1.0 in
-    let k = kept_not (has_name domains n) n name Twice s1.2 in
-    subst (λ n. (is_name n ≡ true) × (has_name domains n ≡ false)) k.1 (name_ok d n s1.1, k.0)
+    let k = kept_not (has_domain_named domains n) n name Twice s1.2 in
+    subst (λ n. (is_valid_name n ≡ true) × (has_domain_named domains n ≡ false)) k.1 (name_ok d n s1.1, k.0)
 
 domain_ok : (head : Head) (pools : List PoolDraft) (domains : List DomConfig) (table : Members) → IsCheckedHead head → (domain : DomConfig) → domain_in head pools domains table ≡ Ok domain → IsNextDomain head pools domains domain
 unfolding domain_in
 domain_ok head pools domains table checked domain e =
-    let s0 = bind_ok (at Domain (length domains) (codes "name") (domain_name_in domains table)) (λ name. at Domain (length domains) (codes "pool") (home_in pools table) >>= λ home. at Domain (length domains) (codes "guests") (scripts_of table) >>= λ guests. at Domain (length domains) (codes "pins") (pins_in head (unit_count head.granularity (length guests)) table) >>= λ pins. only_known Domain (length domains) (domain_keys head.format home.kind) table >>= λ known. params_in home.kind (length domains) table >>= λ params. Ok (record { name = name; home = home.pool; guests = guests; params = params; pins = pins })) domain e in
+    let s0 = bind_ok (at Domain (length domains) (codes "name") (domain_name_in domains table)) (λ name. at Domain (length domains) (codes "pool") (home_in pools table) >>= λ home. at Domain (length domains) (codes "guests") (scripts_of table) >>= λ guests. at Domain (length domains) (codes "pins") (pins_in head (guest_unit_count head.granularity (length guests)) table) >>= λ pins. key_check Domain (length domains) (known_domain_keys head.format home.kind) table >>= λ known. params_in home.kind (length domains) table >>= λ params. Ok (record { name = name; home = home.pool; guests = guests; params = params; pins = pins })) domain e in
     let name = s0.0 in
-    let s1 = bind_ok (at Domain (length domains) (codes "pool") (home_in pools table)) (λ home. at Domain (length domains) (codes "guests") (scripts_of table) >>= λ guests. at Domain (length domains) (codes "pins") (pins_in head (unit_count head.granularity (length guests)) table) >>= λ pins. only_known Domain (length domains) (domain_keys head.format home.kind) table >>= λ known. params_in home.kind (length domains) table >>= λ params. Ok (record { name = name; home = home.pool; guests = guests; params = params; pins = pins })) domain s0.2 in
+    let s1 = bind_ok (at Domain (length domains) (codes "pool") (home_in pools table)) (λ home. at Domain (length domains) (codes "guests") (scripts_of table) >>= λ guests. at Domain (length domains) (codes "pins") (pins_in head (guest_unit_count head.granularity (length guests)) table) >>= λ pins. key_check Domain (length domains) (known_domain_keys head.format home.kind) table >>= λ known. params_in home.kind (length domains) table >>= λ params. Ok (record { name = name; home = home.pool; guests = guests; params = params; pins = pins })) domain s0.2 in
     let home = s1.0 in
-    let s2 = bind_ok (at Domain (length domains) (codes "guests") (scripts_of table)) (λ guests. at Domain (length domains) (codes "pins") (pins_in head (unit_count head.granularity (length guests)) table) >>= λ pins. only_known Domain (length domains) (domain_keys head.format home.kind) table >>= λ known. params_in home.kind (length domains) table >>= λ params. Ok (record { name = name; home = home.pool; guests = guests; params = params; pins = pins })) domain s1.2 in
+    let s2 = bind_ok (at Domain (length domains) (codes "guests") (scripts_of table)) (λ guests. at Domain (length domains) (codes "pins") (pins_in head (guest_unit_count head.granularity (length guests)) table) >>= λ pins. key_check Domain (length domains) (known_domain_keys head.format home.kind) table >>= λ known. params_in home.kind (length domains) table >>= λ params. Ok (record { name = name; home = home.pool; guests = guests; params = params; pins = pins })) domain s1.2 in
     let guests = s2.0 in
-    let s3 = bind_ok (at Domain (length domains) (codes "pins") (pins_in head (unit_count head.granularity (length guests)) table)) (λ pins. only_known Domain (length domains) (domain_keys head.format home.kind) table >>= λ known. params_in home.kind (length domains) table >>= λ params. Ok (record { name = name; home = home.pool; guests = guests; params = params; pins = pins })) domain s2.2 in
+    let s3 = bind_ok (at Domain (length domains) (codes "pins") (pins_in head (guest_unit_count head.granularity (length guests)) table)) (λ pins. key_check Domain (length domains) (known_domain_keys head.format home.kind) table >>= λ known. params_in home.kind (length domains) table >>= λ params. Ok (record { name = name; home = home.pool; guests = guests; params = params; pins = pins })) domain s2.2 in
     let pins = s3.0 in
-    let s4 = bind_ok (only_known Domain (length domains) (domain_keys head.format home.kind) table) (λ known. params_in home.kind (length domains) table >>= λ params. Ok (record { name = name; home = home.pool; guests = guests; params = params; pins = pins })) domain s3.2 in
+    let s4 = bind_ok (key_check Domain (length domains) (known_domain_keys head.format home.kind) table) (λ known. params_in home.kind (length domains) table >>= λ params. Ok (record { name = name; home = home.pool; guests = guests; params = params; pins = pins })) domain s3.2 in
     let known = s4.0 in
     let s5 = bind_ok (params_in home.kind (length domains) table) (λ params. Ok (record { name = name; home = home.pool; guests = guests; params = params; pins = pins })) domain s4.2 in
     let params = s5.0 in
     let named = domain_name_ok domains table name (at_ok Domain (length domains) (codes "name") (domain_name_in domains table) name s0.1) in
     let at_home = home_ok pools table home (at_ok Domain (length domains) (codes "pool") (home_in pools table) home s1.1) in
     let scripts = scripts_ok table guests (at_ok Domain (length domains) (codes "guests") (scripts_of table) guests s2.1) in
-    let pinned = pins_ok head checked (unit_count head.granularity (length guests)) table pins (at_ok Domain (length domains) (codes "pins") (pins_in head (unit_count head.granularity (length guests)) table) pins s3.1) in
+    let pinned = pins_ok head checked (guest_unit_count head.granularity (length guests)) table pins (at_ok Domain (length domains) (codes "pins") (pins_in head (guest_unit_count head.granularity (length guests)) table) pins s3.1) in
     let passes = subst (λ kind. DomParamsPass kind params) at_home.3 (params_ok home.kind (length domains) table params s5.1) in
     let made : DomConfig = record { name = name; home = home.pool; guests = guests; params = params; pins = pins } in
     subst (IsNextDomain head pools domains) (ok_is DomFault made domain s5.2) (record {

@@ -7,11 +7,11 @@ use Rattle.std.proofs.lemmas.Bool.{leb-true, lt-ltb, ltb-false, eqb-true, false�
 use Rattle.std.proofs.lemmas.Nat.{pow_pos, le_or_r}
 use Rattle.sched_base.specs.Numbers.{moment, span}
 use Rattle.sched_base.specs.declared.Moment.{Moment}
-use Rattle.sched_base.specs.Names.{is_name}
+use Rattle.sched_base.specs.Names.{is_valid_name}
 use Rattle.sched_model.specs.declared.config.SchedKind.{SchedKind}
 use Rattle.sched_model.specs.declared.config.SchedKind.TheVariants as kinds
 use Rattle.sched_model.specs.CheckedMachine.{IsWithin, IsGranularity, most_span}
-use Rattle.sched_model.specs.State.{has_core}
+use Rattle.sched_model.specs.State.{has_core_bit}
 use Rattle.toml.specs.Data.{Data, Members, get_member}
 use Rattle.dom_file.specs.declared.draft.EntryDraft.{EntryDraft}
 use Rattle.dom_file.specs.declared.draft.FrameDraft.{FrameDraft}
@@ -25,12 +25,12 @@ use Rattle.dom_file.specs.declared.fault.DomFault.{DomFault}
 use Rattle.dom_file.specs.declared.fault.DomFault.TheVariants.{Bad}
 use Rattle.dom_file.specs.declared.head.Head.{Head}
 use Rattle.dom_file.specs.Steps.{◌>>=◌, at, each}
-use Rattle.dom_file.specs.Values.{required_value, integer_of, number_of, number_or, elements_of, array_of, name_of}
-use Rattle.dom_file.specs.Keys.{only_known}
+use Rattle.dom_file.specs.Values.{required_value, integer_of, number_of, number_or_default, elements_of, array_of, name_of}
+use Rattle.dom_file.specs.Keys.{key_check}
 use Rattle.dom_file.specs.Heads.{top_keys, format_in, granularity_in, processors_in, horizon_in, head_of}
-use Rattle.dom_file.specs.Cores.{with_cores, is_taken, core_of, cores_of}
+use Rattle.dom_file.specs.Cores.{with_cores, is_core_taken, core_of, cores_of}
 use Rattle.dom_file.specs.Frames.{entry_in, entry_of, entries_of, frame_entries_in, frame_with, frame_in}
-use Rattle.dom_file.specs.Pools.{is_named, pool_name_in, sched_in, few_cores, cpus_in, pool_keys, limit_in, params_in, pool_in, pools_in, default_pool}
+use Rattle.dom_file.specs.Pools.{is_named, pool_name_in, sched_in, core_count_check, cpus_in, known_pool_keys, limit_in, params_in, pool_in, pools_in, default_pool}
 use Rattle.dom_file.proofs.Passed.{bind_ok, at_ok, kept, kept_not, ok_is, number_ok, number_or_ok, name_ok, array_ok, each_ok, length-Pairs, all-Pairs, length-push, none_passes, Apart, apart-push, other_name, with_cores_ok, with_cores-le, no_core}
 use Rattle.sched_base.proofs.Lists.{AllByRecursion-push}
 
@@ -52,7 +52,7 @@ granular (suc (suc (suc (suc (suc g))))) low high other = absurd (omega arith)
 
 granularity_ok : (table : Members) (g : ℕ) → granularity_in table ≡ Ok g → IsGranularity g
 granularity_ok table g e =
-    let s = bind_ok (number_or (codes "granularity") 1 1 4 table) (λ g. cond (eqb g 3) (Err (Range (pos 3))) (Ok g)) g e in
+    let s = bind_ok (number_or_default (codes "granularity") 1 1 4 table) (λ g. cond (eqb g 3) (Err (Range (pos 3))) (Ok g)) g e in
     let inside = number_or_ok (codes "granularity") 1 1 4 table s.0 (record { least = omega arith; most = omega arith }) s.1 in
     let k = kept_not (eqb s.0 3) s.0 g (Range (pos 3)) s.2 in
     subst IsGranularity k.1 (granular s.0 inside.least inside.most k.0)
@@ -77,7 +77,7 @@ horizon_ok table m e =
 pub head_ok : (table : Members) (head : Head) → head_of table ≡ Ok head → IsCheckedHead head
 unfolding head_of
 head_ok table head e =
-    let s0 = bind_ok (only_known Top 0 top_keys table) (λ known. at Top 0 (codes "format") (format_in table) >>= λ format. at Top 0 (codes "granularity") (granularity_in table) >>= λ granularity. at Top 0 (codes "processors") (processors_in granularity table) >>= λ processors. at Top 0 (codes "horizon_ns") (horizon_in table) >>= λ horizon. Ok (record { format = format; granularity = granularity; processors = processors; horizon = horizon })) head e in
+    let s0 = bind_ok (key_check Top 0 top_keys table) (λ known. at Top 0 (codes "format") (format_in table) >>= λ format. at Top 0 (codes "granularity") (granularity_in table) >>= λ granularity. at Top 0 (codes "processors") (processors_in granularity table) >>= λ processors. at Top 0 (codes "horizon_ns") (horizon_in table) >>= λ horizon. Ok (record { format = format; granularity = granularity; processors = processors; horizon = horizon })) head e in
     let known = s0.0 in
     let s1 = bind_ok (at Top 0 (codes "format") (format_in table)) (λ format. at Top 0 (codes "granularity") (granularity_in table) >>= λ granularity. at Top 0 (codes "processors") (processors_in granularity table) >>= λ processors. at Top 0 (codes "horizon_ns") (horizon_in table) >>= λ horizon. Ok (record { format = format; granularity = granularity; processors = processors; horizon = horizon })) head s0.2 in
     let format = s1.0 in
@@ -107,14 +107,14 @@ div_below p n g (inl is) whole inside = let w : n % 1 ≡ 0 = subst (λ g. n % g
 div_below p n g (inr (inl is)) whole inside = let w : n % 2 ≡ 0 = subst (λ g. n % g ≡ 0) is whole in rw is (omega arith)
 div_below p n g (inr (inr is)) whole inside = let w : n % 4 ≡ 0 = subst (λ g. n % g ≡ 0) is whole in rw is (omega arith)
 
-core_ok : (head : Head) (pools : List PoolDraft) → IsCheckedHead head → (d : Data) (c : ℕ) → core_of head pools d ≡ Ok c → (c < cores_in_all head) × (is_taken pools c ≡ false)
+core_ok : (head : Head) (pools : List PoolDraft) → IsCheckedHead head → (d : Data) (c : ℕ) → core_of head pools d ≡ Ok c → (c < cores_in_all head) × (is_core_taken pools c ≡ false)
 core_ok head pools checked d c e =
-    let s = bind_ok (number_of 0 (head.processors - 1) d) (λ p. cond (is_taken pools (p / head.granularity)) (Err Twice) (Ok (p / head.granularity))) c e in
-    let k = kept_not (is_taken pools (s.0 / head.granularity)) (s.0 / head.granularity) c Twice s.2 in
+    let s = bind_ok (number_of 0 (head.processors - 1) d) (λ p. cond (is_core_taken pools (p / head.granularity)) (Err Twice) (Ok (p / head.granularity))) c e in
+    let k = kept_not (is_core_taken pools (s.0 / head.granularity)) (s.0 / head.granularity) c Twice s.2 in
     let inside = number_ok 0 (head.processors - 1) d s.0 s.1 in
     let some = checked.processors in
     let below = div_below s.0 head.processors head.granularity checked.granularity checked.whole_cores (omega (arith, inside.most, some.least)) in
-    subst (λ c. (c < cores_in_all head) × (is_taken pools c ≡ false)) k.1 (below, k.0)
+    subst (λ c. (c < cores_in_all head) × (is_core_taken pools c ≡ false)) k.1 (below, k.0)
 
 some_cores : (cores : List ℕ) → 1 ≤ length cores → 1 ≤ with_cores 0 cores
 some_cores [] some = absurd (omega arith)
@@ -123,19 +123,19 @@ some_cores (core ∷ cores) some = omega (arith, with_cores-le cores (bit_or 0 (
 -- what a set of cores keeps, where none of the pools had any of them
 pub record AreFreeCores (head : Head) (pools : List PoolDraft) (set : ℕ) : Type 0 where
   pub fits : set < 2 ^ cores_in_all head
-  pub free : (r : ℕ) → has_core set r ≡ true → is_taken pools r ≡ false
+  pub free : (r : ℕ) → has_core_bit set r ≡ true → is_core_taken pools r ≡ false
 
 pub cores_ok : (head : Head) (pools : List PoolDraft) → IsCheckedHead head → (ds : List Data) (set : ℕ) → cores_of head pools ds ≡ Ok set → AreFreeCores head pools set × (1 ≤ length ds → 1 ≤ set)
 cores_ok head pools checked ds set e =
     let s = bind_ok (each (core_of head pools) ds) (λ cores. Ok (with_cores 0 cores)) set e in
-    let R : Data → ℕ → Type 0 = λ d c. (c < cores_in_all head) × (is_taken pools c ≡ false) in
+    let R : Data → ℕ → Type 0 = λ d c. (c < cores_in_all head) × (is_core_taken pools c ≡ false) in
     let pairs = each_ok (core_of head pools) R (core_ok head pools checked) ds s.0 s.1 in
-    let all = all-Pairs R (λ c. (c < cores_in_all head) × (is_taken pools c ≡ false)) (λ d c r. r) ds s.0 pairs in
-    let made = with_cores_ok (λ c. is_taken pools c ≡ false) (cores_in_all head) s.0 0 all (pow_pos (cores_in_all head)) (λ r h. absurd (no_core r h)) in
+    let all = all-Pairs R (λ c. (c < cores_in_all head) × (is_core_taken pools c ≡ false)) (λ d c r. r) ds s.0 pairs in
+    let made = with_cores_ok (λ c. is_core_taken pools c ≡ false) (cores_in_all head) s.0 0 all (pow_pos (cores_in_all head)) (λ r h. absurd (no_core r h)) in
     subst (λ set. AreFreeCores head pools set × (1 ≤ length ds → 1 ≤ set)) (ok_is DomCause (with_cores 0 s.0) set s.2)
     (record { fits = made.0; free = made.1 }, λ some. some_cores s.0 (omega (arith, some, length-Pairs R ds s.0 pairs)))
 
-few_cores_ok : (kind : SchedKind) (cores set : ℕ) → few_cores kind cores ≡ Ok set → (cores ≡ set) × (kind ≡ kinds.Arinc653 → count_ones set ≤ 1)
+few_cores_ok : (kind : SchedKind) (cores set : ℕ) → core_count_check kind cores ≡ Ok set → (cores ≡ set) × (kind ≡ kinds.Arinc653 → count_ones set ≤ 1)
 few_cores_ok kinds.Credit2 cores set e = (ok_is DomCause cores set e, λ other. absurd cc)
 few_cores_ok kinds.Rtds cores set e = (ok_is DomCause cores set e, λ other. absurd cc)
 few_cores_ok kinds.Arinc653 cores set e =
@@ -145,11 +145,11 @@ few_cores_ok kinds.Null cores set e = (ok_is DomCause cores set e, λ other. abs
 
 cpus_ok : (head : Head) (pools : List PoolDraft) (kind : SchedKind) (table : Members) → IsCheckedHead head → (set : ℕ) → cpus_in head pools kind table ≡ Ok set → AreFreeCores head pools set × (kind ≡ kinds.Arinc653 → count_ones set ≤ 1)
 cpus_ok head pools kind table checked set e =
-    let s0 = bind_ok (required_value table (codes "cpus")) (λ d. elements_of d >>= λ ds. cores_of head pools ds >>= λ cores. few_cores kind cores) set e in
+    let s0 = bind_ok (required_value table (codes "cpus")) (λ d. elements_of d >>= λ ds. cores_of head pools ds >>= λ cores. core_count_check kind cores) set e in
     let d = s0.0 in
-    let s1 = bind_ok (elements_of d) (λ ds. cores_of head pools ds >>= λ cores. few_cores kind cores) set s0.2 in
+    let s1 = bind_ok (elements_of d) (λ ds. cores_of head pools ds >>= λ cores. core_count_check kind cores) set s0.2 in
     let ds = s1.0 in
-    let s2 = bind_ok (cores_of head pools ds) (λ cores. few_cores kind cores) set s1.2 in
+    let s2 = bind_ok (cores_of head pools ds) (λ cores. core_count_check kind cores) set s1.2 in
     let cores = s2.0 in
     let few = few_cores_ok kind cores set s2.2 in
     (subst (AreFreeCores head pools) few.0 (cores_ok head pools checked ds cores s2.1).0, few.1)
@@ -238,7 +238,7 @@ limit_in_range (suc limit) inside other = inr (record { least = ltb-false (suc l
 
 limit_ok : (table : Members) (limit : ℕ) → limit_in table ≡ Ok limit → (limit ≡ 0) ⊎ IsWithin 100 500000 limit
 limit_ok table limit e =
-    let s = bind_ok (number_or (codes "ratelimit_us") 1000 0 500000 table) (λ n. cond (ltb 0 n && ltb n 100) (Err (Range (pos n))) (Ok n)) limit e in
+    let s = bind_ok (number_or_default (codes "ratelimit_us") 1000 0 500000 table) (λ n. cond (ltb 0 n && ltb n 100) (Err (Range (pos n))) (Ok n)) limit e in
     let inside = number_or_ok (codes "ratelimit_us") 1000 0 500000 table s.0 (record { least = omega arith; most = omega arith }) s.1 in
     let k = kept_not (ltb 0 s.0 && ltb s.0 100) s.0 limit (Range (pos s.0)) s.2 in
     subst (λ n. (n ≡ 0) ⊎ IsWithin 100 500000 n) k.1 (limit_in_range s.0 inside k.0)
@@ -256,7 +256,7 @@ params_ok kinds.Null i table params e = subst (DraftPasses kinds.Null) (ok_is Do
 -- ---- pools
 
 pub record IsPoolDraft (head : Head) (pool : PoolDraft) : Type 0 where
-  pub name : is_name pool.name ≡ true
+  pub name : is_valid_name pool.name ≡ true
   pub cores : pool.cores < 2 ^ cores_in_all head
   pub params : DraftPasses pool.kind pool.params
   pub one_core : pool.kind ≡ kinds.Arinc653 → count_ones pool.cores ≤ 1
@@ -265,27 +265,27 @@ pub record IsPoolDraft (head : Head) (pool : PoolDraft) : Type 0 where
 record IsNextPool (head : Head) (pools : List PoolDraft) (pool : PoolDraft) : Type 0 where
   pub draft : IsPoolDraft head pool
   pub new_name : is_named pools pool.name ≡ false
-  pub free : (r : ℕ) → has_core pool.cores r ≡ true → is_taken pools r ≡ false
+  pub free : (r : ℕ) → has_core_bit pool.cores r ≡ true → is_core_taken pools r ≡ false
 
-pool_name_ok : (pools : List PoolDraft) (table : Members) (name : List ℕ) → pool_name_in pools table ≡ Ok name → (is_name name ≡ true) × (is_named pools name ≡ false)
+pool_name_ok : (pools : List PoolDraft) (table : Members) (name : List ℕ) → pool_name_in pools table ≡ Ok name → (is_valid_name name ≡ true) × (is_named pools name ≡ false)
 pool_name_ok pools table name e =
     let s0 = bind_ok (required_value table (codes "name")) (λ d. name_of d >>= λ n. cond (is_named pools n) (Err Twice) (Ok n)) name e in
     let d = s0.0 in
     let s1 = bind_ok (name_of d) (λ n. cond (is_named pools n) (Err Twice) (Ok n)) name s0.2 in
     let n = s1.0 in
     let k = kept_not (is_named pools n) n name Twice s1.2 in
-    subst (λ n. (is_name n ≡ true) × (is_named pools n ≡ false)) k.1 (name_ok d n s1.1, k.0)
+    subst (λ n. (is_valid_name n ≡ true) × (is_named pools n ≡ false)) k.1 (name_ok d n s1.1, k.0)
 
 pool_ok : (head : Head) (pools : List PoolDraft) (table : Members) → IsCheckedHead head → (pool : PoolDraft) → pool_in head pools table ≡ Ok pool → IsNextPool head pools pool
 unfolding pool_in
 pool_ok head pools table checked pool e =
-    let s0 = bind_ok (at Pool (length pools) (codes "name") (pool_name_in pools table)) (λ name. at Pool (length pools) (codes "sched") (sched_in table) >>= λ kind. at Pool (length pools) (codes "cpus") (cpus_in head pools kind table) >>= λ cores. only_known Pool (length pools) (pool_keys kind) table >>= λ known. params_in kind (length pools) table >>= λ params. Ok (record { name = name; kind = kind; cores = cores; params = params })) pool e in
+    let s0 = bind_ok (at Pool (length pools) (codes "name") (pool_name_in pools table)) (λ name. at Pool (length pools) (codes "sched") (sched_in table) >>= λ kind. at Pool (length pools) (codes "cpus") (cpus_in head pools kind table) >>= λ cores. key_check Pool (length pools) (known_pool_keys kind) table >>= λ known. params_in kind (length pools) table >>= λ params. Ok (record { name = name; kind = kind; cores = cores; params = params })) pool e in
     let name = s0.0 in
-    let s1 = bind_ok (at Pool (length pools) (codes "sched") (sched_in table)) (λ kind. at Pool (length pools) (codes "cpus") (cpus_in head pools kind table) >>= λ cores. only_known Pool (length pools) (pool_keys kind) table >>= λ known. params_in kind (length pools) table >>= λ params. Ok (record { name = name; kind = kind; cores = cores; params = params })) pool s0.2 in
+    let s1 = bind_ok (at Pool (length pools) (codes "sched") (sched_in table)) (λ kind. at Pool (length pools) (codes "cpus") (cpus_in head pools kind table) >>= λ cores. key_check Pool (length pools) (known_pool_keys kind) table >>= λ known. params_in kind (length pools) table >>= λ params. Ok (record { name = name; kind = kind; cores = cores; params = params })) pool s0.2 in
     let kind = s1.0 in
-    let s2 = bind_ok (at Pool (length pools) (codes "cpus") (cpus_in head pools kind table)) (λ cores. only_known Pool (length pools) (pool_keys kind) table >>= λ known. params_in kind (length pools) table >>= λ params. Ok (record { name = name; kind = kind; cores = cores; params = params })) pool s1.2 in
+    let s2 = bind_ok (at Pool (length pools) (codes "cpus") (cpus_in head pools kind table)) (λ cores. key_check Pool (length pools) (known_pool_keys kind) table >>= λ known. params_in kind (length pools) table >>= λ params. Ok (record { name = name; kind = kind; cores = cores; params = params })) pool s1.2 in
     let cores = s2.0 in
-    let s3 = bind_ok (only_known Pool (length pools) (pool_keys kind) table) (λ known. params_in kind (length pools) table >>= λ params. Ok (record { name = name; kind = kind; cores = cores; params = params })) pool s2.2 in
+    let s3 = bind_ok (key_check Pool (length pools) (known_pool_keys kind) table) (λ known. params_in kind (length pools) table >>= λ params. Ok (record { name = name; kind = kind; cores = cores; params = params })) pool s2.2 in
     let known = s3.0 in
     let s4 = bind_ok (params_in kind (length pools) table) (λ params. Ok (record { name = name; kind = kind; cores = cores; params = params })) pool s3.2 in
     let params = s4.0 in
@@ -301,7 +301,7 @@ pool_ok head pools table checked pool e =
 
 -- both pools have the core
 abbrev pub HaveCore : ℕ → PoolDraft → PoolDraft → Type 0
-HaveCore r p q = (has_core p.cores r ≡ true) × (has_core q.cores r ≡ true)
+HaveCore r p q = (has_core_bit p.cores r ≡ true) × (has_core_bit q.cores r ≡ true)
 
 abbrev pub HaveName : PoolDraft → PoolDraft → Type 0
 HaveName p q = p.name ≡ q.name
@@ -313,7 +313,7 @@ pub record ArePoolDrafts (head : Head) (pools : List PoolDraft) : Type 0 where
 
 next_pool : (head : Head) (pools : List PoolDraft) (pool : PoolDraft) → ArePoolDrafts head pools → IsNextPool head pools pool → ArePoolDrafts head (pools ++ pool ∷ [])
 next_pool head pools pool before next =
-    let taken : (r i : ℕ) (p : PoolDraft) → slice_get pools i ≡ Some p → has_core p.cores r ≡ true → has_core pool.cores r ≡ true → ⊥ = λ r i p at_i in_p in_pool. false≢true (sym (none_passes (λ q. has_core q.cores r) pools i p (next.free r in_pool) at_i) ∙ in_p) in
+    let taken : (r i : ℕ) (p : PoolDraft) → slice_get pools i ≡ Some p → has_core_bit p.cores r ≡ true → has_core_bit pool.cores r ≡ true → ⊥ = λ r i p at_i in_p in_pool. false≢true (sym (none_passes (λ q. has_core_bit q.cores r) pools i p (next.free r in_pool) at_i) ∙ in_p) in
     let used : (i : ℕ) (p : PoolDraft) → slice_get pools i ≡ Some p → p.name ≡ pool.name → ⊥ = λ i p at_i same. other_name p.name pool.name (none_passes (λ q. bytes_eq q.name pool.name) pools i p next.new_name at_i) same in
     record {
       drafts = AllByRecursion-push (IsPoolDraft head) pools pool before.drafts next.draft;

@@ -10,15 +10,15 @@ use Rattle.std.proofs.lemmas.Bool.{and_parts, cases_eq, leb-true, eqb-true, eq-e
 use Rattle.std.proofs.lemmas.Nat.{le_or_l, or_lt}
 use Rattle.std.proofs.lemmas.Nat.Bits.{bit_at_or, bit_at-pow_other, bit_at-zero, bit_at-suc, bit_at_lowest}
 use Rattle.std.proofs.lemmas.Slice.Eq.{bytes_eq-Decides}
-use Rattle.sched_base.specs.Names.{is_name}
+use Rattle.sched_base.specs.Names.{is_valid_name}
 use Rattle.sched_model.specs.CheckedMachine.{IsWithin}
-use Rattle.sched_model.specs.State.{has_core}
+use Rattle.sched_model.specs.State.{has_core_bit}
 use Rattle.toml.specs.Data.{Data, Members, get_member, as_integer}
 use Rattle.dom_file.specs.declared.fault.TableName.{TableName}
 use Rattle.dom_file.specs.declared.fault.DomCause.{DomCause}
 use Rattle.dom_file.specs.declared.fault.DomCause.TheVariants.{Range, Kind}
 use Rattle.dom_file.specs.Steps.{◌>>=◌, at, each}
-use Rattle.dom_file.specs.Values.{of_kind, number_within, number_of, number_or, elements_of, array_of, text_of, name_of}
+use Rattle.dom_file.specs.Values.{of_kind, number_within, number_of, number_or_default, elements_of, array_of, text_of, name_of}
 use Rattle.dom_file.specs.Cores.{with_cores}
 
 -- ---- steps
@@ -67,14 +67,14 @@ within_ok low high (negsuc m) n e = absurd cc
 pub number_ok : (low high : ℕ) (d : Data) (n : ℕ) → number_of low high d ≡ Ok n → IsWithin low high n
 number_ok low high d n e = let s = bind_ok (of_kind (as_integer d)) (number_within low high) n e in within_ok low high s.0 n s.2
 
-pub number_or_ok : (key : List ℕ) (default low high : ℕ) (table : Members) (n : ℕ) → IsWithin low high default → number_or key default low high table ≡ Ok n → IsWithin low high n
+pub number_or_ok : (key : List ℕ) (default low high : ℕ) (table : Members) (n : ℕ) → IsWithin low high default → number_or_default key default low high table ≡ Ok n → IsWithin low high n
 number_or_ok key default low high table n inside e = absent_or_ok (IsWithin low high) (get_member key table) default (number_of low high) n inside (λ d. number_ok low high d n) e
 
-pub name_ok : (d : Data) (name : List ℕ) → name_of d ≡ Ok name → is_name name ≡ true
+pub name_ok : (d : Data) (name : List ℕ) → name_of d ≡ Ok name → is_valid_name name ≡ true
 name_ok d name e =
-    let s = bind_ok (text_of d) (λ text. cond (is_name text) (Ok text) (Err Kind)) name e in
-    let k = kept (is_name s.0) s.0 name Kind s.2 in
-    subst (λ n. is_name n ≡ true) k.1 k.0
+    let s = bind_ok (text_of d) (λ text. cond (is_valid_name text) (Ok text) (Err Kind)) name e in
+    let k = kept (is_valid_name s.0) s.0 name Kind s.2 in
+    subst (λ n. is_valid_name n ≡ true) k.1 k.0
 
 -- an array with a count in range
 pub array_ok : (low high : ℕ) (d : Data) (ds : List Data) → array_of low high d ≡ Ok ds → IsWithin low high (length ds)
@@ -155,20 +155,20 @@ other_name a b other same = false≢true (sym other ∙ (bytes_eq-Decides a b).1
 
 -- ---- sets of cores
 
-core_of_or_at : (set core r : ℕ) → r ≢ core → has_core (bit_or set (2 ^ core)) r ≡ true → has_core set r ≡ true
+core_of_or_at : (set core r : ℕ) → r ≢ core → has_core_bit (bit_or set (2 ^ core)) r ≡ true → has_core_bit set r ≡ true
 core_of_or_at set core r other has =
     let both : bit_at (bit_or set (2 ^ core)) r ≡ 1 = eqb-true _ _ has in
     eq-eqb (bit_at set r) 1 (omega (arith, both, bit_at_or set (2 ^ core) r, bit_at-pow_other core r other))
 
-core_of_or : (set core r : ℕ) → has_core (bit_or set (2 ^ core)) r ≡ true → (has_core set r ≡ true) ⊎ (r ≡ core)
+core_of_or : (set core r : ℕ) → has_core_bit (bit_or set (2 ^ core)) r ≡ true → (has_core_bit set r ≡ true) ⊎ (r ≡ core)
 core_of_or set core r has = elim (cases_eq r core) [
   | inl same ↦ inr same
   | inr other ↦ inl (core_of_or_at set core r other has)
 ]
 
 -- a set made of cores that are below n and have P
-pub with_cores_ok : (P : ℕ → Type 0) (n : ℕ) (cores : List ℕ) (set : ℕ) → AllByRecursion (λ c. (c < n) × P c) cores → set < 2 ^ n → ((r : ℕ) → has_core set r ≡ true → P r)
-    → (with_cores set cores < 2 ^ n) × ((r : ℕ) → has_core (with_cores set cores) r ≡ true → P r)
+pub with_cores_ok : (P : ℕ → Type 0) (n : ℕ) (cores : List ℕ) (set : ℕ) → AllByRecursion (λ c. (c < n) × P c) cores → set < 2 ^ n → ((r : ℕ) → has_core_bit set r ≡ true → P r)
+    → (with_cores set cores < 2 ^ n) × ((r : ℕ) → has_core_bit (with_cores set cores) r ≡ true → P r)
 with_cores_ok P n [] set all fits has = (fits, has)
 with_cores_ok P n (core ∷ cores) set all fits has =
     with_cores_ok P n cores (bit_or set (2 ^ core)) all.1 (or_lt n set (2 ^ core) fits (pow-lt all.0.0))
@@ -180,7 +180,7 @@ with_cores-le [] set = omega arith
 with_cores-le (core ∷ cores) set = omega (arith, with_cores-le cores (bit_or set (2 ^ core)), le_or_l set (2 ^ core))
 
 -- an empty set has no core
-pub no_core : (r : ℕ) → has_core 0 r ≡ true → ⊥
+pub no_core : (r : ℕ) → has_core_bit 0 r ≡ true → ⊥
 no_core r has = let one : bit_at 0 r ≡ 1 = eqb-true _ _ has in absurd (omega (arith, one, bit_at-zero r))
 
 -- ---- a set of one core
@@ -206,6 +206,6 @@ one_digit (suc d) n (suc r) zero small at_r at_s few =
 one_digit (suc d) n (suc r) (suc s) small at_r at_s few =
     ap suc (one_digit d (n / 2) r s (omega arith) (sym (bit_at-suc n r) ∙ at_r) (sym (bit_at-suc n s) ∙ at_s) (omega arith))
 
-pub one_core : (set r s : ℕ) → count_ones set ≤ 1 → has_core set r ≡ true → has_core set s ≡ true → r ≡ s
+pub one_core : (set r s : ℕ) → count_ones set ≤ 1 → has_core_bit set r ≡ true → has_core_bit set s ≡ true → r ≡ s
 unfolding ones
 one_core set r s few at_r at_s = one_digit set set r s (omega arith) (eqb-true _ _ at_r) (eqb-true _ _ at_s) few

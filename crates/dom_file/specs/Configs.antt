@@ -15,7 +15,7 @@ use Rattle.dom_file.specs.Values.{table_of, array_of}
 use Rattle.dom_file.specs.Heads.{head_of}
 use Rattle.dom_file.specs.Pools.{pools_in, default_pool}
 use Rattle.dom_file.specs.Domains.{domains_in}
-use Rattle.dom_file.specs.Finish.{few_units, finished_pools}
+use Rattle.dom_file.specs.Finish.{unit_count_check, finished_pools}
 
 -- the tables of an array that has at least low and at most high
 abbrev pub tables_of : ℕ → ℕ → Data → Result (List Members) DomCause
@@ -30,16 +30,16 @@ abbrev pub domain_tables_in : Members → Result (List Members) DomCause
 domain_tables_in table = elim (get_member (codes "domain") table) [ None ↦ Ok [] | Some d ↦ tables_of 0 64 d ]
 
 -- the pools of the tables, or the one of a file without pools
-abbrev pub all_pools : Head → Option (List Members) → Result (List PoolDraft) DomFault
-all_pools head None = Ok (default_pool head ∷ [])
-all_pools head (Some tables) = pools_in head [] tables
+abbrev pub pools_of_tables : Head → Option (List Members) → Result (List PoolDraft) DomFault
+pools_of_tables head None = Ok (default_pool head ∷ [])
+pools_of_tables head (Some tables) = pools_in head [] tables
 
 -- the machine of the tables of the pools and of the domains, or the first fault: of each pool, of each domain, of the units in all, of the units in the frames
 abbrev pub machine_from : Head → Option (List Members) → List Members → Result Config DomFault
 machine_from head pool_tables domain_tables = do
-  drafts ← all_pools head pool_tables
+  drafts ← pools_of_tables head pool_tables
   domains ← domains_in head drafts [] domain_tables
-  few ← at Top 0 (codes "domain") (few_units head.granularity domains)
+  few ← at Top 0 (codes "domain") (unit_count_check head.granularity domains)
   pools ← finished_pools head.granularity domains [] drafts
   Ok (record { granularity = head.granularity; processors = head.processors; horizon = head.horizon; pools = pools; domains = domains })
 
@@ -52,15 +52,15 @@ config_of table = do
   machine_from head pool_tables domain_tables
 
 -- the table that the bytes spell, if they are a TOML document, which is text in UTF-8
-abbrev pub document : List ℕ → Option Members
-document bytes = if is_utf8 bytes then parse_document bytes else None
+abbrev pub spelled_table : List ℕ → Option Members
+spelled_table bytes = if is_utf8 bytes then parse_document bytes else None
 
 -- the machine that the bytes of a domain file describe, or why there is none
 unfoldable pub domains_of : List ℕ → Result Config DomFault
-domains_of bytes = elim (document bytes) [ None ↦ Err BadToml | Some table ↦ config_of table ]
+domains_of bytes = elim (spelled_table bytes) [ None ↦ Err BadToml | Some table ↦ config_of table ]
 
 -- no table was read: the bytes are no document, or memory was wanted
 abbrev pub IsNoTable : List ℕ → DomFault → Type 0
 IsNoTable bytes NoMemory = Unit {0}
-IsNoTable bytes BadToml = document bytes ≡ None
+IsNoTable bytes BadToml = spelled_table bytes ≡ None
 IsNoTable bytes (Bad table index key cause) = ⊥

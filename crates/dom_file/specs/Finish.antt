@@ -18,7 +18,7 @@ use Rattle.dom_file.specs.declared.fault.DomCause.{DomCause}
 use Rattle.dom_file.specs.declared.fault.DomCause.TheVariants.{Range}
 use Rattle.dom_file.specs.declared.fault.DomFault.{DomFault}
 use Rattle.dom_file.specs.Steps.{◌>>=◌, at, each}
-use Rattle.dom_file.specs.Pins.{unit_count}
+use Rattle.dom_file.specs.Pins.{guest_unit_count}
 
 -- the number, where it is one of so many from 0
 abbrev pub number_below : ℕ → ℤ → Result ℕ DomCause
@@ -26,14 +26,14 @@ number_below count (pos n) = if nat_lt n count then Ok n else Err (Range (pos n)
 number_below count (negsuc n) = Err (Range (negsuc n))
 
 -- how many units the domain with this number has
-abbrev pub unit_count_at : ℕ → List DomConfig → ℕ → ℕ
-unit_count_at g domains n = elim (slice_get domains n) [ None ↦ 0 | Some d ↦ unit_count g (length d.guests) ]
+abbrev pub units_of_domain : ℕ → List DomConfig → ℕ → ℕ
+units_of_domain g domains n = elim (slice_get domains n) [ None ↦ 0 | Some d ↦ guest_unit_count g (length d.guests) ]
 
 -- an entry of a frame names a domain and a unit that are there
 abbrev pub entry_of : ℕ → List DomConfig → EntryDraft → Result FrameEntry DomCause
 entry_of g domains e = do
   dom ← number_below (length domains) e.dom
-  unit ← number_below (unit_count_at g domains dom) e.unit
+  unit ← number_below (units_of_domain g domains dom) e.unit
   Ok (record { dom = domain dom; unit = unit; run = e.run })
 
 -- a frame whose entries are all there
@@ -61,8 +61,8 @@ finished_pools g domains pools (draft ∷ more) = finished_pool g domains (lengt
 
 -- the units of all domains
 abbrev pub total_units : ℕ → List DomConfig → ℕ
-total_units g domains = sum_by (λ (d : DomConfig). unit_count g (length d.guests)) domains
+total_units g domains = sum_by (λ (d : DomConfig). guest_unit_count g (length d.guests)) domains
 
 -- there are at most 256 of them
-abbrev pub few_units : ℕ → List DomConfig → Result ⊤ DomCause
-few_units g domains = if nat_le (total_units g domains) 256 then Ok tt else Err (Range (pos (total_units g domains)))
+abbrev pub unit_count_check : ℕ → List DomConfig → Result ⊤ DomCause
+unit_count_check g domains = if nat_le (total_units g domains) 256 then Ok tt else Err (Range (pos (total_units g domains)))

@@ -10,8 +10,8 @@ use Rattle.dom_file.specs.declared.fault.DomCause.TheVariants.{Range}
 use Rattle.dom_file.specs.declared.fault.DomFault.{DomFault}
 use Rattle.dom_file.specs.declared.head.Head.{Head}
 use Rattle.dom_file.specs.Steps.{◌>>=◌, at}
-use Rattle.dom_file.specs.Values.{required_value, number_of, number_or}
-use Rattle.dom_file.specs.Keys.{only_known}
+use Rattle.dom_file.specs.Values.{required_value, number_of, number_or_default}
+use Rattle.dom_file.specs.Keys.{key_check}
 
 -- all keys of the top table
 abbrev pub top_keys : List (List ℕ)
@@ -24,7 +24,7 @@ format_in table = required_value table (codes "format") >>= number_of 1 2
 -- a core has 1, 2 or 4 processors, and 1 where the file does not say
 abbrev pub granularity_in : Members → Result ℕ DomCause
 granularity_in table = do
-  g ← number_or (codes "granularity") 1 1 4 table
+  g ← number_or_default (codes "granularity") 1 1 4 table
   if g == 3 then Err (Range (pos 3)) else Ok g
 
 -- 1 to 64 processors, that fill cores of g processors
@@ -44,7 +44,7 @@ horizon_in table = do
 -- what the top table says of the whole machine; an unknown key is its first fault
 unfoldable pub head_of : Members → Result Head DomFault
 head_of table = do
-  known ← only_known Top 0 top_keys table
+  known ← key_check Top 0 top_keys table
   format ← at Top 0 (codes "format") (format_in table)
   granularity ← at Top 0 (codes "granularity") (granularity_in table)
   processors ← at Top 0 (codes "processors") (processors_in granularity table)

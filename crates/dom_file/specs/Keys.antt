@@ -14,13 +14,13 @@ keys_of no_members = []
 keys_of (member key d members) = key ∷ keys_of members
 
 -- whether the key is one of these
-abbrev pub is_among : List (List ℕ) → List ℕ → Bool
-is_among keys key = list_any (λ k. bytes_eq k key) keys
+abbrev pub is_listed_key : List (List ℕ) → List ℕ → Bool
+is_listed_key keys key = list_any (λ k. bytes_eq k key) keys
 
 -- the first key of the table that is none of these
-abbrev pub first_unknown : List (List ℕ) → Members → Option (List ℕ)
-first_unknown keys table = find (λ key. not (is_among keys key)) (keys_of table)
+abbrev pub first_unlisted_key : List (List ℕ) → Members → Option (List ℕ)
+first_unlisted_key keys table = find (λ key. not (is_listed_key keys key)) (keys_of table)
 
 -- every key of the table is one of these; else the fault of the first that is none
-abbrev pub only_known : TableName → ℕ → List (List ℕ) → Members → Result ⊤ DomFault
-only_known name index keys table = elim (first_unknown keys table) [ None ↦ Ok tt | Some key ↦ Err (Bad name index key Unknown) ]
+abbrev pub key_check : TableName → ℕ → List (List ℕ) → Members → Result ⊤ DomFault
+key_check name index keys table = elim (first_unlisted_key keys table) [ None ↦ Ok tt | Some key ↦ Err (Bad name index key Unknown) ]

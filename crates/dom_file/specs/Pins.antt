@@ -10,8 +10,8 @@ use Rattle.dom_file.specs.Values.{array_of}
 use Rattle.dom_file.specs.Cores.{cores_of}
 
 -- how many units a domain of so many vCPUs has, where a core has g processors
-abbrev pub unit_count : ℕ → ℕ → ℕ
-unit_count g guests = (guests + g - 1) / g
+abbrev pub guest_unit_count : ℕ → ℕ → ℕ
+guest_unit_count g guests = (guests + g - 1) / g
 
 -- the cores of 1 to 64 processors
 abbrev pub pin_of : Head → Data → Result Cores DomCause

@@ -14,9 +14,9 @@ use Rattle.dom_file.specs.declared.fault.DomCause.TheVariants.{Twice, NoSuch, Ra
 use Rattle.dom_file.specs.declared.fault.DomFault.{DomFault}
 use Rattle.dom_file.specs.declared.head.Head.{Head}
 use Rattle.dom_file.specs.Steps.{◌>>=◌, at}
-use Rattle.dom_file.specs.Values.{required_value, name_of, text_of, elements_of, number_or}
-use Rattle.dom_file.specs.Keys.{only_known}
-use Rattle.dom_file.specs.Cores.{cores_of, all_cores}
+use Rattle.dom_file.specs.Values.{required_value, name_of, text_of, elements_of, number_or_default}
+use Rattle.dom_file.specs.Keys.{key_check}
+use Rattle.dom_file.specs.Cores.{cores_of, machine_core_set}
 use Rattle.dom_file.specs.Frames.{frame_in}
 
 -- whether one of the pools has the name
@@ -31,8 +31,8 @@ pool_name_in pools table = do
   if is_named pools name then Err Twice else Ok name
 
 -- the scheduler of this name
-abbrev pub kind_named : List ℕ → Result SchedKind DomCause
-kind_named word =
+abbrev pub scheduler_named : List ℕ → Result SchedKind DomCause
+scheduler_named word =
     if bytes_eq word (codes "credit2") then Ok kinds.Credit2
     else if bytes_eq word (codes "rtds") then Ok kinds.Rtds
     else if bytes_eq word (codes "arinc653") then Ok kinds.Arinc653
@@ -41,12 +41,12 @@ kind_named word =
 
 -- the pool's scheduler, and Credit2 where the table does not say
 abbrev pub sched_in : Members → Result SchedKind DomCause
-sched_in table = elim (get_member (codes "sched") table) [ None ↦ Ok kinds.Credit2 | Some d ↦ text_of d >>= kind_named ]
+sched_in table = elim (get_member (codes "sched") table) [ None ↦ Ok kinds.Credit2 | Some d ↦ text_of d >>= scheduler_named ]
 
 -- a pool of ARINC 653 has one core at most
-abbrev pub few_cores : SchedKind → ℕ → Result ℕ DomCause
-few_cores kinds.Arinc653 cores = if nat_lt 1 (count_ones cores) then Err (Range (pos (count_ones cores))) else Ok cores
-few_cores kind cores = Ok cores
+abbrev pub core_count_check : SchedKind → ℕ → Result ℕ DomCause
+core_count_check kinds.Arinc653 cores = if nat_lt 1 (count_ones cores) then Err (Range (pos (count_ones cores))) else Ok cores
+core_count_check kind cores = Ok cores
 
 -- the pool's cores, of which no earlier pool has any
 abbrev pub cpus_in : Head → List PoolDraft → SchedKind → Members → Result ℕ DomCause
@@ -54,18 +54,18 @@ cpus_in head pools kind table = do
   d ← required_value table (codes "cpus")
   ds ← elements_of d
   cores ← cores_of head pools ds
-  few_cores kind cores
+  core_count_check kind cores
 
 -- all keys of a pool with this scheduler
-abbrev pub pool_keys : SchedKind → List (List ℕ)
-pool_keys kinds.Credit2 = codes "name" ∷ codes "sched" ∷ codes "cpus" ∷ codes "ratelimit_us" ∷ []
-pool_keys kinds.Arinc653 = codes "name" ∷ codes "sched" ∷ codes "cpus" ∷ codes "major_ns" ∷ codes "frame" ∷ []
-pool_keys kind = codes "name" ∷ codes "sched" ∷ codes "cpus" ∷ []
+abbrev pub known_pool_keys : SchedKind → List (List ℕ)
+known_pool_keys kinds.Credit2 = codes "name" ∷ codes "sched" ∷ codes "cpus" ∷ codes "ratelimit_us" ∷ []
+known_pool_keys kinds.Arinc653 = codes "name" ∷ codes "sched" ∷ codes "cpus" ∷ codes "major_ns" ∷ codes "frame" ∷ []
+known_pool_keys kind = codes "name" ∷ codes "sched" ∷ codes "cpus" ∷ []
 
 -- the rate limit in microseconds: 0, or 100 to 500000
 abbrev pub limit_in : Members → Result ℕ DomCause
 limit_in table = do
-  limit ← number_or (codes "ratelimit_us") 1000 0 500000 table
+  limit ← number_or_default (codes "ratelimit_us") 1000 0 500000 table
   if nat_lt 0 limit && nat_lt limit 100 then Err (Range (pos limit)) else Ok limit
 
 -- the parameters of the pool's scheduler
@@ -81,7 +81,7 @@ pool_in head pools table = do
   name ← at Pool (length pools) (codes "name") (pool_name_in pools table)
   kind ← at Pool (length pools) (codes "sched") (sched_in table)
   cores ← at Pool (length pools) (codes "cpus") (cpus_in head pools kind table)
-  known ← only_known Pool (length pools) (pool_keys kind) table
+  known ← key_check Pool (length pools) (known_pool_keys kind) table
   params ← params_in kind (length pools) table
   Ok (record { name = name; kind = kind; cores = cores; params = params })
 
@@ -92,4 +92,4 @@ pools_in head pools (table ∷ tables) = pool_in head pools table >>= λ pool. p
 
 -- the pool of a file that has no pools: Credit2, with all processors
 abbrev pub default_pool : Head → PoolDraft
-default_pool head = record { name = codes "Pool-0"; kind = kinds.Credit2; cores = all_cores head; params = drafts.Credit2 1000 }
+default_pool head = record { name = codes "Pool-0"; kind = kinds.Credit2; cores = machine_core_set head; params = drafts.Credit2 1000 }

@@ -4,8 +4,8 @@ use Rattle.dom_file.specs.declared.fault.TableName.{TableName}
 use Rattle.dom_file.specs.declared.fault.DomCause.{DomCause}
 use Rattle.dom_file.specs.declared.fault.DomFault.{DomFault}
 use Rattle.dom_file.specs.declared.fault.DomFault.TheVariants.{NoMemory, BadToml, Bad}
-use Rattle.dom_file.specs.declared.stop.Stop.{Stop}
-use Rattle.dom_file.specs.declared.stop.Stop.TheVariants as stops
+use Rattle.dom_file.specs.declared.stop.CheckStop.{CheckStop}
+use Rattle.dom_file.specs.declared.stop.CheckStop.TheVariants as stops
 pub use Rattle.sched_base.specs.Results.{◌>>=◌}
 
 -- a refusal for this cause is the fault of this key of the table with this number
@@ -40,7 +40,7 @@ Sees view (Ok x) checked = checked ≡ Ok (view x)
 Sees view (Err cause) checked = checked ≡ Err cause
 
 -- the call's answer, seen by view, is that of the checks, unless memory was wanted
-abbrev pub Stops : {A B : Type 0} → (A → B) → Result A Stop → Result B DomCause → Type 0
+abbrev pub Stops : {A B : Type 0} → (A → B) → Result A CheckStop → Result B DomCause → Type 0
 Stops view (Ok x) checked = checked ≡ Ok (view x)
 Stops view (Err stops.NoMemory) checked = Unit {0}
 Stops view (Err (stops.Cause cause)) checked = checked ≡ Err cause
@@ -51,7 +51,7 @@ GivesBy view (Ok x) checked = checked ≡ Ok (view x)
 GivesBy view (Err fault) checked = Fails fault checked
 
 -- a value that stands, and a cause that became the fault of this key of the table with this number
-abbrev pub IsPlaced : {A : Type 0} → TableName → ℕ → List ℕ → Result A Stop → Result A DomFault → Type 0
+abbrev pub IsPlaced : {A : Type 0} → TableName → ℕ → List ℕ → Result A CheckStop → Result A DomFault → Type 0
 IsPlaced table index key (Ok x) answer = answer ≡ Ok x
 IsPlaced table index key (Err stops.NoMemory) answer = answer ≡ Err NoMemory
 IsPlaced table index key (Err (stops.Cause cause)) (Ok x) = ⊥

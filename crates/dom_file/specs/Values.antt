@@ -1,6 +1,6 @@
 -- One value of a table: what it is, or why it is refused.
 use Rattle.std.specs.Prelude.{ℕ, ℤ, pos, negsuc, ◌&&◌, Bool, nat_le, List, [], ◌∷◌, length, Option, Some, None, Result, Ok, Err, if◌then◌else◌}
-use Rattle.sched_base.specs.Names.{is_name}
+use Rattle.sched_base.specs.Names.{is_valid_name}
 use Rattle.toml.specs.Data.{Data, Items, no_items, item, Members, get_member, as_integer, as_bool, as_str, as_array, as_table}
 use Rattle.dom_file.specs.declared.fault.DomCause.{DomCause}
 use Rattle.dom_file.specs.declared.fault.DomCause.TheVariants.{Missing, Kind, Range}
@@ -58,11 +58,11 @@ abbrev pub number_of : ℕ → ℕ → Data → Result ℕ DomCause
 number_of low high d = integer_of d >>= number_within low high
 
 -- the number from low to high at a key, or the default where the key is not there
-abbrev pub number_or : List ℕ → ℕ → ℕ → ℕ → Members → Result ℕ DomCause
-number_or key default low high table = elim (get_member key table) [ None ↦ Ok default | Some d ↦ number_of low high d ]
+abbrev pub number_or_default : List ℕ → ℕ → ℕ → ℕ → Members → Result ℕ DomCause
+number_or_default key default low high table = elim (get_member key table) [ None ↦ Ok default | Some d ↦ number_of low high d ]
 
 -- a name
 abbrev pub name_of : Data → Result (List ℕ) DomCause
 name_of d = do
   text ← text_of d
-  if is_name text then Ok text else Err Kind
+  if is_valid_name text then Ok text else Err Kind

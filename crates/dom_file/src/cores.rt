@@ -2,10 +2,10 @@
 
 ghost use Rattle.std.specs.Prelude.{◌≡◌, ◌<◌, ◌≤◌, ◌^◌, map, bit_or, IfOk};
 ghost use Rattle.std.specs.List.{list_any};
-ghost use Rattle.sched_model.specs.State.{has_core as has_core_in};
+ghost use Rattle.sched_model.specs.State.{has_core_bit};
 ghost use Rattle.toml.specs.View.{view};
 ghost use Rattle.dom_file.specs.Heads.{IsHead};
-ghost use Rattle.dom_file.specs.Cores.{core_of, cores_of, all_cores as all_cores_of, is_taken as is_taken_by};
+ghost use Rattle.dom_file.specs.Cores.{core_of, cores_of, machine_core_set, is_core_taken};
 
 use crate::draft::PoolDraft;
 use crate::fault::DomCause;
@@ -15,7 +15,7 @@ use toml::Value;
 
 fn has_core(cores: u64, core: u64) -> bool
     requires { core < 64 }
-    ensures { result ≡ has_core_in cores core }
+    ensures { result ≡ has_core_bit cores core }
 {
     (cores >> core) % 2 == 1
 }
@@ -29,7 +29,7 @@ fn with_core(cores: u64, core: u64) -> u64
 
 fn is_taken(pools: &[PoolDraft], core: u64) -> bool
     requires { core < 64 }
-    ensures { result ≡ is_taken_by pools.now core }
+    ensures { result ≡ is_core_taken pools.now core }
 {
     for pool in pools {
         if has_core(pool.cores, core) {
@@ -69,7 +69,7 @@ pub(crate) fn cores(head: &Head, pools: &[PoolDraft], values: &[Value]) -> Resul
 /// The set of all cores of the machine.
 pub(crate) fn all_cores(head: &Head) -> u64
     requires { IsHead head.now }
-    ensures { result ≡ all_cores_of head.now }
+    ensures { result ≡ machine_core_set head.now }
 {
     u64::MAX >> (64 - head.processors as u64 / head.granularity as u64)
 }

@@ -6,7 +6,7 @@ ghost use Rattle.sched_model.specs.CheckedMachine.{IsWithin};
 ghost use Rattle.toml.specs.View.{table_view};
 ghost use Rattle.dom_file.specs.Steps.{Gives, GivesBy};
 ghost use Rattle.dom_file.specs.Heads.{IsHead};
-ghost use Rattle.dom_file.specs.Domains.{budget_in, domain_in, domain_keys as keys_of_kind, domain_name_in, domains_in, extra_in, has_name as is_named, home_at as home_of, home_in, home_place_in, params_in, period_in, place_named as place_of};
+ghost use Rattle.dom_file.specs.Domains.{budget_in, domain_in, known_domain_keys, domain_name_in, domains_in, extra_in, has_domain_named, home_with_cores, home_in, home_place_in, params_in, period_in, named_pool_number};
 
 use crate::draft::PoolDraft;
 use crate::fault::{DomCause, DomFault, TableName};
@@ -29,7 +29,7 @@ pub(crate) struct HomePool {
 }
 
 fn has_name(domains: &[DomConfig], name: &Name) -> bool
-    ensures { result ≡ is_named domains.now name.now }
+    ensures { result ≡ has_domain_named domains.now name.now }
 {
     for domain in domains {
         if domain.name.is(name.as_bytes()) {
@@ -52,7 +52,7 @@ fn domain_name(domains: &[DomConfig], table: &Table) -> Result<Name, DomCause>
 
 /// The place of the first pool with the name.
 fn place_named(pools: &[PoolDraft], name: &Name) -> Result<usize, DomCause>
-    ensures { result ≡ place_of 0 pools.now name.now }
+    ensures { result ≡ named_pool_number 0 pools.now name.now }
 {
     for i in 0..pools.len() {
         if pools[i].name.is(name.as_bytes()) {
@@ -73,7 +73,7 @@ fn home_place(pools: &[PoolDraft], table: &Table) -> Result<usize, DomCause>
 
 fn home_at(pools: &[PoolDraft], place: usize) -> Result<HomePool, DomCause>
     requires { length pools.now ≤ 16 }
-    ensures { result ≡ home_of pools.now place }
+    ensures { result ≡ home_with_cores pools.now place }
 {
     match pools.get(place) {
         Some(pool) if pool.cores == 0 => Err(DomCause::Empty),
@@ -93,7 +93,7 @@ fn home(pools: &[PoolDraft], table: &Table) -> Result<HomePool, DomCause>
 }
 
 fn domain_keys(format: u8, kind: SchedKind) -> &'static [&'static str]
-    ensures { map (λ k. k.now) result.now ≡ keys_of_kind format kind }
+    ensures { map (λ k. k.now) result.now ≡ known_domain_keys format kind }
 {
     match kind {
         SchedKind::Credit2 if format == 1 => &["name", "pool", "guests", "weight", "cap"],

@@ -4,7 +4,7 @@ ghost use Rattle.std.specs.Prelude.{◌≡◌, ◌≤◌, ◌*◌, [], length, I
 ghost use Rattle.std.specs.List.{All};
 ghost use Rattle.sched_model.specs.CheckedMachine.{IsWithin};
 ghost use Rattle.dom_file.specs.Steps.{Gives, GivesBy, each};
-ghost use Rattle.dom_file.specs.Finish.{number_below as below_of, entry_of, few_units as few_units_of, finished_pool, finished_pools, frame_of, params_of, total_units, unit_count_at as unit_count_of};
+ghost use Rattle.dom_file.specs.Finish.{number_below as below_of, entry_of, unit_count_check, finished_pool, finished_pools, frame_of, params_of, total_units, units_of_domain};
 
 use crate::draft::{EntryDraft, FrameDraft, ParamsDraft, PoolDraft};
 use crate::fault::{DomCause, DomFault, TableName};
@@ -30,7 +30,7 @@ fn below(count: usize, number: i64) -> Result<usize, DomCause>
 fn unit_count_at(granularity: u8, domains: &[DomConfig], n: usize) -> usize
     requires granularity { IsWithin 1 4 granularity }
     requires guests { All (λ d. length d.guests ≤ 32) domains.now }
-    ensures value { result ≡ unit_count_of granularity domains.now n }
+    ensures value { result ≡ units_of_domain granularity domains.now n }
     ensures few { result ≤ 32 }
 {
     if n < domains.len() {
@@ -156,7 +156,7 @@ pub(crate) fn few_units(granularity: u8, domains: &[DomConfig]) -> Result<(), Do
     requires granularity { IsWithin 1 4 granularity }
     requires few { length domains.now ≤ 64 }
     requires guests { All (λ d. length d.guests ≤ 32) domains.now }
-    ensures { result ≡ few_units_of granularity domains.now }
+    ensures { result ≡ unit_count_check granularity domains.now }
 {
     let units = all_units(granularity, domains);
     if units <= 256 {

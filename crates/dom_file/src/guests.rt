@@ -7,7 +7,7 @@ ghost use Rattle.dom_file.specs.Guests.{script_of, scripts_of, span_of};
 ghost use Rattle.dom_file.specs.declared.fault.TableName.TheVariants.{Domain};
 
 use crate::fault::{DomCause, DomFault, TableName};
-use crate::stop::{Stop, placed_or_stopped};
+use crate::stop::{CheckStop, placed_or_stopped};
 use crate::values::{array, number, required};
 use sched_base::Span;
 use sched_model::config::{Script, Scripts};
@@ -22,7 +22,7 @@ fn span(value: &Value) -> Result<Span, DomCause>
     Ok(Span(number(value, 1, MOST_SPAN)?))
 }
 
-fn spans(alloc: Global, values: &[Value]) -> Result<Vec<Span>, Stop>
+fn spans(alloc: Global, values: &[Value]) -> Result<Vec<Span>, CheckStop>
     ensures { Stops (λ v. v.items) result (each span_of (map view values.now)) }
 {
     let mut spans = Vec::new(alloc);
@@ -32,18 +32,18 @@ fn spans(alloc: Global, values: &[Value]) -> Result<Vec<Span>, Stop>
     Ok(spans)
 }
 
-fn script(alloc: Global, value: &Value) -> Result<Script, Stop>
+fn script(alloc: Global, value: &Value) -> Result<Script, CheckStop>
     ensures { Stops (λ s. s) result (script_of (view value.now)) }
 {
     let values = array(value, 0, 64)?;
     if values.len() % 2 == 0 {
         Ok(Row::from_vec(spans(alloc, values)?))
     } else {
-        Err(Stop::Cause(DomCause::Range(values.len() as i64)))
+        Err(CheckStop::Cause(DomCause::Range(values.len() as i64)))
     }
 }
 
-fn scripts(alloc: Global, values: &[Value]) -> Result<Vec<Script>, Stop>
+fn scripts(alloc: Global, values: &[Value]) -> Result<Vec<Script>, CheckStop>
     ensures value { Stops (λ v. v.items) result (each script_of (map view values.now)) }
     ensures count { IfOk result (λ v. length v.items ≡ length values.now) }
 {
@@ -54,7 +54,7 @@ fn scripts(alloc: Global, values: &[Value]) -> Result<Vec<Script>, Stop>
     Ok(scripts)
 }
 
-fn all_scripts(alloc: Global, table: &Table) -> Result<Scripts, Stop>
+fn all_scripts(alloc: Global, table: &Table) -> Result<Scripts, CheckStop>
     ensures value { Stops (λ s. s) result (scripts_of (table_view table.now)) }
     ensures count { IfOk result (λ s. length s ≤ 32) }
 {

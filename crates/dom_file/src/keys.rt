@@ -5,7 +5,7 @@ ghost use Rattle.std.specs.List.{list_any};
 ghost use Rattle.std.specs.Str.{bytes_eq};
 ghost use Rattle.toml.specs.View.{table_view};
 ghost use Rattle.dom_file.specs.Steps.{Gives};
-ghost use Rattle.dom_file.specs.Keys.{first_unknown as first_unknown_of, is_among as is_among_of, only_known as only_known_of};
+ghost use Rattle.dom_file.specs.Keys.{first_unlisted_key, is_listed_key, key_check};
 
 use crate::fault::{DomCause, DomFault, TableName};
 use crate::stop::fault_at;
@@ -13,7 +13,7 @@ use std::alloc::Global;
 use toml::Table;
 
 fn is_among(key: &str, keys: &[&str]) -> bool
-    ensures { result ≡ is_among_of (map (λ k. k.now) keys.now) key.now }
+    ensures { result ≡ is_listed_key (map (λ k. k.now) keys.now) key.now }
 {
     keys.iter().any(|k| *k == key)
 }
@@ -21,7 +21,7 @@ fn is_among(key: &str, keys: &[&str]) -> bool
 /// The first key of the table, in byte order, that is none of these keys.
 pub(crate) fn first_unknown<'a>(table: &'a Table, keys: &[&str]) -> Option<&'a str>
     ensures { option_map (λ k. k.now) result
-        ≡ first_unknown_of (map (λ k. k.now) keys.now) (table_view table.now) }
+        ≡ first_unlisted_key (map (λ k. k.now) keys.now) (table_view table.now) }
 {
     for key in table.keys() {
         if !is_among(key.as_str(), keys) {
@@ -39,7 +39,7 @@ pub(crate) fn only_known(
     keys: &[&str],
     table: &Table,
 ) -> Result<(), DomFault>
-    ensures { Gives result (only_known_of name index (map (λ k. k.now) keys.now)
+    ensures { Gives result (key_check name index (map (λ k. k.now) keys.now)
         (table_view table.now)) }
 {
     match first_unknown(table, keys) {

@@ -5,7 +5,7 @@ ghost use Rattle.sched_model.specs.CheckedMachine.{IsWithin};
 ghost use Rattle.toml.specs.View.{view, table_view};
 ghost use Rattle.dom_file.specs.Heads.{IsHead};
 ghost use Rattle.dom_file.specs.Steps.{each};
-ghost use Rattle.dom_file.specs.Pins.{pin_of, pins_in, unit_count as unit_count_of};
+ghost use Rattle.dom_file.specs.Pins.{pin_of, pins_in, guest_unit_count};
 
 use crate::cores::cores;
 use crate::fault::DomCause;
@@ -20,7 +20,7 @@ use toml::{Table, Value};
 pub(crate) fn unit_count(granularity: u8, guests: usize) -> usize
     requires granularity { IsWithin 1 4 granularity }
     requires few { guests ≤ 32 }
-    ensures value { result ≡ unit_count_of granularity guests }
+    ensures value { result ≡ guest_unit_count granularity guests }
     ensures few { result ≤ 32 }
 {
     (guests + granularity as usize - 1) / granularity as usize

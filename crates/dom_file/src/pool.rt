@@ -4,7 +4,7 @@ ghost use Rattle.std.specs.Prelude.{◌≡◌, ◌≤◌, [], ◌∷◌, map, le
 ghost use Rattle.toml.specs.View.{table_view};
 ghost use Rattle.dom_file.specs.Steps.{Gives, GivesBy};
 ghost use Rattle.dom_file.specs.Heads.{IsHead};
-ghost use Rattle.dom_file.specs.Pools.{cpus_in, default_pool as default_pool_of, few_cores as few_cores_of, is_named, kind_named as kind_of_word, limit_in, params_in, pool_in, pool_keys as keys_of_kind, pool_name_in, pools_in, sched_in};
+ghost use Rattle.dom_file.specs.Pools.{cpus_in, default_pool as default_pool_of, core_count_check, is_named, scheduler_named, limit_in, params_in, pool_in, known_pool_keys, pool_name_in, pools_in, sched_in};
 
 use crate::cores::{all_cores, cores};
 use crate::draft::{ParamsDraft, PoolDraft};
@@ -42,7 +42,7 @@ fn pool_name(pools: &[PoolDraft], table: &Table) -> Result<Name, DomCause>
 }
 
 fn kind_named(word: &str) -> Result<SchedKind, DomCause>
-    ensures { result ≡ kind_of_word word.now }
+    ensures { result ≡ scheduler_named word.now }
 {
     if word == "credit2" {
         Ok(SchedKind::Credit2)
@@ -68,7 +68,7 @@ fn sched(table: &Table) -> Result<SchedKind, DomCause>
 
 /// The set of cores, where a pool of this scheduler may have so many.
 fn few_cores(kind: SchedKind, cores: u64) -> Result<u64, DomCause>
-    ensures { result ≡ few_cores_of kind cores }
+    ensures { result ≡ core_count_check kind cores }
 {
     match kind {
         SchedKind::Arinc653 if cores.count_ones() > 1 => {
@@ -87,7 +87,7 @@ fn cpus(head: &Head, pools: &[PoolDraft], kind: SchedKind, table: &Table) -> Res
 }
 
 fn pool_keys(kind: SchedKind) -> &'static [&'static str]
-    ensures { map (λ k. k.now) result.now ≡ keys_of_kind kind }
+    ensures { map (λ k. k.now) result.now ≡ known_pool_keys kind }
 {
     match kind {
         SchedKind::Credit2 => &["name", "sched", "cpus", "ratelimit_us"],

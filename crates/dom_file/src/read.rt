@@ -9,7 +9,7 @@ ghost use Rattle.dom_file.specs.declared.fault.TableName.TheVariants.{Top};
 ghost use Rattle.dom_file.specs.Steps.{Gives, GivesBy, Stops, at, each};
 ghost use Rattle.dom_file.specs.Values.{table_of};
 ghost use Rattle.dom_file.specs.Heads.{IsHead};
-ghost use Rattle.dom_file.specs.Configs.{all_pools as all_pools_of, config_of, document as document_of, domain_tables_in, domains_of, IsNoTable, machine_from, pool_tables_in, tables_of};
+ghost use Rattle.dom_file.specs.Configs.{pools_of_tables, config_of, spelled_table, domain_tables_in, domains_of, IsNoTable, machine_from, pool_tables_in, tables_of};
 
 use crate::domain::domains;
 use crate::draft::PoolDraft;
@@ -17,14 +17,14 @@ use crate::fault::{DomFault, TableName};
 use crate::finish::{few_units, finished};
 use crate::head::{Head, read_head};
 use crate::pool::{default_pools, pools};
-use crate::stop::{Stop, placed, placed_or_stopped};
+use crate::stop::{CheckStop, placed, placed_or_stopped};
 use crate::values::{array, table, value_at};
 use sched_model::config::Config;
 use sched_model::row::Row;
 use std::alloc::Global;
 use toml::{Table, Value};
 
-fn each_table(alloc: Global, values: &[Value]) -> Result<Vec<&Table>, Stop>
+fn each_table(alloc: Global, values: &[Value]) -> Result<Vec<&Table>, CheckStop>
     ensures value { Stops (λ v. map (λ t. table_view t.now) v.items) result
         (each table_of (map view values.now)) }
     ensures count { IfOk result (λ v. length v.items ≡ length values.now) }
@@ -37,7 +37,7 @@ fn each_table(alloc: Global, values: &[Value]) -> Result<Vec<&Table>, Stop>
 }
 
 /// The tables of an array that has at least `low` and at most `high`.
-fn tables(alloc: Global, value: &Value, low: usize, high: usize) -> Result<Vec<&Table>, Stop>
+fn tables(alloc: Global, value: &Value, low: usize, high: usize) -> Result<Vec<&Table>, CheckStop>
     ensures value { Stops (λ v. map (λ t. table_view t.now) v.items) result
         (tables_of low high (view value.now)) }
     ensures count { IfOk result (λ v. IsWithin low high (length v.items)) }
@@ -45,7 +45,7 @@ fn tables(alloc: Global, value: &Value, low: usize, high: usize) -> Result<Vec<&
     each_table(alloc, array(value, low, high)?)
 }
 
-fn pool_tables(alloc: Global, table: &Table) -> Result<Option<Vec<&Table>>, Stop>
+fn pool_tables(alloc: Global, table: &Table) -> Result<Option<Vec<&Table>>, CheckStop>
     ensures value { Stops (λ o. option_map (λ v. map (λ t. table_view t.now) v.items) o) result
         (pool_tables_in (table_view table.now)) }
     ensures count { IfOk result (λ o. IfSome o (λ v. length v.items ≤ 16)) }
@@ -56,7 +56,7 @@ fn pool_tables(alloc: Global, table: &Table) -> Result<Option<Vec<&Table>>, Stop
     }
 }
 
-fn domain_tables(alloc: Global, table: &Table) -> Result<Vec<&Table>, Stop>
+fn domain_tables(alloc: Global, table: &Table) -> Result<Vec<&Table>, CheckStop>
     ensures value { Stops (λ v. map (λ t. table_view t.now) v.items) result
         (domain_tables_in (table_view table.now)) }
     ensures count { IfOk result (λ v. length v.items ≤ 64) }
@@ -98,7 +98,7 @@ fn all_pools(
     requires head { IsHead head.now }
     requires few { IfSome tables.now (λ v. length v.items ≤ 16) }
     ensures value { GivesBy (λ v. v.items) result
-        (all_pools_of head.now (option_map (λ v. map (λ t. table_view t.now) v.items) tables.now)) }
+        (pools_of_tables head.now (option_map (λ v. map (λ t. table_view t.now) v.items) tables.now)) }
     ensures count { IfOk result (λ v. length v.items ≤ 16) }
 {
     match tables {
@@ -148,7 +148,7 @@ fn config(alloc: Global, table: &Table) -> Result<Config, DomFault>
 
 /// The table that the bytes spell.
 fn document(alloc: Global, bytes: &[u8]) -> Result<Table, DomFault>
-    ensures { MatchResult result (λ table. document_of bytes.now ≡ Some (table_view table))
+    ensures { MatchResult result (λ table. spelled_table bytes.now ≡ Some (table_view table))
         (IsNoTable bytes.now) }
 {
     match toml::table_from_slice(alloc, bytes) {
@@ -171,7 +171,7 @@ fn document(alloc: Global, bytes: &[u8]) -> Result<Table, DomFault>
 pub fn read_domains(alloc: Global, bytes: &[u8]) -> Result<Config, DomFault>
     requires { length bytes.now ≤ 536870912 }
     ensures ok { IfOk result (λ config. domains_of bytes.now ≡ Ok config) }
-    ensures bad_toml { result ≡ Err BadToml → document_of bytes.now ≡ None }
+    ensures bad_toml { result ≡ Err BadToml → spelled_table bytes.now ≡ None }
     ensures checked { IfOk result IsCheckedConfig }
     ensures refused { IfErr result (λ fault. fault ≢ NoMemory → domains_of bytes.now ≡ Err fault) }
 {

@@ -3,39 +3,39 @@
 ghost use Rattle.std.specs.Prelude.{◌≡◌};
 ghost use Rattle.dom_file.specs.Steps.{Gives, IsFaultAt, IsPlaced, at};
 ghost use Rattle.dom_file.specs.declared.fault.DomFault.TheVariants.{NoMemory as FaultOfMemory};
-ghost use Rattle.dom_file.specs.declared.stop.Stop.TheVariants.{NoMemory, Cause};
+ghost use Rattle.dom_file.specs.declared.stop.CheckStop.TheVariants.{NoMemory, Cause};
 
 use crate::fault::{DomCause, DomFault, TableName, Text};
 use std::alloc::{AllocError, AllocFailed, Global};
 
 /// A value is refused for a cause, or memory was wanted and not found.
 #[derive(Drop)]
-pub(crate) enum Stop {
+pub(crate) enum CheckStop {
     NoMemory,
     Cause(DomCause),
 }
 
-impl From<DomCause> for Stop {
+impl From<DomCause> for CheckStop {
     ghost from_gives = { λ cause stop. stop ≡ Cause cause };
 
-    fn from(cause: DomCause) -> Stop {
-        Stop::Cause(cause)
+    fn from(cause: DomCause) -> CheckStop {
+        CheckStop::Cause(cause)
     }
 }
 
-impl From<AllocError> for Stop {
+impl From<AllocError> for CheckStop {
     ghost from_gives = { λ _ stop. stop ≡ NoMemory };
 
-    fn from(_e: AllocError) -> Stop {
-        Stop::NoMemory
+    fn from(_e: AllocError) -> CheckStop {
+        CheckStop::NoMemory
     }
 }
 
-impl<T: Drop> From<AllocFailed<T>> for Stop {
+impl<T: Drop> From<AllocFailed<T>> for CheckStop {
     ghost from_gives = { λ _ stop. stop ≡ NoMemory };
 
-    fn from(_e: AllocFailed<T>) -> Stop {
-        Stop::NoMemory
+    fn from(_e: AllocFailed<T>) -> CheckStop {
+        CheckStop::NoMemory
     }
 }
 
@@ -98,13 +98,13 @@ pub(crate) fn placed_or_stopped<X>(
     table: TableName,
     index: u32,
     key: &str,
-    checked: Result<X, Stop>,
+    checked: Result<X, CheckStop>,
 ) -> Result<X, DomFault>
     ensures { IsPlaced table index key.now checked result }
 {
     match checked {
         Ok(value) => Ok(value),
-        Err(Stop::NoMemory) => Err(DomFault::NoMemory),
-        Err(Stop::Cause(cause)) => Err(fault_at(alloc, table, index, key, cause)),
+        Err(CheckStop::NoMemory) => Err(DomFault::NoMemory),
+        Err(CheckStop::Cause(cause)) => Err(fault_at(alloc, table, index, key, cause)),
     }
 }

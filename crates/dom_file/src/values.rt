@@ -5,7 +5,7 @@ ghost use Rattle.toml.specs.Data.{get_member};
 ghost use Rattle.toml.specs.View.{view, table_view};
 ghost use Rattle.sched_model.specs.CheckedMachine.{IsWithin};
 ghost use Rattle.dom_file.specs.Steps.{Sees};
-ghost use Rattle.dom_file.specs.Values.{array_of, elements_of, integer_of, name_of, number_of, number_or as number_or_of, required_value as required_of, table_of, text_of, truth_of};
+ghost use Rattle.dom_file.specs.Values.{array_of, elements_of, integer_of, name_of, number_of, number_or_default, required_value as required_of, table_of, text_of, truth_of};
 
 use crate::fault::DomCause;
 use sched_base::Name;
@@ -109,7 +109,7 @@ pub(crate) fn number_or(
     high: u64,
 ) -> Result<u64, DomCause>
     requires { IsWithin low high default }
-    ensures value { result ≡ number_or_of key.now default low high (table_view table.now) }
+    ensures value { result ≡ number_or_default key.now default low high (table_view table.now) }
     ensures range { IfOk result (IsWithin low high) }
 {
     match value_at(table, key) {

@@ -5,7 +5,7 @@ use Rattle.std.specs.Int.{bit_at, bit_not, trailing_zeros}
 use Rattle.std.proofs.lemmas.Bool.{cases_lt}
 use Rattle.std.proofs.lemmas.Nat.{and_le_l}
 use Rattle.std.proofs.lemmas.Nat.Bits.{bit_at-lt, bit_at_above, bit_at_and, bit_at_not, bit_at_or, bit_at_set_same, bit_at_set_other, bit_at_clear_same, bit_at_clear_other, bit_at-trailing_zeros}
-use Rattle.due_heap.specs.Words.{ChangesId, IsLowest, has_id}
+use Rattle.due_heap.specs.Words.{ChangesId, IsLowest, has_core_bit}
 
 -- whether a number is one
 abbrev is_one : ℕ → Bool
@@ -39,14 +39,14 @@ put_unwanted set id true fits few is = let wrong : true ≡ false = is in absurd
 put_unwanted set id false fits few is = cleared set id fits few
 
 -- a set without an id that it had is a smaller number
-pub less : (set id mask : ℕ) → has_id set id ≡ true → ChangesId id false set (bit_and set mask) → bit_and set mask < set
+pub less : (set id mask : ℕ) → has_core_bit set id ≡ true → ChangesId id false set (bit_and set mask) → bit_and set mask < set
 less set id mask has change =
     elim (cases_lt (bit_and set mask) set) [
       | inl lt ↦ lt
       | inr ge ↦
           let le : bit_and set mask ≤ set = and_le_l set mask in
           let same : bit_and set mask ≡ set = omega (arith, ge, le) in
-          let wrong : true ≡ false = sym has ∙ ap (λ (s : ℕ). has_id s id) (sym same) ∙ change.here in
+          let wrong : true ≡ false = sym has ∙ ap (λ (s : ℕ). has_core_bit s id) (sym same) ∙ change.here in
           absurd (cc)
     ]
 
@@ -73,10 +73,10 @@ one_but (suc (suc x)) y p q = absurd (omega (arith, p))
 one_but zero (suc (suc y)) p q = absurd (omega (arith, q))
 one_but (suc zero) (suc (suc y)) p q = absurd (omega (arith, q))
 
-pub union_has : (a b id : ℕ) → has_id (bit_or a b) id ≡ (has_id a id || has_id b id)
+pub union_has : (a b id : ℕ) → has_core_bit (bit_or a b) id ≡ (has_core_bit a id || has_core_bit b id)
 union_has a b id = ap is_one (bit_at_or a b id) ∙ one_of_two (bit_at a id) (bit_at b id) (bit_at-lt a id) (bit_at-lt b id)
 
-pub difference_has : (a b id : ℕ) → b < 2 ^ 64 → id < 64 → has_id (bit_and a (bit_not w64 b)) id ≡ (has_id a id && not (has_id b id))
+pub difference_has : (a b id : ℕ) → b < 2 ^ 64 → id < 64 → has_core_bit (bit_and a (bit_not w64 b)) id ≡ (has_core_bit a id && not (has_core_bit b id))
 difference_has a b id fits few =
     ap is_one (bit_at_and a (bit_not w64 b) id ∙ ap (min (bit_at a id)) (bit_at_not w64 b id fits few))
     ∙ one_but (bit_at a id) (bit_at b id) (bit_at-lt a id) (bit_at-lt b id)

@@ -8,10 +8,10 @@ use Rattle.std.proofs.lemmas.List.{get_or-set_same, get_or-set_other, get_or_pas
 use Rattle.sched_base.specs.declared.Moment.{Moment}
 use Rattle.sched_base.proofs.Bools.{and_left, and_right}
 use Rattle.due_heap.specs.declared.set.Words.{Words}
-use Rattle.due_heap.specs.Dues.{IsArmed, GoesFirst, HasCome, due_of}
-use Rattle.due_heap.specs.Winners.{precedes, is_due}
-use Rattle.sched_base.specs.Numbers.{has_come}
-use Rattle.due_heap.specs.Words.{AreWords, ChangesId, IsFirstAmong, IsFirstCome, IsLowest, TakesDue, first_with, has_id, is_later}
+use Rattle.due_heap.specs.Dues.{IsArmed, GoesFirst, HasCome, armed_moment}
+use Rattle.due_heap.specs.Winners.{precedes, is_armed_due}
+use Rattle.sched_base.specs.Numbers.{has_moment_come}
+use Rattle.due_heap.specs.Words.{AreWords, ChangesId, IsFirstAmong, IsFirstCome, IsLowest, TakesDue, first_with_id, has_core_bit, is_later}
 use Rattle.due_heap.proofs.Tree.{armed_below, precedes-goes_first}
 use Rattle.due_heap.proofs.Descent.{is_come, past_of}
 
@@ -55,12 +55,12 @@ module _ (moments : List (Option Moment)) (fewer more : ℕ → Bool) (id : ℕ)
       let there : IsArmed moments id m = subst (λ (k : ℕ). IsArmed moments k m) e be in
       subst (λ (k : ℕ). GoesFirst w i m k) (sym e) (subst (λ (x : Moment). GoesFirst w i x id) (one_moment moments id at m armed there) here)
 
-  not_armed : (m : Moment) (other : ℕ) → other ≡ id → due_of moments id ≡ None → IsArmed moments other m → ⊥
+  not_armed : (m : Moment) (other : ℕ) → other ≡ id → armed_moment moments id ≡ None → IsArmed moments other m → ⊥
   not_armed m other e none be = let there : IsArmed moments id m = subst (λ (k : ℕ). IsArmed moments k m) e be in absurd (cc)
 
   -- one id more, with its moment, if it is armed
-  pub among_more : (first : Option (Moment × ℕ)) (due : Option Moment) → due_of moments id ≡ due
-      → IsFirstAmong moments fewer first → IsFirstAmong moments more (first_with first due id)
+  pub among_more : (first : Option (Moment × ℕ)) (due : Option Moment) → armed_moment moments id ≡ due
+      → IsFirstAmong moments fewer first → IsFirstAmong moments more (first_with_id first due id)
   among_more None None armed is = λ other m has be.
       elim (ℕ_discrete other id) [ yes e ↦ not_armed m other e armed be | no ne ↦ is other m (within other has ne) be ]
   among_more (Some due) None armed is = (
@@ -91,19 +91,19 @@ module _ (moments : List (Option Moment)) (fewer more : ℕ → Bool) (id : ℕ)
 
 -- an id that is no longer to be looked at was so before, but for the one looked at now
 pub looked_before : (among id rest rest_new : ℕ) → ChangesId id false rest rest_new
-    → (other : ℕ) → (has_id among other && not (has_id rest_new other)) ≡ true → other ≢ id → (has_id among other && not (has_id rest other)) ≡ true
-looked_before among id rest rest_new change other has ne = ap (λ (b : Bool). has_id among other && not b) (sym (change.others other ne)) ∙ has
+    → (other : ℕ) → (has_core_bit among other && not (has_core_bit rest_new other)) ≡ true → other ≢ id → (has_core_bit among other && not (has_core_bit rest other)) ≡ true
+looked_before among id rest rest_new change other has ne = ap (λ (b : Bool). has_core_bit among other && not b) (sym (change.others other ne)) ∙ has
 
 -- where none is left to be looked at, each was
-pub all_looked_at : (among rest : ℕ) → ((id : ℕ) → has_id rest id ≡ false) → (id : ℕ) → has_id among id ≡ true → (has_id among id && not (has_id rest id)) ≡ true
-all_looked_at among rest none id has = ap (λ (b : Bool). has_id among id && not b) (none id) ∙ ap (λ (b : Bool). b && true) has
+pub all_looked_at : (among rest : ℕ) → ((id : ℕ) → has_core_bit rest id ≡ false) → (id : ℕ) → has_core_bit among id ≡ true → (has_core_bit among id && not (has_core_bit rest id)) ≡ true
+all_looked_at among rest none id has = ap (λ (b : Bool). has_core_bit among id && not b) (none id) ∙ ap (λ (b : Bool). b && true) has
 
 -- ---- the walk that finds which later ids come
 
 -- the set has what has come at t of those that are no longer to be looked at
 pub record AreComeBut (moments : List (Option Moment)) (t among rest come : ℕ) : Type 0 where
-  pub left : (id : ℕ) → id < 64 → has_id rest id ≡ true → has_id among id ≡ true
-  pub come_is : (id : ℕ) → id < 64 → has_id come id ≡ (not (has_id rest id) && (has_id among id && is_due moments t id))
+  pub left : (id : ℕ) → id < 64 → has_core_bit rest id ≡ true → has_core_bit among id ≡ true
+  pub come_is : (id : ℕ) → id < 64 → has_core_bit come id ≡ (not (has_core_bit rest id) && (has_core_bit among id && is_armed_due moments t id))
 
 now_looked : (rest among come : Bool) → rest ≡ false → among ≡ true → come ≡ (not rest && (among && come))
 now_looked true among come p q = let wrong : true ≡ false = p in absurd (cc)
@@ -111,58 +111,58 @@ now_looked false false come p q = let wrong : false ≡ true = q in absurd (cc)
 now_looked false true come p q = refl
 
 pub come_more : (moments : List (Option Moment)) (t among id rest rest_new come come_new : ℕ) → IsLowest rest id
-    → ChangesId id false rest rest_new → ChangesId id (is_due moments t id) come come_new
+    → ChangesId id false rest rest_new → ChangesId id (is_armed_due moments t id) come come_new
     → AreComeBut moments t among rest come → AreComeBut moments t among rest_new come_new
 come_more moments t among id rest rest_new come come_new low without put are = record {
   left = λ other few has. elim (ℕ_discrete other id) [
-    | yes e ↦ subst (λ (k : ℕ). has_id among k ≡ true) (sym e) (are.left id low.few low.has)
+    | yes e ↦ subst (λ (k : ℕ). has_core_bit among k ≡ true) (sym e) (are.left id low.few low.has)
     | no ne ↦ are.left other few (sym (without.others other ne) ∙ has)
   ];
   come_is = λ other few. elim (ℕ_discrete other id) [
-    | yes e ↦ subst (λ (k : ℕ). has_id come_new k ≡ (not (has_id rest_new k) && (has_id among k && is_due moments t k))) (sym e)
-        (put.here ∙ now_looked (has_id rest_new id) (has_id among id) (is_due moments t id) without.here (are.left id low.few low.has))
-    | no ne ↦ put.others other ne ∙ are.come_is other few ∙ ap (λ (b : Bool). not b && (has_id among other && is_due moments t other)) (sym (without.others other ne))
+    | yes e ↦ subst (λ (k : ℕ). has_core_bit come_new k ≡ (not (has_core_bit rest_new k) && (has_core_bit among k && is_armed_due moments t k))) (sym e)
+        (put.here ∙ now_looked (has_core_bit rest_new id) (has_core_bit among id) (is_armed_due moments t id) without.here (are.left id low.few low.has))
+    | no ne ↦ put.others other ne ∙ are.come_is other few ∙ ap (λ (b : Bool). not b && (has_core_bit among other && is_armed_due moments t other)) (sym (without.others other ne))
   ];
 }
 
 -- the ids of a set that are no longer to be looked at, and whose moment has not come at t
 abbrev pub is_sifted : List (Option Moment) → ℕ → ℕ → ℕ → ℕ → Bool
-is_sifted moments t among rest id = (has_id among id && not (has_id rest id)) && not (is_due moments t id)
+is_sifted moments t among rest id = (has_core_bit among id && not (has_core_bit rest id)) && not (is_armed_due moments t id)
 
 not_both : (b : Bool) → b ≡ true → not b ≡ true → ⊥
 not_both true is is_not = let wrong : false ≡ true = is_not in absurd (cc)
 not_both false is is_not = let wrong : false ≡ true = is in absurd (cc)
 
 pub sift_more : (moments : List (Option Moment)) (t among id rest rest_new : ℕ) → ChangesId id false rest rest_new
-    → (first : Option (Moment × ℕ)) (due : Option Moment) → due_of moments id ≡ due → (come : Bool) → come ≡ is_due moments t id
+    → (first : Option (Moment × ℕ)) (due : Option Moment) → armed_moment moments id ≡ due → (come : Bool) → come ≡ is_armed_due moments t id
     → IsFirstAmong moments (is_sifted moments t among rest) first
-    → IsFirstAmong moments (is_sifted moments t among rest_new) (first_with first (if come then None else due) id)
+    → IsFirstAmong moments (is_sifted moments t among rest_new) (first_with_id first (if come then None else due) id)
 sift_more moments t among id rest rest_new change first due is = by
   where
     before : (other : ℕ) → is_sifted moments t among rest_new other ≡ true → other ≢ id → is_sifted moments t among rest other ≡ true
     before other has ne =
-        ap (λ (b : Bool). b && not (is_due moments t other)) (looked_before among id rest rest_new change other (and_left (has_id among other && not (has_id rest_new other)) (not (is_due moments t other)) has) ne)
-        ∙ and_right (has_id among other && not (has_id rest_new other)) (not (is_due moments t other)) has
+        ap (λ (b : Bool). b && not (is_armed_due moments t other)) (looked_before among id rest rest_new change other (and_left (has_core_bit among other && not (has_core_bit rest_new other)) (not (is_armed_due moments t other)) has) ne)
+        ∙ and_right (has_core_bit among other && not (has_core_bit rest_new other)) (not (is_armed_due moments t other)) has
 
-    by : (come : Bool) → come ≡ is_due moments t id → IsFirstAmong moments (is_sifted moments t among rest) first
-        → IsFirstAmong moments (is_sifted moments t among rest_new) (first_with first (if come then None else due) id)
+    by : (come : Bool) → come ≡ is_armed_due moments t id → IsFirstAmong moments (is_sifted moments t among rest) first
+        → IsFirstAmong moments (is_sifted moments t among rest_new) (first_with_id first (if come then None else due) id)
     by true come so_far =
         among_fewer moments (is_sifted moments t among rest) (is_sifted moments t among rest_new) first
         (λ other m armed has. elim (ℕ_discrete other id) [
           | yes e ↦
-              absurd (not_both (is_due moments t id) (sym come)
-              (subst (λ (k : ℕ). not (is_due moments t k) ≡ true) e (and_right (has_id among other && not (has_id rest_new other)) (not (is_due moments t other)) has)))
+              absurd (not_both (is_armed_due moments t id) (sym come)
+              (subst (λ (k : ℕ). not (is_armed_due moments t k) ≡ true) e (and_right (has_core_bit among other && not (has_core_bit rest_new other)) (not (is_armed_due moments t other)) has)))
           | no ne ↦ before other has ne
         ]) so_far
     by false come so_far = among_more moments (is_sifted moments t among rest) (is_sifted moments t among rest_new) id before first due is so_far
 
-pub all_sifted : (moments : List (Option Moment)) (t among rest : ℕ) (first : Option (Moment × ℕ)) → ((id : ℕ) → has_id rest id ≡ false)
-    → IsFirstAmong moments (is_sifted moments t among rest) first → IsFirstAmong moments (λ id. has_id among id && not (is_due moments t id)) first
+pub all_sifted : (moments : List (Option Moment)) (t among rest : ℕ) (first : Option (Moment × ℕ)) → ((id : ℕ) → has_core_bit rest id ≡ false)
+    → IsFirstAmong moments (is_sifted moments t among rest) first → IsFirstAmong moments (λ id. has_core_bit among id && not (is_armed_due moments t id)) first
 all_sifted moments t among rest first none is =
-    among_fewer moments (is_sifted moments t among rest) (λ (id : ℕ). has_id among id && not (is_due moments t id)) first
+    among_fewer moments (is_sifted moments t among rest) (λ (id : ℕ). has_core_bit among id && not (is_armed_due moments t id)) first
     (λ id m armed has.
-    ap (λ (b : Bool). b && not (is_due moments t id)) (all_looked_at among rest none id (and_left (has_id among id) (not (is_due moments t id)) has))
-    ∙ and_right (has_id among id) (not (is_due moments t id)) has) is
+    ap (λ (b : Bool). b && not (is_armed_due moments t id)) (all_looked_at among rest none id (and_left (has_core_bit among id) (not (is_armed_due moments t id)) has))
+    ∙ and_right (has_core_bit among id) (not (is_armed_due moments t id)) has) is
 
 -- ---- one id takes its moment, or none
 
@@ -170,7 +170,7 @@ pub taken : (moments : List (Option Moment)) (id : ℕ) (due : Option Moment) (o
     → AreWords moments old → AreWords (set moments id due) new
 taken moments id due old new below takes are = record {
   few = let len = length-set moments id due in let few = are.few in omega (arith, len, few);
-  come = λ other few. word other old.come new.come (has_come old.told.0) (has_come new.told.0) (ap (λ (t : Moment). has_come t.0) (sym takes.told)) takes.come (are.come other few);
+  come = λ other few. word other old.come new.come (has_moment_come old.told.0) (has_moment_come new.told.0) (ap (λ (t : Moment). has_moment_come t.0) (sym takes.told)) takes.come (are.come other few);
   later = λ other few. word other old.later new.later (is_later old.told.0) (is_later new.told.0) (ap (λ (t : Moment). is_later t.0) (sym takes.told)) takes.later (are.later other few);
   soon = λ other at armed after.
       let late : old.told.0 < at.0 = subst (λ (t : Moment). t.0 < at.0) takes.told after in
@@ -185,20 +185,20 @@ taken moments id due old new below takes are = record {
 }
   where
     word : (other w v : ℕ) (old_test new_test : Option Moment → Bool) → old_test ≡ new_test → ChangesId id (old_test due) w v
-        → has_id w other ≡ old_test (due_of moments other) → has_id v other ≡ new_test (due_of (set moments id due) other)
+        → has_core_bit w other ≡ old_test (armed_moment moments other) → has_core_bit v other ≡ new_test (armed_moment (set moments id due) other)
     word other w v old_test new_test tests change was =
         elim (ℕ_discrete other id) [
-          | yes e ↦ subst (λ (k : ℕ). has_id v k ≡ new_test (due_of (set moments id due) k)) (sym e)
-              (change.here ∙ ap old_test (sym (get_or-set_same moments id due None below)) ∙ ap (λ (f : Option Moment → Bool). f (due_of (set moments id due) id)) tests)
-          | no ne ↦ change.others other ne ∙ was ∙ ap old_test (sym (get_or-set_other moments id other due None ne)) ∙ ap (λ (f : Option Moment → Bool). f (due_of (set moments id due) other)) tests
+          | yes e ↦ subst (λ (k : ℕ). has_core_bit v k ≡ new_test (armed_moment (set moments id due) k)) (sym e)
+              (change.here ∙ ap old_test (sym (get_or-set_same moments id due None below)) ∙ ap (λ (f : Option Moment → Bool). f (armed_moment (set moments id due) id)) tests)
+          | no ne ↦ change.others other ne ∙ was ∙ ap old_test (sym (get_or-set_other moments id other due None ne)) ∙ ap (λ (f : Option Moment → Bool). f (armed_moment (set moments id due) other)) tests
         ]
 
 -- ---- a later moment told
 
-not_past_is : (t : ℕ) (at : Moment) → t < at.0 → has_come t (Some at) ≡ false
+not_past_is : (t : ℕ) (at : Moment) → t < at.0 → has_moment_come t (Some at) ≡ false
 not_past_is t at high = grind (arith, nat_tests, high)
 
-past_same : (told t : ℕ) (due : Option Moment) → told ≤ t → ((at : Moment) → due ≡ Some at → told < at.0 → t < at.0) → has_come t due ≡ has_come told due
+past_same : (told t : ℕ) (due : Option Moment) → told ≤ t → ((at : Moment) → due ≡ Some at → told < at.0 → t < at.0) → has_moment_come t due ≡ has_moment_come told due
 past_same told t None le none = refl
 past_same told t (Some at) le none =
     elim (cases_lt told at.0) [
@@ -208,9 +208,9 @@ past_same told t (Some at) le none =
 
 -- where no id comes up to t, what has come at t had come at the moment told
 pub past_till : (moments : List (Option Moment)) (words : Words) (t : ℕ) → AreWords moments words → words.told.0 ≤ t → (words.told.0 < t → t < words.soon.0)
-    → (id : ℕ) → is_due moments t id ≡ is_due moments words.told.0 id
+    → (id : ℕ) → is_armed_due moments t id ≡ is_armed_due moments words.told.0 id
 past_till moments words t are le till id =
-    past_same words.told.0 t (due_of moments id) le (λ at armed after.
+    past_same words.told.0 t (armed_moment moments id) le (λ at armed after.
     let first = (are.soon id at armed after).by_moment in
     elim (cases_lt words.told.0 t) [
       | inl lt ↦ let before = till lt in omega (arith, first, before)
@@ -225,66 +225,66 @@ and_less : (p q : Bool) → (p ≡ true → q ≡ true) → (not p && not (not p
 and_less true q still_is = let e : q ≡ true = still_is refl in ap not (sym e)
 and_less false q still_is = refl
 
-come_of : (t : ℕ) (at : Moment) → has_come t (Some at) ≡ true → at.0 ≤ t
+come_of : (t : ℕ) (at : Moment) → has_moment_come t (Some at) ≡ true → at.0 ≤ t
 come_of t at e = grind (arith, nat_tests, e)
 
-still : (told t : ℕ) (at : Moment) → told ≤ t → has_come told (Some at) ≡ true → has_come t (Some at) ≡ true
+still : (told t : ℕ) (at : Moment) → told ≤ t → has_moment_come told (Some at) ≡ true → has_moment_come t (Some at) ≡ true
 still told t at le past = let low = come_of told at past in past_of t at (omega (arith, low, le))
 
-past_more : (told t : ℕ) (due : Option Moment) → told ≤ t → (has_come told due || (is_later told due && has_come t due)) ≡ has_come t due
+past_more : (told t : ℕ) (due : Option Moment) → told ≤ t → (has_moment_come told due || (is_later told due && has_moment_come t due)) ≡ has_moment_come t due
 past_more told t None le = refl
-past_more told t (Some at) le = or_more (has_come told (Some at)) (has_come t (Some at)) (still told t at le)
+past_more told t (Some at) le = or_more (has_moment_come told (Some at)) (has_moment_come t (Some at)) (still told t at le)
 
-later_less : (told t : ℕ) (due : Option Moment) → told ≤ t → (is_later told due && not (is_later told due && has_come t due)) ≡ is_later t due
+later_less : (told t : ℕ) (due : Option Moment) → told ≤ t → (is_later told due && not (is_later told due && has_moment_come t due)) ≡ is_later t due
 later_less told t None le = refl
-later_less told t (Some at) le = and_less (has_come told (Some at)) (has_come t (Some at)) (still told t at le)
+later_less told t (Some at) le = and_less (has_moment_come told (Some at)) (has_moment_come t (Some at)) (still told t at le)
 
-later_is : (moments : List (Option Moment)) (t id : ℕ) (at : Moment) → IsArmed moments id at → t < at.0 → is_later t (due_of moments id) ≡ true
+later_is : (moments : List (Option Moment)) (t id : ℕ) (at : Moment) → IsArmed moments id at → t < at.0 → is_later t (armed_moment moments id) ≡ true
 later_is moments t id at armed after = ap (is_later t) armed ∙ ap not (not_past_is t at after)
 
 -- a moment told at which ids may come: those of the later ones that come, those that do not, and the first of these
 pub told_looked : (moments : List (Option Moment)) (words : Words) (t : Moment) (come both later : ℕ) (first : Option (Moment × ℕ)) (bound : Moment × ℕ)
     → AreWords moments words → words.told.0 ≤ t.0
-    → ((id : ℕ) → id < 64 → has_id come id ≡ (has_id words.later id && is_due moments t.0 id))
-    → ((id : ℕ) → has_id both id ≡ (has_id words.come id || has_id come id))
-    → ((id : ℕ) → id < 64 → has_id later id ≡ (has_id words.later id && not (has_id come id)))
-    → IsFirstAmong moments (has_id later) first → bound ≡ unwrap_or first (words.soon, words.next)
+    → ((id : ℕ) → id < 64 → has_core_bit come id ≡ (has_core_bit words.later id && is_armed_due moments t.0 id))
+    → ((id : ℕ) → has_core_bit both id ≡ (has_core_bit words.come id || has_core_bit come id))
+    → ((id : ℕ) → id < 64 → has_core_bit later id ≡ (has_core_bit words.later id && not (has_core_bit come id)))
+    → IsFirstAmong moments (has_core_bit later) first → bound ≡ unwrap_or first (words.soon, words.next)
     → AreWords moments (record { told = t; come = both; later = later; soon = bound.0; next = bound.1 })
 told_looked moments words t come both later first bound are le come_is both_is later_is_of is_first bound_is = record {
   few = are.few;
-  come = λ id few. both_is id ∙ ap (λ (b : Bool). has_id words.come id || b) (came id few) ∙ ap (λ (b : Bool). b || (is_later words.told.0 (due_of moments id) && is_due moments t.0 id)) (are.come id few)
-      ∙ past_more words.told.0 t.0 (due_of moments id) le;
+  come = λ id few. both_is id ∙ ap (λ (b : Bool). has_core_bit words.come id || b) (came id few) ∙ ap (λ (b : Bool). b || (is_later words.told.0 (armed_moment moments id) && is_armed_due moments t.0 id)) (are.come id few)
+      ∙ past_more words.told.0 t.0 (armed_moment moments id) le;
   later = is_left;
   soon = λ id at armed after.
       let few : id < 64 = (let lt = armed_below moments id at armed in let few = are.few in omega (arith, lt, few)) in
       by first bound_is is_first id at (is_left id few ∙ later_is moments t.0 id at armed after) armed;
 }
   where
-    came : (id : ℕ) → id < 64 → has_id come id ≡ (is_later words.told.0 (due_of moments id) && is_due moments t.0 id)
-    came id few = come_is id few ∙ ap (λ (b : Bool). b && is_due moments t.0 id) (are.later id few)
+    came : (id : ℕ) → id < 64 → has_core_bit come id ≡ (is_later words.told.0 (armed_moment moments id) && is_armed_due moments t.0 id)
+    came id few = come_is id few ∙ ap (λ (b : Bool). b && is_armed_due moments t.0 id) (are.later id few)
 
-    is_left : (id : ℕ) → id < 64 → has_id later id ≡ is_later t.0 (due_of moments id)
-    is_left id few = later_is_of id few ∙ ap (λ (b : Bool). has_id words.later id && not b) (came id few)
-        ∙ ap (λ (b : Bool). b && not (is_later words.told.0 (due_of moments id) && is_due moments t.0 id)) (are.later id few) ∙ later_less words.told.0 t.0 (due_of moments id) le
+    is_left : (id : ℕ) → id < 64 → has_core_bit later id ≡ is_later t.0 (armed_moment moments id)
+    is_left id few = later_is_of id few ∙ ap (λ (b : Bool). has_core_bit words.later id && not b) (came id few)
+        ∙ ap (λ (b : Bool). b && not (is_later words.told.0 (armed_moment moments id) && is_armed_due moments t.0 id)) (are.later id few) ∙ later_less words.told.0 t.0 (armed_moment moments id) le
 
-    by : (f : Option (Moment × ℕ)) → bound ≡ unwrap_or f (words.soon, words.next) → IsFirstAmong moments (has_id later) f
-        → (id : ℕ) (at : Moment) → has_id later id ≡ true → IsArmed moments id at → GoesFirst bound.0 bound.1 at id
+    by : (f : Option (Moment × ℕ)) → bound ≡ unwrap_or f (words.soon, words.next) → IsFirstAmong moments (has_core_bit later) f
+        → (id : ℕ) (at : Moment) → has_core_bit later id ≡ true → IsArmed moments id at → GoesFirst bound.0 bound.1 at id
     by None e is id at has armed = absurd (is id at has armed)
     by (Some due) e is id at has armed = subst (λ (b : Moment × ℕ). GoesFirst b.0 b.1 at id) (sym e) (is.1 id at has armed)
 
 -- the first of those that have not come is the first of the later ones that stay
 pub later_first : (moments : List (Option Moment)) (words : Words) (t come later : ℕ) (first : Option (Moment × ℕ)) → AreWords moments words
-    → ((id : ℕ) → id < 64 → has_id come id ≡ (has_id words.later id && is_due moments t id))
-    → ((id : ℕ) → id < 64 → has_id later id ≡ (has_id words.later id && not (has_id come id)))
-    → IsFirstAmong moments (λ id. has_id words.later id && not (is_due moments t id)) first → IsFirstAmong moments (has_id later) first
+    → ((id : ℕ) → id < 64 → has_core_bit come id ≡ (has_core_bit words.later id && is_armed_due moments t id))
+    → ((id : ℕ) → id < 64 → has_core_bit later id ≡ (has_core_bit words.later id && not (has_core_bit come id)))
+    → IsFirstAmong moments (λ id. has_core_bit words.later id && not (is_armed_due moments t id)) first → IsFirstAmong moments (has_core_bit later) first
 later_first moments words t come later first are come_is later_is_of is =
-    among_fewer moments (λ (id : ℕ). has_id words.later id && not (is_due moments t id)) (has_id later) first
+    among_fewer moments (λ (id : ℕ). has_core_bit words.later id && not (is_armed_due moments t id)) (has_core_bit later) first
     (λ id at armed has.
     let lt = armed_below moments id at armed in
     let few = are.few in
     let in_words : id < 64 = omega (arith, lt, few) in
-    not_come (has_id words.later id) (is_due moments t id)
-    (ap (λ (b : Bool). has_id words.later id && not b) (sym (come_is id in_words)) ∙ sym (later_is_of id in_words) ∙ has)) is
+    not_come (has_core_bit words.later id) (is_armed_due moments t id)
+    (ap (λ (b : Bool). has_core_bit words.later id && not b) (sym (come_is id in_words)) ∙ sym (later_is_of id in_words) ∙ has)) is
   where
     not_come : (later come : Bool) → (later && not (later && come)) ≡ true → (later && not come) ≡ true
     not_come true come e = e
@@ -293,12 +293,12 @@ later_first moments words t come later first are come_is later_is_of is =
 -- ---- the least id that has come, and the first armed id
 
 pub lowest_come : (moments : List (Option Moment)) (words : Words) (t : ℕ) (first : Option ℕ) → AreWords moments words
-    → ((id : ℕ) → is_due moments t id ≡ is_due moments words.told.0 id)
-    → IfNone first ((id : ℕ) → has_id words.come id ≡ false) → IfSome first (IsLowest words.come) → IsFirstCome moments t first
+    → ((id : ℕ) → is_armed_due moments t id ≡ is_armed_due moments words.told.0 id)
+    → IfNone first ((id : ℕ) → has_core_bit words.come id ≡ false) → IfSome first (IsLowest words.come) → IsFirstCome moments t first
 lowest_come moments words t None are same none low = λ id.
     elim (cases_lt id 64) [
       | inl few ↦ same id ∙ sym (are.come id few) ∙ none id
-      | inr past ↦ let few = are.few in ap (has_come t) (get_or_past moments id None (omega (arith, past, few)))
+      | inr past ↦ let few = are.few in ap (has_moment_come t) (get_or_past moments id None (omega (arith, past, few)))
     ]
 lowest_come moments words t (Some first) are same none low = (
   same first ∙ sym (are.come first low.few) ∙ low.has,
@@ -316,48 +316,48 @@ either false = refl
 
 -- an armed id is one of those that have come or are later
 pub all_told : (moments : List (Option Moment)) (words : Words) (both : ℕ) (first : Option (Moment × ℕ)) → AreWords moments words
-    → ((id : ℕ) → has_id both id ≡ (has_id words.come id || has_id words.later id)) → IsFirstAmong moments (has_id both) first → IsFirstAmong moments (λ (_ : ℕ). true) first
+    → ((id : ℕ) → has_core_bit both id ≡ (has_core_bit words.come id || has_core_bit words.later id)) → IsFirstAmong moments (has_core_bit both) first → IsFirstAmong moments (λ (_ : ℕ). true) first
 all_told moments words both first are both_is is =
-    among_fewer moments (has_id both) (λ (_ : ℕ). true) first (λ id at armed _.
+    among_fewer moments (has_core_bit both) (λ (_ : ℕ). true) first (λ id at armed _.
     let lt = armed_below moments id at armed in
     let few = are.few in
     let in_words : id < 64 = omega (arith, lt, few) in
-    both_is id ∙ ap (λ (b : Bool). b || has_id words.later id) (are.come id in_words) ∙ ap (λ (b : Bool). is_due moments words.told.0 id || b) (are.later id in_words)
-    ∙ ap (λ (due : Option Moment). has_come words.told.0 due || is_later words.told.0 due) armed ∙ either (has_come words.told.0 (Some at))) is
+    both_is id ∙ ap (λ (b : Bool). b || has_core_bit words.later id) (are.come id in_words) ∙ ap (λ (b : Bool). is_armed_due moments words.told.0 id || b) (are.later id in_words)
+    ∙ ap (λ (due : Option Moment). has_moment_come words.told.0 due || is_later words.told.0 due) armed ∙ either (has_moment_come words.told.0 (Some at))) is
 
 -- ---- the walk that finds the least armed id that has come
 
 -- none has come of those that are no longer to be looked at
 abbrev pub AreLookedAt : List (Option Moment) → ℕ → ℕ → Type 0
-AreLookedAt moments t rest = (id : ℕ) → id < 64 → has_id rest id ≡ false → is_due moments t id ≡ false
+AreLookedAt moments t rest = (id : ℕ) → id < 64 → has_core_bit rest id ≡ false → is_armed_due moments t id ≡ false
 
-unarmed : (told t : ℕ) (due : Option Moment) → (has_come told due || is_later told due) ≡ false → has_come t due ≡ false
+unarmed : (told t : ℕ) (due : Option Moment) → (has_moment_come told due || is_later told due) ≡ false → has_moment_come t due ≡ false
 unarmed told t None none = refl
-unarmed told t (Some at) none = let yes = either (has_come told (Some at)) in absurd (cc)
+unarmed told t (Some at) none = let yes = either (has_moment_come told (Some at)) in absurd (cc)
 
 pub all_armed : (moments : List (Option Moment)) (words : Words) (both t : ℕ) → AreWords moments words
-    → ((id : ℕ) → has_id both id ≡ (has_id words.come id || has_id words.later id)) → AreLookedAt moments t both
+    → ((id : ℕ) → has_core_bit both id ≡ (has_core_bit words.come id || has_core_bit words.later id)) → AreLookedAt moments t both
 all_armed moments words both t are both_is = λ id few none.
-    unarmed words.told.0 t (due_of moments id)
-    (ap (λ (b : Bool). b || is_later words.told.0 (due_of moments id)) (sym (are.come id few))
-    ∙ ap (λ (b : Bool). has_id words.come id || b) (sym (are.later id few))
+    unarmed words.told.0 t (armed_moment moments id)
+    (ap (λ (b : Bool). b || is_later words.told.0 (armed_moment moments id)) (sym (are.come id few))
+    ∙ ap (λ (b : Bool). has_core_bit words.come id || b) (sym (are.later id few))
     ∙ sym (both_is id)
     ∙ none)
 
-pub looked_more : (moments : List (Option Moment)) (t id rest rest_new : ℕ) → ChangesId id false rest rest_new → is_due moments t id ≡ false
+pub looked_more : (moments : List (Option Moment)) (t id rest rest_new : ℕ) → ChangesId id false rest rest_new → is_armed_due moments t id ≡ false
     → AreLookedAt moments t rest → AreLookedAt moments t rest_new
 looked_more moments t id rest rest_new change not_come are = λ other few none. elim (ℕ_discrete other id) [
-  | yes e ↦ subst (λ (k : ℕ). is_due moments t k ≡ false) (sym e) not_come
+  | yes e ↦ subst (λ (k : ℕ). is_armed_due moments t k ≡ false) (sym e) not_come
   | no ne ↦ are other few (sym (change.others other ne) ∙ none)
 ]
 
-pub looked_some : (moments : List (Option Moment)) (t id rest : ℕ) → IsLowest rest id → is_due moments t id ≡ true
+pub looked_some : (moments : List (Option Moment)) (t id rest : ℕ) → IsLowest rest id → is_armed_due moments t id ≡ true
     → AreLookedAt moments t rest → IsFirstCome moments t (Some id)
 looked_some moments t id rest low come are = (come, λ other h. let few = low.few in are other (omega (arith, few, h)) (low.below other h))
 
-pub looked_none : (moments : List (Option Moment)) (words : Words) (t rest : ℕ) → AreWords moments words → ((id : ℕ) → has_id rest id ≡ false)
+pub looked_none : (moments : List (Option Moment)) (words : Words) (t rest : ℕ) → AreWords moments words → ((id : ℕ) → has_core_bit rest id ≡ false)
     → AreLookedAt moments t rest → IsFirstCome moments t None
 looked_none moments words t rest words_are none are = λ id. elim (cases_lt id 64) [
   | inl few ↦ are id few (none id)
-  | inr past ↦ let few = words_are.few in ap (has_come t) (get_or_past moments id None (omega (arith, past, few)))
+  | inr past ↦ let few = words_are.few in ap (has_moment_come t) (get_or_past moments id None (omega (arith, past, few)))
 ]

@@ -5,8 +5,8 @@ use Rattle.std.proofs.lemmas.Bool.{cases_eq, cases_lt}
 use Rattle.std.proofs.lemmas.Bool.Decides.{nat_tests}
 use Rattle.std.proofs.lemmas.List.{set-get_or, get_or_read, get_or-set_same, get_or-set_other, get_or_past, length-set}
 use Rattle.sched_base.specs.declared.Moment.{Moment}
-use Rattle.due_heap.specs.Dues.{IsArmed, GoesFirst, due_of}
-use Rattle.due_heap.specs.Winners.{precedes, is_before, sooner_id, winner, node_above, IsAncestor, IsFirstUnder, IsTree}
+use Rattle.due_heap.specs.Dues.{IsArmed, GoesFirst, armed_moment}
+use Rattle.due_heap.specs.Winners.{precedes, is_due_before, sooner_id, node_winner, node_above, IsAncestor, IsFirstUnder, IsTree}
 
 -- of three, where the second does not go before the first, nor the third before the second, the third does not go before the first
 precedes-trans : (x : Option Moment) (a : ℕ) (y : Option Moment) (b : ℕ) (z : Option Moment) (c : ℕ)
@@ -37,14 +37,14 @@ precedes-either None a None b p q = grind (arith, nat_tests, p, q)
 
 -- an id that no other is before
 pub not_before-trans : (moments : List (Option Moment)) (a b c : ℕ)
-    → is_before moments b a ≡ false → is_before moments c b ≡ false → is_before moments c a ≡ false
-not_before-trans moments a b c p q = precedes-trans (due_of moments a) a (due_of moments b) b (due_of moments c) c p q
+    → is_due_before moments b a ≡ false → is_due_before moments c b ≡ false → is_due_before moments c a ≡ false
+not_before-trans moments a b c p q = precedes-trans (armed_moment moments a) a (armed_moment moments b) b (armed_moment moments c) c p q
 
 -- two ids with the same moments in two lists go as they did
-pub is_before-same : (before moments : List (Option Moment)) (a b : ℕ) → due_of before a ≡ due_of moments a → due_of before b ≡ due_of moments b
-    → is_before before a b ≡ is_before moments a b
+pub is_before-same : (before moments : List (Option Moment)) (a b : ℕ) → armed_moment before a ≡ armed_moment moments a → armed_moment before b ≡ armed_moment moments b
+    → is_due_before before a b ≡ is_due_before moments a b
 is_before-same before moments a b p q =
-    ap (λ (x : Option Moment). precedes x a (due_of before b) b) p ∙ ap (λ (y : Option Moment). precedes (due_of moments a) a y b) q
+    ap (λ (x : Option Moment). precedes x a (armed_moment before b) b) p ∙ ap (λ (y : Option Moment). precedes (armed_moment moments a) a y b) q
 
 -- the node above one that is some steps up
 up-half : (steps node : ℕ) → node_above steps node / 2 ≡ node_above (suc steps) node
@@ -135,7 +135,7 @@ leaf_first moments id below = record {
   first = λ other inside a. elim (ancestor-cases (length moments + id) (length moments + other) a) [
     | inl e ↦
         let same : id ≡ other = omega (arith, e) in
-        subst (λ (o : ℕ). is_before moments o id ≡ false) same (precedes-same (due_of moments id) id)
+        subst (λ (o : ℕ). is_due_before moments o id ≡ false) same (precedes-same (armed_moment moments id) id)
     | inr higher ↦ let le = ancestor-le (length moments + id) ((length moments + other) / 2) higher in absurd (omega (arith, le, inside))
   ];
 }
@@ -144,7 +144,7 @@ leaf_first moments id below = record {
 sooner_first : (moments : List (Option Moment)) (k a b : ℕ) → k < length moments
     → IsFirstUnder moments (2 * k) a → IsFirstUnder moments (2 * k + 1) b → IsFirstUnder moments k (sooner_id moments a b)
 sooner_first moments k a b inner left right =
-    elim (is_before moments b a) as (λ test. is_before moments b a ≡ test → IsFirstUnder moments k (if test then b else a)) [
+    elim (is_due_before moments b a) as (λ test. is_due_before moments b a ≡ test → IsFirstUnder moments k (if test then b else a)) [
       | true ↦ λ e. record {
         below = right.below;
         under = subst (λ (j : ℕ). IsAncestor j (length moments + b)) (omega arith) (ancestor-parent (2 * k + 1) (length moments + b) right.under);
@@ -152,7 +152,7 @@ sooner_first moments k a b inner left right =
           | inl here ↦ absurd (omega (arith, here, inner))
           | inr (inl l) ↦
               not_before-trans moments b a other
-              (precedes-not_both (due_of moments a) a (due_of moments b) b e) (left.first other inside l)
+              (precedes-not_both (armed_moment moments a) a (armed_moment moments b) b e) (left.first other inside l)
           | inr (inr r) ↦ right.first other inside r
         ];
       }
@@ -167,38 +167,38 @@ sooner_first moments k a b inner left right =
       }
     ] refl
 
-pub winner-inner : (winners : List ℕ) (k : ℕ) → k < length winners → winner winners k ≡ slice_index_or winners k 0
+pub winner-inner : (winners : List ℕ) (k : ℕ) → k < length winners → node_winner winners k ≡ slice_index_or winners k 0
 winner-inner winners k inner =
     let test : nat_lt k (length winners) ≡ true = grind (arith, nat_tests, inner) in
     ap (λ (t : Bool). if t then slice_index_or winners k 0 else k - length winners) test
 
-pub winner-leaf : (winners : List ℕ) (k : ℕ) → length winners ≤ k → winner winners k ≡ k - length winners
+pub winner-leaf : (winners : List ℕ) (k : ℕ) → length winners ≤ k → node_winner winners k ≡ k - length winners
 winner-leaf winners k leaf =
     let test : nat_lt k (length winners) ≡ false = grind (arith, nat_tests, leaf) in
     ap (λ (t : Bool). if t then slice_index_or winners k 0 else k - length winners) test
 
 -- a winner is written at one node, and elsewhere stands what stood there
-pub winner-set_same : (winners : List ℕ) (k id : ℕ) → k < length winners → winner (set winners k id) k ≡ id
+pub winner-set_same : (winners : List ℕ) (k id : ℕ) → k < length winners → node_winner (set winners k id) k ≡ id
 winner-set_same winners k id inner =
     let len = length-set winners k id in
     winner-inner (set winners k id) k (omega (arith, len, inner)) ∙ get_or-set_same winners k id 0 inner
 
-pub winner-set_other : (winners : List ℕ) (k id j : ℕ) → j ≢ k → winner (set winners k id) j ≡ winner winners j
+pub winner-set_other : (winners : List ℕ) (k id j : ℕ) → j ≢ k → node_winner (set winners k id) j ≡ node_winner winners j
 winner-set_other winners k id j other =
     ap (λ (n : ℕ). if nat_lt j n then slice_index_or (set winners k id) j 0 else j - n) (length-set winners k id)
     ∙ ap (λ (x : ℕ). if nat_lt j (length winners) then x else j - length winners) (get_or-set_other winners k j id 0 other)
 
 at_leaf : (moments : List (Option Moment)) (winners : List ℕ) (k : ℕ) → length winners ≡ length moments → length moments ≤ k → k < 2 * length moments
-    → IsFirstUnder moments k (winner winners k)
+    → IsFirstUnder moments k (node_winner winners k)
 at_leaf moments winners k size leaf below =
-    let is : k - length winners ≡ winner winners k = sym (winner-leaf winners k (omega (arith, size, leaf))) in
+    let is : k - length winners ≡ node_winner winners k = sym (winner-leaf winners k (omega (arith, size, leaf))) in
     let node : length moments + (k - length winners) ≡ k = omega (arith, size, leaf) in
     let first = leaf_first moments (k - length winners) (omega (arith, size, leaf, below)) in
     subst (λ (id : ℕ). IsFirstUnder moments k id) is (subst (λ (j : ℕ). IsFirstUnder moments j (k - length winners)) node first)
 
 -- at each node of a tree, leaf or not, the first of the ids under it
 pub right : (moments : List (Option Moment)) (winners : List ℕ) → IsTree moments winners → (k : ℕ) → 1 ≤ k → k < 2 * length moments
-    → IsFirstUnder moments k (winner winners k)
+    → IsFirstUnder moments k (node_winner winners k)
 right moments winners tree k some below =
     elim (cases_lt k (length moments)) [
       | inl inner ↦ tree.each k some inner
@@ -207,13 +207,13 @@ right moments winners tree k some below =
 
 -- where the nodes after k are right, so is what is played at k
 pub played : (moments : List (Option Moment)) (winners : List ℕ) (k : ℕ) → length winners ≡ length moments → 1 ≤ k → k < length moments
-    → ((j : ℕ) → k < j → j < length moments → IsFirstUnder moments j (winner winners j))
-    → IsFirstUnder moments k (sooner_id moments (winner winners (2 * k)) (winner winners (2 * k + 1)))
+    → ((j : ℕ) → k < j → j < length moments → IsFirstUnder moments j (node_winner winners j))
+    → IsFirstUnder moments k (sooner_id moments (node_winner winners (2 * k)) (node_winner winners (2 * k + 1)))
 played moments winners k size some inner later =
-    sooner_first moments k (winner winners (2 * k)) (winner winners (2 * k + 1)) inner
+    sooner_first moments k (node_winner winners (2 * k)) (node_winner winners (2 * k + 1)) inner
     (child (2 * k) (omega (arith, some)) (omega (arith, inner))) (child (2 * k + 1) (omega (arith, some)) (omega (arith, inner)))
   where
-    child : (j : ℕ) → k < j → j < 2 * length moments → IsFirstUnder moments j (winner winners j)
+    child : (j : ℕ) → k < j → j < 2 * length moments → IsFirstUnder moments j (node_winner winners j)
     child j after below =
         elim (cases_lt j (length moments)) [
           | inl inside ↦ later j after inside
@@ -223,12 +223,12 @@ played moments winners k size some inner later =
 -- the nodes from k on are right
 pub record IsRightFrom (k : ℕ) (moments : List (Option Moment)) (winners : List ℕ) : Type 0 where
   pub size : length winners ≡ length moments
-  pub each : (j : ℕ) → 1 ≤ j → k ≤ j → j < length moments → IsFirstUnder moments j (winner winners j)
+  pub each : (j : ℕ) → 1 ≤ j → k ≤ j → j < length moments → IsFirstUnder moments j (node_winner winners j)
 
 pub right_from : (k : ℕ) (moments : List (Option Moment)) (winners : List ℕ) → 1 ≤ k → k < length moments → IsRightFrom (suc k) moments winners
-    → IsRightFrom k moments (set winners k (sooner_id moments (winner winners (2 * k)) (winner winners (2 * k + 1))))
+    → IsRightFrom k moments (set winners k (sooner_id moments (node_winner winners (2 * k)) (node_winner winners (2 * k + 1))))
 right_from k moments winners some inner from =
-    let id = sooner_id moments (winner winners (2 * k)) (winner winners (2 * k + 1)) in
+    let id = sooner_id moments (node_winner winners (2 * k)) (node_winner winners (2 * k + 1)) in
     let len = length-set winners k id in
     let size = from.size in
     record {
@@ -236,7 +236,7 @@ right_from k moments winners some inner from =
       each = λ j one after inside. elim (cases_eq j k) [
         | inl e ↦
             let here = played moments winners k size some inner (λ i low high. from.each i (omega (arith, low)) (omega (arith, low)) high) in
-            subst (λ (i : ℕ). IsFirstUnder moments i (winner (set winners k id) i)) (sym e)
+            subst (λ (i : ℕ). IsFirstUnder moments i (node_winner (set winners k id) i)) (sym e)
             (subst (λ (w : ℕ). IsFirstUnder moments k w) (sym (winner-set_same winners k id (omega (arith, size, inner)))) here)
         | inr ne ↦
             subst (λ (w : ℕ). IsFirstUnder moments j w) (sym (winner-set_other winners k id j ne))
@@ -246,7 +246,7 @@ right_from k moments winners some inner from =
 
 -- the first of all, at the root
 pub root_first : (moments : List (Option Moment)) (winners : List ℕ) → IsTree moments winners → (id : ℕ) → id < length moments
-    → is_before moments id (winner winners 1) ≡ false
+    → is_due_before moments id (node_winner winners 1) ≡ false
 root_first moments winners tree id below =
     (right moments winners tree 1 (omega arith) (omega (arith, below))).first id below
     (root_above (length moments + id) (length moments + id) (omega arith) (omega (arith, below)))
@@ -256,7 +256,7 @@ pub armed_below : (moments : List (Option Moment)) (id : ℕ) (at : Moment) → 
 armed_below moments id at armed =
     elim (cases_lt id (length moments)) [
       | inl lt ↦ lt
-      | inr past ↦ let none : due_of moments id ≡ None = get_or_past moments id None past in absurd (cc)
+      | inr past ↦ let none : armed_moment moments id ≡ None = get_or_past moments id None past in absurd (cc)
     ]
 
 precedes-none : (x : Option Moment) (a : ℕ) (at : Moment) (b : ℕ) → x ≡ None → precedes (Some at) b x a ≡ false → ⊥
@@ -274,19 +274,19 @@ precedes-goes_first at a other b not =
     record { by_moment = grind (arith, nat_tests, not); then_by_id = λ (same : at.0 ≡ other.0). grind (arith, nat_tests, not, same) }
 
 -- with no moment at the root no id is armed
-pub root_none : (moments : List (Option Moment)) (winners : List ℕ) → IsTree moments winners → due_of moments (winner winners 1) ≡ None
+pub root_none : (moments : List (Option Moment)) (winners : List ℕ) → IsTree moments winners → armed_moment moments (node_winner winners 1) ≡ None
     → (id : ℕ) (at : Moment) → IsArmed moments id at → ⊥
 root_none moments winners tree none id at armed =
-    precedes-none (due_of moments (winner winners 1)) (winner winners 1) at id none
-    (subst (λ (x : Option Moment). precedes x id (due_of moments (winner winners 1)) (winner winners 1) ≡ false) armed
+    precedes-none (armed_moment moments (node_winner winners 1)) (node_winner winners 1) at id none
+    (subst (λ (x : Option Moment). precedes x id (armed_moment moments (node_winner winners 1)) (node_winner winners 1) ≡ false) armed
     (root_first moments winners tree id (armed_below moments id at armed)))
 
 -- an armed id at the root goes before every armed id
 pub root_goes_first : (moments : List (Option Moment)) (winners : List ℕ) → IsTree moments winners
-    → (root : Moment) → due_of moments (winner winners 1) ≡ Some root
-    → (id : ℕ) (at : Moment) → IsArmed moments id at → GoesFirst root (winner winners 1) at id
+    → (root : Moment) → armed_moment moments (node_winner winners 1) ≡ Some root
+    → (id : ℕ) (at : Moment) → IsArmed moments id at → GoesFirst root (node_winner winners 1) at id
 root_goes_first moments winners tree root is id at armed =
-    precedes-goes_first root (winner winners 1) at id
-    (subst (λ (x : Option Moment). precedes (Some at) id x (winner winners 1) ≡ false) is
-    (subst (λ (x : Option Moment). precedes x id (due_of moments (winner winners 1)) (winner winners 1) ≡ false) armed
+    precedes-goes_first root (node_winner winners 1) at id
+    (subst (λ (x : Option Moment). precedes (Some at) id x (node_winner winners 1) ≡ false) is
+    (subst (λ (x : Option Moment). precedes x id (armed_moment moments (node_winner winners 1)) (node_winner winners 1) ≡ false) armed
     (root_first moments winners tree id (armed_below moments id at armed))))

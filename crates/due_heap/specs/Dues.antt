@@ -3,12 +3,12 @@ use Rattle.std.specs.Prelude.{ℕ, ◌≤◌, ◌≡◌, ◌^◌, Option, Some, 
 use Rattle.sched_base.specs.declared.Moment.{Moment}
 
 -- the moment at which an id is due, or none where it is not armed
-abbrev pub due_of : List (Option Moment) → ℕ → Option Moment
-due_of dues id = slice_index_or dues id None
+abbrev pub armed_moment : List (Option Moment) → ℕ → Option Moment
+armed_moment dues id = slice_index_or dues id None
 
 -- the id is armed with that moment
 abbrev pub IsArmed : List (Option Moment) → ℕ → Moment → Type 0
-IsArmed dues id at = due_of dues id ≡ Some at
+IsArmed dues id at = armed_moment dues id ≡ Some at
 
 -- an id that is due at one moment goes before another that is due at the other moment, or is the same
 pub record GoesFirst (at : Moment) (id : ℕ) (other : Moment) (other_id : ℕ) : Type 0 where

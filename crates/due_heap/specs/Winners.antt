@@ -2,8 +2,8 @@
 -- and the n nodes from n on are the leaves, one an id. The winner at a node is the first of the ids whose leaves are under it.
 use Rattle.std.specs.Prelude.{ℕ, zero, suc, ◌+◌, ◌-◌, ◌/◌, ◌^◌, ◌≤◌, ◌<◌, ◌==◌, ◌≡◌, ◌≢◌, nat_lt, ◌||◌, ◌&&◌, Bool, true, false, if◌then◌else◌, Option, Some, None, List, length, slice_index_or}
 use Rattle.sched_base.specs.declared.Moment.{Moment}
-use Rattle.sched_base.specs.Numbers.{has_come}
-use Rattle.due_heap.specs.Dues.{due_of}
+use Rattle.sched_base.specs.Numbers.{has_moment_come}
+use Rattle.due_heap.specs.Dues.{armed_moment}
 
 -- whether an id with its moment goes before another with its own: by moment, none after all, then by id
 abbrev pub precedes : Option Moment → ℕ → Option Moment → ℕ → Bool
@@ -13,20 +13,20 @@ precedes None a (Some y) b = false
 precedes None a None b = nat_lt a b
 
 -- whether an id goes before another
-abbrev pub is_before : List (Option Moment) → ℕ → ℕ → Bool
-is_before moments a b = precedes (due_of moments a) a (due_of moments b) b
+abbrev pub is_due_before : List (Option Moment) → ℕ → ℕ → Bool
+is_due_before moments a b = precedes (armed_moment moments a) a (armed_moment moments b) b
 
 -- of two ids the one that goes first
 abbrev pub sooner_id : List (Option Moment) → ℕ → ℕ → ℕ
-sooner_id moments a b = (if is_before moments b a then b else a)
+sooner_id moments a b = (if is_due_before moments b a then b else a)
 
 -- whether an id is armed with a moment that has come at t
-abbrev pub is_due : List (Option Moment) → ℕ → ℕ → Bool
-is_due moments t id = has_come t (due_of moments id)
+abbrev pub is_armed_due : List (Option Moment) → ℕ → ℕ → Bool
+is_armed_due moments t id = has_moment_come t (armed_moment moments id)
 
 -- the winner at a node: a leaf's is its own id
-abbrev pub winner : List ℕ → ℕ → ℕ
-winner winners k = (if nat_lt k (length winners) then slice_index_or winners k 0 else k - length winners)
+abbrev pub node_winner : List ℕ → ℕ → ℕ
+node_winner winners k = (if nat_lt k (length winners) then slice_index_or winners k 0 else k - length winners)
 
 -- the node so many steps above another
 abbrev pub node_above : ℕ → ℕ → ℕ
@@ -42,17 +42,17 @@ pub record IsAncestor (k node : ℕ) : Type 0 where
 pub record IsFirstUnder (moments : List (Option Moment)) (k id : ℕ) : Type 0 where
   pub below : id < length moments
   pub under : IsAncestor k (length moments + id)
-  pub first : (other : ℕ) → other < length moments → IsAncestor k (length moments + other) → is_before moments other id ≡ false
+  pub first : (other : ℕ) → other < length moments → IsAncestor k (length moments + other) → is_due_before moments other id ≡ false
 
 -- the winners of the ids that have these moments; the ids are numbers of 16 bits
 pub record IsTree (moments : List (Option Moment)) (winners : List ℕ) : Type 0 where
   pub few : length moments ≤ 2 ^ 16
   pub size : length winners ≡ length moments
-  pub each : (k : ℕ) → 1 ≤ k → k < length moments → IsFirstUnder moments k (winner winners k)
+  pub each : (k : ℕ) → 1 ≤ k → k < length moments → IsFirstUnder moments k (node_winner winners k)
 
 -- the winners as they were before one id's moment changed
 pub record IsTreeBut (id : ℕ) (moments : List (Option Moment)) (winners : List ℕ) : Type 0 where
   pub before : List (Option Moment)
   pub tree : IsTree before winners
   pub size : length before ≡ length moments
-  pub same : (other : ℕ) → other ≢ id → due_of before other ≡ due_of moments other
+  pub same : (other : ℕ) → other ≢ id → armed_moment before other ≡ armed_moment moments other

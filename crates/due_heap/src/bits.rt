@@ -1,7 +1,7 @@
 //! A set of ids below 64 as a word, with a bit an id.
 
 ghost use Rattle.std.specs.Prelude.{ℕ, ◌≡◌, ◌<◌, ◌||◌, ◌&&◌, not, true, false, IfNone, IfSome};
-ghost use Rattle.due_heap.specs.Words.{ChangesId, IsLowest, has_id};
+ghost use Rattle.due_heap.specs.Words.{ChangesId, IsLowest, has_core_bit};
 
 /// The set with the id or without it, as wanted.
 #[inline]
@@ -20,7 +20,7 @@ pub fn put_id(set: u64, id: u16, wanted: bool) -> u64
 #[inline]
 pub fn without(set: u64, id: u16) -> u64
     requires few { id < 64 }
-    requires has { has_id set id ≡ true }
+    requires has { has_core_bit set id ≡ true }
     ensures change { ChangesId id false set result }
     ensures less { result < set }
 {
@@ -30,7 +30,7 @@ pub fn without(set: u64, id: u16) -> u64
 /// The lowest id of the set. `None` where it has none.
 #[inline]
 pub fn lowest(set: u64) -> Option<u16>
-    ensures none { IfNone result ((id : ℕ) → has_id set id ≡ false) }
+    ensures none { IfNone result ((id : ℕ) → has_core_bit set id ≡ false) }
     ensures lowest { IfSome result (IsLowest set) }
 {
     if set == 0 {
@@ -43,7 +43,7 @@ pub fn lowest(set: u64) -> Option<u16>
 /// The ids of two sets.
 #[inline]
 pub fn union(a: u64, b: u64) -> u64
-    ensures { (id : ℕ) → has_id result id ≡ (has_id a id || has_id b id) }
+    ensures { (id : ℕ) → has_core_bit result id ≡ (has_core_bit a id || has_core_bit b id) }
 {
     a | b
 }
@@ -51,7 +51,7 @@ pub fn union(a: u64, b: u64) -> u64
 /// The ids of a set that another has not.
 #[inline]
 pub fn difference(a: u64, b: u64) -> u64
-    ensures { (id : ℕ) → id < 64 → has_id result id ≡ (has_id a id && not (has_id b id)) }
+    ensures { (id : ℕ) → id < 64 → has_core_bit result id ≡ (has_core_bit a id && not (has_core_bit b id)) }
 {
     a & !b
 }

@@ -45,7 +45,7 @@ impl Model for DueHeap {
 /// The winner at a node, which is a leaf's own id.
 fn winner(winners: &[u16], k: usize) -> u16
     requires fits { k < length winners.now + 2 ^ 16 }
-    ensures { result ≡ tree.winner winners.now k }
+    ensures { result ≡ tree.node_winner winners.now k }
 {
     if k < winners.len() {
         winners[k]
@@ -58,8 +58,8 @@ fn winner(winners: &[u16], k: usize) -> u16
 fn play(moments: &[Option<Moment>], winners: &[u16], k: usize) -> u16
     requires few { length winners.now ≤ 2 ^ 16 }
     requires inner { k < length winners.now }
-    ensures { result ≡ tree.sooner_id moments.now (tree.winner winners.now (2 * k))
-        (tree.winner winners.now (2 * k + 1)) }
+    ensures { result ≡ tree.sooner_id moments.now (tree.node_winner winners.now (2 * k))
+        (tree.node_winner winners.now (2 * k + 1)) }
 {
     sooner(moments, winner(winners, 2 * k), winner(winners, 2 * k + 1))
 }
@@ -82,9 +82,9 @@ fn play_beside(moments: &[Option<Moment>], winners: &[u16], k: usize, first: u16
     requires few { length winners.now ≤ 2 ^ 16 }
     requires under { 2 ≤ k }
     requires inside { k < 2 * length winners.now }
-    requires first { first ≡ tree.winner winners.now k }
-    ensures { result ≡ tree.sooner_id moments.now (tree.winner winners.now (2 * (k / 2)))
-        (tree.winner winners.now (2 * (k / 2) + 1)) }
+    requires first { first ≡ tree.node_winner winners.now k }
+    ensures { result ≡ tree.sooner_id moments.now (tree.node_winner winners.now (2 * (k / 2)))
+        (tree.node_winner winners.now (2 * (k / 2) + 1)) }
 {
     sooner(moments, first, winner(winners, 4 * (k / 2) + 1 - k))
 }
@@ -112,7 +112,7 @@ fn settle(moments: &[Option<Moment>], winners: &mut [u16], id: u16)
 fn below(moments: &[Option<Moment>], winners: &[u16], k: usize, t: Moment) -> usize
     requires few { length winners.now ≤ 2 ^ 16 }
     requires inner { k < length winners.now }
-    ensures { result ≡ (if tree.is_due moments.now t.0 (tree.winner winners.now (2 * k)) then 2 *
+    ensures { result ≡ (if tree.is_armed_due moments.now t.0 (tree.node_winner winners.now (2 * k)) then 2 *
         k else 2 * k + 1) }
 {
     if is_due(moments, winner(winners, 2 * k), t) {
@@ -126,9 +126,9 @@ fn below(moments: &[Option<Moment>], winners: &[u16], k: usize, t: Moment) -> us
 fn leftmost(moments: &[Option<Moment>], winners: &[u16], t: Moment) -> u16
     requires tree { IsTree moments.now winners.now }
     requires power { IsPowerOfTwo (length moments.now) }
-    requires root { tree.is_due moments.now t.0 (tree.winner winners.now 1) ≡ true }
-    ensures come { tree.is_due moments.now t.0 result ≡ true }
-    ensures first { (id : ℕ) → id < result → tree.is_due moments.now t.0 id ≡ false }
+    requires root { tree.is_armed_due moments.now t.0 (tree.node_winner winners.now 1) ≡ true }
+    ensures come { tree.is_armed_due moments.now t.0 result ≡ true }
+    ensures first { (id : ℕ) → id < result → tree.is_armed_due moments.now t.0 id ≡ false }
 {
     let mut k = 1;
     while k < winners.len() {

@@ -8,7 +8,7 @@ use sched_base::Moment;
 
 /// The moment at which an id is due. `None` where it is not armed, or has no moment.
 pub fn due_of(moments: &[Option<Moment>], id: u16) -> Option<Moment>
-    ensures { result ≡ dues.due_of moments.now id }
+    ensures { result ≡ dues.armed_moment moments.now id }
 {
     if (id as usize) < moments.len() {
         moments[id as usize]
@@ -26,7 +26,7 @@ pub fn goes_before(at: Moment, id: u16, other: Moment, other_id: u16) -> bool
 
 /// Whether an id goes before another: by moment, those that are not armed last, then by id.
 fn is_before(moments: &[Option<Moment>], a: u16, b: u16) -> bool
-    ensures { result ≡ winners.is_before moments.now a b }
+    ensures { result ≡ winners.is_due_before moments.now a b }
 {
     match (due_of(moments, a), due_of(moments, b)) {
         (Some(x), Some(y)) => goes_before(x, a, y, b),
@@ -45,7 +45,7 @@ pub fn sooner(moments: &[Option<Moment>], a: u16, b: u16) -> u16
 
 /// Whether an id is armed and its moment has come at t.
 pub fn is_due(moments: &[Option<Moment>], id: u16, t: Moment) -> bool
-    ensures { result ≡ winners.is_due moments.now t.0 id }
+    ensures { result ≡ winners.is_armed_due moments.now t.0 id }
 {
     match due_of(moments, id) {
         None => false,

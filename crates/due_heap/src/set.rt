@@ -6,8 +6,8 @@
 
 ghost use Rattle.std.specs.Prelude.{ℕ, ◌≡◌, ◌<◌, ◌≤◌, ◌^◌, ◌&&◌, not, true, false, if◌then◌else◌, length, IsTrue, IfNone, IfSome};
 ghost use Rattle.due_heap.specs.Dues.{IsArmed, GoesFirst};
-ghost use Rattle.due_heap.specs.Winners.{is_due as is_due_spec};
-ghost use Rattle.due_heap.specs.Words.{AreWords, IsFirstAmong, IsFirstCome, TakesDue, first_with as first_with_spec, has_id};
+ghost use Rattle.due_heap.specs.Winners.{is_armed_due};
+ghost use Rattle.due_heap.specs.Words.{AreWords, IsFirstAmong, IsFirstCome, TakesDue, first_with_id, has_core_bit};
 
 use crate::bits::{difference, lowest, put_id, union, without};
 use crate::order::{due_of, goes_before, is_due};
@@ -88,7 +88,7 @@ fn take_none(words: &mut Words, id: u16)
 
 /// Of the first so far and an id with its moment, if it is armed, the one that goes first.
 fn first_with(first: Option<(Moment, u16)>, due: Option<Moment>, id: u16) -> Option<(Moment, u16)>
-    ensures { result ≡ first_with_spec first due id }
+    ensures { result ≡ first_with_id first due id }
 {
     match (first, due) {
         (_, None) => first,
@@ -104,7 +104,7 @@ fn first_with(first: Option<(Moment, u16)>, due: Option<Moment>, id: u16) -> Opt
 /// The first of a set's armed ids, by moment, then by id. `None` where there is none.
 fn first_of(moments: &[Option<Moment>], set: u64) -> Option<(Moment, u16)>
     requires { length moments.now ≤ 64 }
-    ensures { IsFirstAmong moments.now (has_id set) result }
+    ensures { IsFirstAmong moments.now (has_core_bit set) result }
 {
     let mut rest = set;
     let mut first = None;
@@ -126,10 +126,10 @@ fn still_due(due: Option<Moment>, come: bool) -> Option<Moment>
 /// Those of a set whose moment has come at t, and the first of the others, by moment, then by id.
 fn sift(moments: &[Option<Moment>], set: u64, t: Moment) -> (u64, Option<(Moment, u16)>)
     requires { length moments.now ≤ 64 }
-    ensures come { (id : ℕ) → id < 64 → has_id result.0 id
-        ≡ (has_id set id && is_due_spec moments.now t.0 id) }
-    ensures first { IsFirstAmong moments.now (λ id. has_id set id
-        && not (is_due_spec moments.now t.0 id)) result.1 }
+    ensures come { (id : ℕ) → id < 64 → has_core_bit result.0 id
+        ≡ (has_core_bit set id && is_armed_due moments.now t.0 id) }
+    ensures first { IsFirstAmong moments.now (λ id. has_core_bit set id
+        && not (is_armed_due moments.now t.0 id)) result.1 }
 {
     let mut rest = set;
     let mut come = 0;

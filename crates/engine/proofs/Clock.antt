@@ -6,7 +6,7 @@ use Rattle.sched_model.specs.declared.event.Event.{Event}
 use Rattle.sched_model.specs.declared.event.Entry.{Entry}
 use Rattle.sched_model.specs.declared.machine.Machine.{Machine}
 use Rattle.sched_model.specs.declared.state.State.{State}
-use Rattle.sched_model.specs.Machine.{is_enabled, event_of, after}
+use Rattle.sched_model.specs.Machine.{is_action_enabled, event_of, after}
 use Rattle.sched_laws.proofs.Free.{now_after}
 use Rattle.machine_parts.specs.Told.{Told, told_more}
 use Rattle.machine_parts.specs.Places.{GoesOn, state_of}
@@ -15,7 +15,7 @@ use Rattle.engine.specs.EngineState.{standing_of}
 use Rattle.sched_model.specs.Standing.{Standing}
 
 -- where a trail leads with the entry of an action
-module _ (w new : Told) (goes : GoesOn w) (action : Action) (on : is_enabled w.input (state_of w) (state_of w).now action ≡ true) (t : ℕ) (now : t ≡ (state_of w).now) (event : Event) (ev : event ≡ event_of w.input (state_of w) (state_of w).now action) where
+module _ (w new : Told) (goes : GoesOn w) (action : Action) (on : is_action_enabled w.input (state_of w) (state_of w).now action ≡ true) (t : ℕ) (now : t ≡ (state_of w).now) (event : Event) (ev : event ≡ event_of w.input (state_of w) (state_of w).now action) where
   abbrev done : Entry
   done = record { at = moment t; event = event }
 

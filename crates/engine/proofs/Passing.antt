@@ -8,7 +8,7 @@ use Rattle.sched_model.specs.declared.event.Event.TheVariants as event
 use Rattle.sched_model.specs.declared.event.Entry.{Entry}
 use Rattle.sched_model.specs.declared.machine.Machine.{Machine}
 use Rattle.sched_model.specs.declared.state.State.{State}
-use Rattle.sched_model.specs.Machine.{first_enabled, next_in_horizon}
+use Rattle.sched_model.specs.Machine.{first_enabled_action, next_in_horizon}
 use Rattle.sched_model.specs.Places.{at_place}
 use Rattle.sched_model.specs.Runs.{Reached, IsNext, run_start, after_entry, open_at}
 use Rattle.sched_model.proofs.RunLemmas.{after_entries-append, IsRunFrom-append}
@@ -30,7 +30,7 @@ use Rattle.machine_parts.proofs.Performing.{slot-later}
 use Rattle.engine.proofs.Quiet.{quiet-firsts}
 use Rattle.machine_parts.proofs.Keeping.{spares-later}
 
-module _ (w : Told) (goes : GoesOn w) (next : ℕ) (quiet : first_enabled w.input (state_of w) (state_of w).now ≡ None) (comes : next_in_horizon w.input (state_of w) ≡ Some next) (e : Entry) (is : e ≡ record { at = moment (state_of w).now; event = event.End (moment next) }) where
+module _ (w : Told) (goes : GoesOn w) (next : ℕ) (quiet : first_enabled_action w.input (state_of w) (state_of w).now ≡ None) (comes : next_in_horizon w.input (state_of w) ≡ Some next) (e : Entry) (is : e ≡ record { at = moment (state_of w).now; event = event.End (moment next) }) where
   abbrev m : Machine
   m = w.input
 
@@ -71,7 +71,7 @@ module _ (w : Told) (goes : GoesOn w) (next : ℕ) (quiet : first_enabled w.inpu
 
 -- what the engine keeps goes on, and where it stands
 module _ (w new : Told) (t next horizon g : ℕ) (slots : List (Option Seen)) (tool : Tool) (shelves : Shelves) (firsts : List (Option Action)) (nexts : List (Option Moment)) (running : IsRunning w t horizon g slots tool shelves firsts nexts)
-    (quiet : first_enabled w.input (state_of w) (state_of w).now ≡ None) (comes : next_in_horizon w.input (state_of w) ≡ Some next)
+    (quiet : first_enabled_action w.input (state_of w) (state_of w).now ≡ None) (comes : next_in_horizon w.input (state_of w) ≡ Some next)
     (is : new ≡ told_more w (record { at = moment t; event = event.End (moment next) })) where
   abbrev ending : Entry
   ending = record { at = moment t; event = event.End (moment next) }

@@ -8,7 +8,7 @@ use Rattle.sched_model.specs.declared.machine.Machine.{Machine}
 use Rattle.sched_model.specs.declared.state.State.{State}
 use Rattle.sched_model.specs.Actions.{candidates}
 use Rattle.sched_model.specs.CheckedMachine.{IsChecked}
-use Rattle.sched_model.specs.Machine.{first_enabled, is_enabled}
+use Rattle.sched_model.specs.Machine.{first_enabled_action, is_action_enabled}
 use Rattle.sched_model.specs.Places.{at_place}
 use Rattle.sched_model.specs.Pool.{enabled_in}
 use Rattle.sched_model.specs.Runs.{IsRun}
@@ -30,13 +30,13 @@ use Rattle.machine_parts.proofs.AtPlaces.{pool-anywhere}
 use Rattle.machine_parts.specs.Parts.{AreFirsts, AreNexts, AreParts, IsNextOfPlace}
 
 -- no event of a pool may come where no action may
-nothing-comes : (m : Machine) (checked : IsChecked m) (entries : List Entry) (run : IsRun m entries) (t i : ℕ) (action : Action) → ComesInPool m (state_after m entries) t i action → first_enabled m (state_after m entries) t ≡ None → ⊥
+nothing-comes : (m : Machine) (checked : IsChecked m) (entries : List Entry) (run : IsRun m entries) (t i : ℕ) (action : Action) → ComesInPool m (state_after m entries) t i action → first_enabled_action m (state_after m entries) t ≡ None → ⊥
 nothing-comes m checked entries run t i action comes quiet =
-    let on : is_enabled m (state_after m entries) t action ≡ true = ((pool_is_home m checked entries run i t action).0 comes).enabled in
-    let off : is_enabled m (state_after m entries) t action ≡ false = none_if_none_found (is_enabled m (state_after m entries) t) (candidates m.config) quiet action (Has-from_contains action (candidates m.config) (is_candidate m checked entries run t action on)) in
+    let on : is_action_enabled m (state_after m entries) t action ≡ true = ((pool_is_home m checked entries run i t action).0 comes).enabled in
+    let off : is_action_enabled m (state_after m entries) t action ≡ false = none_if_none_found (is_action_enabled m (state_after m entries) t) (candidates m.config) quiet action (Has-from_contains action (candidates m.config) (is_candidate m checked entries run t action on)) in
     (let bad : true ≡ false = sym on ∙ off in absurd (cc bad))
 
-module _ (w : Told) (slots : List (Option Seen)) (tool : Tool) (parts : AreParts w slots tool) (t : ℕ) (now : t ≡ (state_of w).now) (firsts : List (Option Action)) (are : AreFirsts t slots firsts) (quiet : first_enabled w.input (state_of w) (state_of w).now ≡ None) where
+module _ (w : Told) (slots : List (Option Seen)) (tool : Tool) (parts : AreParts w slots tool) (t : ℕ) (now : t ≡ (state_of w).now) (firsts : List (Option Action)) (are : AreFirsts t slots firsts) (quiet : first_enabled_action w.input (state_of w) (state_of w).now ≡ None) where
   suits-at : (k : ℕ) (seen : Seen) → at_place slots k ≡ Some seen → at_place (state_of w).pools k ≡ Some seen.pool → SlotSuits w.input (state_of w).now seen
   suits-at k seen is there = (parts.stand.each k (let low = place_below (state_of w).pools k seen.pool there in let places = (range-of w parts.goes).pool_places in omega (arith, low, places))).suits seen is
 
@@ -50,7 +50,7 @@ module _ (w : Told) (slots : List (Option Seen)) (tool : Tool) (parts : AreParts
           let there : at_place (state_of w).pools k ≡ Some seen.pool = pool-anywhere w slots tool parts k ∙ ap pool_at is in
           let g : seen.granularity ≡ w.input.config.granularity = (suits-at k seen is there).granularity in
           let on : enabled_in w.input.config.granularity (state_of w).now seen.pool action ≡ true = subst (λ (n : ℕ). enabled_in w.input.config.granularity n seen.pool action ≡ true) now (subst (λ (n : ℕ). enabled_in n t seen.pool action ≡ true) g found.enabled) in
-          subst (λ (s : State). ComesInPool w.input s s.now k action → first_enabled w.input s s.now ≡ None → ⊥) (sym (state_of-is w))
+          subst (λ (s : State). ComesInPool w.input s s.now k action → first_enabled_action w.input s s.now ≡ None → ⊥) (sym (state_of-is w))
           (nothing-comes w.input parts.goes.checked w.history parts.goes.run _ k action) (record { pool = seen.pool; at = there; enabled = on }) quiet
 
       by_first : (o : Option Action) → at_place firsts k ≡ o → at_place firsts k ≡ None

@@ -54,8 +54,8 @@ impl Engine {
     ghost use Rattle.sched_base.specs.Numbers.{moment};
     ghost use Rattle.sched_model.specs.Opening.{opening};
     ghost use Rattle.sched_model.specs.CheckedMachine.{IsChecked};
-    ghost use Rattle.machine_parts.specs.Parts.{pool_of_event as pool_of_event_spec};
-    ghost use Rattle.sched_model.specs.Machine.{is_enabled, first_enabled as first_enabled_spec, next_in_horizon, event_of, after};
+    ghost use Rattle.machine_parts.specs.Parts.{event_pool};
+    ghost use Rattle.sched_model.specs.Machine.{is_action_enabled, first_enabled_action, next_in_horizon, event_of, after};
 
     /// The machine at its opening. Its values have passed the checks of the domain file and of the work file.
     pub fn open(alloc: Global, machine: Machine) -> Result<Engine, NoMemory>
@@ -103,7 +103,7 @@ impl Engine {
 
     /// The first action that may come now, or none exactly where none may.
     pub fn first_enabled(&self) -> Option<Action>
-        ensures { result ≡ first_enabled_spec self.now.machine self.now.state self.now.state.now }
+        ensures { result ≡ first_enabled_action self.now.machine self.now.state self.now.state.now }
     {
         whole_first(
             self.slots.as_slice(),
@@ -116,7 +116,7 @@ impl Engine {
 
     /// Does the event of the first action that may come now, and answers it with the fields that its line prints.
     pub fn perform(&mut self, action: Action) -> Event
-        requires { first_enabled_spec self.old.machine self.old.state self.old.state.now
+        requires { first_enabled_action self.old.machine self.old.state self.old.state.now
             ≡ Some action }
         ensures event { result ≡ event_of self.old.machine self.old.state self.old.state.now
             action }
@@ -131,9 +131,9 @@ impl Engine {
 
     /// Does the event of an action that may come now, which is one of the pool i.
     fn perform_in_pool(&mut self, i: u8, action: Action) -> Event
-        requires enabled { is_enabled self.old.machine self.old.state self.old.state.now action
+        requires enabled { is_action_enabled self.old.machine self.old.state self.old.state.now action
             ≡ true }
-        requires home { pool_of_event_spec self.old.machine.config.granularity self.old.state action
+        requires home { event_pool self.old.machine.config.granularity self.old.state action
             ≡ Some i }
         ensures event { result ≡ event_of self.old.machine self.old.state self.old.state.now
             action }
@@ -164,12 +164,12 @@ impl Engine {
 
     /// The same of an action of the tool; of a command where no stall may come.
     fn perform_by_tool(&mut self, action: Action) -> Event
-        requires enabled { is_enabled self.old.machine self.old.state self.old.state.now action
+        requires enabled { is_action_enabled self.old.machine self.old.state self.old.state.now action
             ≡ true }
-        requires no_pool { pool_of_event_spec self.old.machine.config.granularity self.old.state
+        requires no_pool { event_pool self.old.machine.config.granularity self.old.state
             action ≡ None }
         requires first { action ≡ actions.Xl →
-            is_enabled self.old.machine self.old.state self.old.state.now actions.Stall ≡ false }
+            is_action_enabled self.old.machine self.old.state self.old.state.now actions.Stall ≡ false }
         ensures event { result ≡ event_of self.old.machine self.old.state self.old.state.now
             action }
         ensures state { self.new ≡ record self.old
@@ -200,7 +200,7 @@ impl Engine {
 
     /// The least later moment at which something may happen, where it is at most the horizon. Nothing may come now.
     pub fn next_moment(&self) -> Option<Moment>
-        requires { first_enabled_spec self.now.machine self.now.state self.now.state.now ≡ None }
+        requires { first_enabled_action self.now.machine self.now.state self.now.state.now ≡ None }
         ensures { result ≡ option_map moment (next_in_horizon self.now.machine self.now.state) }
     {
         whole_next(
@@ -215,7 +215,7 @@ impl Engine {
 
     /// Goes on to the next moment, where nothing may come now.
     pub fn pass_to(&mut self, next: Moment)
-        requires nothing { first_enabled_spec self.old.machine self.old.state self.old.state.now
+        requires nothing { first_enabled_action self.old.machine self.old.state self.old.state.now
             ≡ None }
         requires next { next_in_horizon self.old.machine self.old.state ≡ Some next.0 }
         ensures { self.new ≡ record self.old { state = record self.old.state { now = next.0 } } }

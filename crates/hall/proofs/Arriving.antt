@@ -13,10 +13,10 @@ use Rattle.sched_model.specs.declared.event.Event.TheVariants as event
 use Rattle.sched_model.specs.declared.machine.Machine.{Machine}
 use Rattle.sched_model.specs.declared.state.Pool.{Pool}
 use Rattle.sched_model.specs.declared.state.State.{State}
-use Rattle.sched_model.specs.Actions.{candidates, home_of}
-use Rattle.sched_model.specs.Machine.{is_enabled}
+use Rattle.sched_model.specs.Actions.{candidates, home_pool_of_action}
+use Rattle.sched_model.specs.Machine.{is_action_enabled}
 use Rattle.sched_model.specs.Places.{test_at}
-use Rattle.sched_model.specs.Runs.{action_of}
+use Rattle.sched_model.specs.Runs.{event_action}
 use Rattle.sched_model.proofs.RunLemmas.{action_of-event_of, find_passes}
 use Rattle.sched_base.proofs.Bools.{and_left}
 use Rattle.sched_laws.proofs.Lists.{some-test_at}
@@ -33,7 +33,7 @@ in-pool m pool (Dom d) p own there = absurd (cc)
 in-pool m pool Tool p own there = absurd (cc)
 
 arrives : (m : Machine) (s : State) (actor : Actor) (p : ℕ) → is_by_actor m s actor (Arrive (processor p)) ≡ true → is_actor m.config actor ≡ true → p < m.config.processors
-arrives m s actor p own there = by_home (home_of m.config.granularity s (Arrive (processor p))) own
+arrives m s actor p own there = by_home (home_pool_of_action m.config.granularity s (Arrive (processor p))) own
   where
     by_home : (o : Option ℕ) → elim o as (λ _. Bool) [ None ↦ false | Some i ↦ test_at s.pools i (λ pool. is_by m.config.granularity pool actor (Arrive (processor p))) ] ≡ true → p < m.config.processors
     by_home None is = absurd (cc)
@@ -44,8 +44,8 @@ arrival-few actor place e before old new acted there p is =
     let m = old.input in
     let s : State = state_at m before in
     let by : is_by_actor m s actor acted.action ≡ true =
-    and_left (is_by_actor m s actor acted.action) (is_enabled m s s.now acted.action)
-    (find_passes (λ a. is_by_actor m s actor a && is_enabled m s s.now a) (candidates m.config) acted.action acted.first) in
-    let told : (let a : Option Action = Some acted.action in a) ≡ Some (Arrive p) = sym (action_of-event_of m s s.now acted.action) ∙ ap action_of (sym acted.is_event ∙ is) in
+    and_left (is_by_actor m s actor acted.action) (is_action_enabled m s s.now acted.action)
+    (find_passes (λ a. is_by_actor m s actor a && is_action_enabled m s s.now a) (candidates m.config) acted.action acted.first) in
+    let told : (let a : Option Action = Some acted.action in a) ≡ Some (Arrive p) = sym (action_of-event_of m s s.now acted.action) ∙ ap event_action (sym acted.is_event ∙ is) in
     let same : acted.action ≡ Arrive p = cc in
     arrives m s actor p.0 (subst (λ (a : Action). is_by_actor m s actor a ≡ true) same by) there

@@ -11,10 +11,10 @@ use Rattle.sched_model.specs.declared.event.Event.{Event}
 use Rattle.sched_model.specs.declared.machine.Machine.{Machine}
 use Rattle.sched_model.specs.declared.state.Pool.{Pool}
 use Rattle.sched_model.specs.declared.state.State.{State}
-use Rattle.sched_model.specs.Actions.{IsOfPool, home_of, home_of_core}
-use Rattle.sched_model.specs.Machine.{is_enabled, event_of}
+use Rattle.sched_model.specs.Actions.{IsOfPool, home_pool_of_action, home_pool_of_core}
+use Rattle.sched_model.specs.Machine.{is_action_enabled, event_of}
 use Rattle.sched_model.specs.Places.{at_place}
-use Rattle.sched_model.specs.Runs.{IsNext, action_of}
+use Rattle.sched_model.specs.Runs.{IsNext, event_action}
 use Rattle.sched_model.proofs.RunLemmas.{action_of-event_of}
 use Rattle.sched_laws.proofs.EachPlace.{found_at}
 use Rattle.journal_core.specs.Books.{Chronicle}
@@ -63,7 +63,7 @@ module _ (set : LockTable) (b : Chronicle) (s : Sitting) (has : HasBook set b s)
   stands-here i slot low knows trail told = subst (λ (x : Told). StandsAt x i slot) (sym told) (stands-held set b s has current i slot low knows)
 
   -- the core of a pool whose lock is held
-  core-here : (i r : ℕ) → i < 16 → Holds i v → home_of_core (state_of w) r ≡ Some i → HasCore r v
+  core-here : (i r : ℕ) → i < 16 → Holds i v → home_pool_of_core (state_of w) r ≡ Some i → HasCore r v
   core-here i r low held home =
       let f = found_at i (λ (pool : Pool). is_some (at_place pool.resources r)) (state_of w).pools home in
       let small : r < 64 = core-small w goes r (core-inside w goes i r home) in
@@ -75,7 +75,7 @@ module _ (set : LockTable) (b : Chronicle) (s : Sitting) (has : HasBook set b s)
       }
 
   -- the pool does an event that may come
-  module _ (action : Action) (own : IsOfPool action) (on : is_enabled b.input (state_of w) (state_of w).now action ≡ true) (i : ℕ) (home : home_of b.input.config.granularity (state_of w) action ≡ Some i) (low : i < 16) (held : Holds i v)
+  module _ (action : Action) (own : IsOfPool action) (on : is_action_enabled b.input (state_of w) (state_of w).now action ≡ true) (i : ℕ) (home : home_pool_of_action b.input.config.granularity (state_of w) action ≡ Some i) (low : i < 16) (held : Holds i v)
       (t : ℕ) (time : t ≡ v.now) (event : Event) (trail : Told) (told : trail ≡ w) (ev : event ≡ event_of trail.input (state_of trail) (state_of trail).now action) where
     abbrev e : Entry
     e = record { at = moment t; event = event }
@@ -108,11 +108,11 @@ module _ (set : LockTable) (b : Chronicle) (s : Sitting) (has : HasBook set b s)
     pub placed-here : Placed v h
     placed-here = placed_at b.input b.history h v (sym has.input) has.front current (λ n small. sym (homes-on n)) (now_of-is w ∙ sym step.now ∙ sym (now_of-is next))
 
-    pub decider-here : (r : ℕ) → action_of e.event ≡ Some (Decide (core_number r)) → HasCore r v
+    pub decider-here : (r : ℕ) → event_action e.event ≡ Some (Decide (core_number r)) → HasCore r v
     decider-here r decides =
-        let of : action_of e.event ≡ Some action = ap (λ (x : Entry). action_of x.event) is ∙ action_of-event_of b.input (state_of w) (state_of w).now action in
+        let of : event_action e.event ≡ Some action = ap (λ (x : Entry). event_action x.event) is ∙ action_of-event_of b.input (state_of w) (state_of w).now action in
         let core : action ≡ Decide (core_number r) = same-core action r (sym of ∙ decides) in
-        core-here i r low held (sym (ap (home_of b.input.config.granularity (state_of w)) core) ∙ home)
+        core-here i r low held (sym (ap (home_pool_of_action b.input.config.granularity (state_of w)) core) ∙ home)
 
     -- the seat after it
     module _ (u : Seen) (same : u.input ≡ v.input) (after : KnowsAfter h v u) where

@@ -13,8 +13,8 @@ use Rattle.sched_model.specs.declared.machine.Machine.{Machine}
 use Rattle.sched_model.specs.declared.state.State.{State}
 use Rattle.sched_model.specs.Actions.{candidates}
 use Rattle.sched_model.specs.CheckedMachine.{IsChecked}
-use Rattle.sched_model.specs.Machine.{event_of, first_enabled, is_enabled, next_in_horizon}
-use Rattle.sched_model.specs.Runs.{IsNext, IsRun, IsWholeRun, action_of}
+use Rattle.sched_model.specs.Machine.{event_of, first_enabled_action, is_action_enabled, next_in_horizon}
+use Rattle.sched_model.specs.Runs.{IsNext, IsRun, IsWholeRun, event_action}
 use Rattle.sched_model.proofs.RunLemmas.{find_passes, action_of-event_of}
 use Rattle.sched_base.proofs.Bools.{and_right}
 use Rattle.composition_laws.proofs.Entries.{rest_when_over}
@@ -42,16 +42,16 @@ use Rattle.hall.proofs.Parting.{run-held}
 use Rattle.std.proofs.lemmas.Bool.{cases_Bool}
 
 -- the first action of an actor may come
-pub actor-comes : (m : Machine) (s : State) (actor : Actor) (action : Action) → first_by m s actor ≡ Some action → is_enabled m s s.now action ≡ true
+pub actor-comes : (m : Machine) (s : State) (actor : Actor) (action : Action) → first_by m s actor ≡ Some action → is_action_enabled m s s.now action ≡ true
 actor-comes m s actor action found =
-    and_right (is_by_actor m s actor action) (is_enabled m s s.now action)
-    (find_passes (λ a. is_by_actor m s actor a && is_enabled m s s.now a) (candidates m.config) action found)
+    and_right (is_by_actor m s actor action) (is_action_enabled m s s.now action)
+    (find_passes (λ a. is_by_actor m s actor a && is_action_enabled m s s.now a) (candidates m.config) action found)
 
 -- where an action may come, the run is not over
-pub goes-where : (b : Chronicle) → IsChecked b.input → IsRun b.input b.history → (action : Action) → is_enabled b.input (state_in b) (state_in b).now action ≡ true → GoesOn (told_of b)
+pub goes-where : (b : Chronicle) → IsChecked b.input → IsRun b.input b.history → (action : Action) → is_action_enabled b.input (state_in b) (state_in b).now action ≡ true → GoesOn (told_of b)
 goes-where b checked run action on =
     let s : State = state_at b.input b.history in
-    let comes : is_enabled b.input s s.now action ≡ true = subst (λ (x : State). is_enabled b.input x x.now action ≡ true) (state_of-is (told_of b)) on in
+    let comes : is_action_enabled b.input s s.now action ≡ true = subst (λ (x : State). is_action_enabled b.input x x.now action ≡ true) (state_of-is (told_of b)) on in
     let goes : (reached_by b.input b.history).over ≡ false = elim (cases_Bool (reached_by b.input b.history).over) [
       | inl ended ↦ absurd (none_comes b.input checked b.history run s.now (rest_when_over b.input b.history run ended).now action comes)
       | inr goes ↦ goes
@@ -59,7 +59,7 @@ goes-where b checked run action on =
     record { checked = checked; run = run; goes = goes }
 
 -- the history with the event of an action that may come is a run's beginning
-pub run-with : (b : Chronicle) → IsChecked b.input → IsRun b.input b.history → (action : Action) → is_enabled b.input (state_in b) (state_in b).now action ≡ true → (e : Event) → e ≡ event_of b.input (state_in b) (state_in b).now action
+pub run-with : (b : Chronicle) → IsChecked b.input → IsRun b.input b.history → (action : Action) → is_action_enabled b.input (state_in b) (state_in b).now action ≡ true → (e : Event) → e ≡ event_of b.input (state_in b) (state_in b).now action
     → IsRun b.input (b.history ++ record { at = moment (state_in b).now; event = e } ∷ [])
 run-with b checked run action on e is =
     let entry : Entry = record { at = moment (state_in b).now; event = e } in
@@ -67,11 +67,11 @@ run-with b checked run action on e is =
 
 -- the event of an action that may come was added to the book
 pub adds-event : (b : Chronicle) (s new : Sitting) (action : Action) (t : Moment) (place : ℕ) (e : Event) (decides : ℕ) (m : Machine) → b.input ≡ m → t.0 ≡ (state_in b).now → place ≡ length b.history → e ≡ event_of b.input (state_in b) (state_in b).now action
-    → HasEntered b (record { at = t; event = e }) s new → ((x : Event) → action_of x ≡ Some action → IsCountBefore m.config.granularity b.history x decides) → AddsEvent place e decides b s new
+    → HasEntered b (record { at = t; event = e }) s new → ((x : Event) → event_action x ≡ Some action → IsCountBefore m.config.granularity b.history x decides) → AddsEvent place e decides b s new
 adds-event b s new action t place e decides m input now place_is is entered count = record {
   place_is = place_is;
   entered = subst (λ (a : Moment). HasEntered b (record { at = a; event = e }) s new) (ap moment now) entered;
-  counted = subst (λ (x : Machine). IsCountBefore x.config.granularity b.history e decides) (sym input) (count e (ap action_of is ∙ action_of-event_of b.input (state_in b) (state_in b).now action));
+  counted = subst (λ (x : Machine). IsCountBefore x.config.granularity b.history e decides) (sym input) (count e (ap event_action is ∙ action_of-event_of b.input (state_in b) (state_in b).now action));
 }
 
 -- the book went back as it was, since it had no room
@@ -186,7 +186,7 @@ module _ (b : Chronicle) (s0 s1 s2 s3 s4 : Sitting) (took : KeepsSight s0 s1) (s
       let on = first-comes b.input (state_in b) settled.action settled.first in
       let stepped : HasStepped place e b.history s0.view s4.view = record {
         action = settled.action;
-        first = at-seat (λ m s. first_enabled m s s.now ≡ Some settled.action) settled.first;
+        first = at-seat (λ m s. first_enabled_action m s s.now ≡ Some settled.action) settled.first;
         is_event = at-seat (λ m s. e ≡ event_of m s s.now settled.action) settled.is_event;
         added = added-in place e settled.adds.place_is settled.adds.entered (run-with b checked run settled.action on e settled.is_event);
       } in
@@ -194,14 +194,14 @@ module _ (b : Chronicle) (s0 s1 s2 s3 s4 : Sitting) (took : KeepsSight s0 s1) (s
 
   close-in : (place : ℕ) (next : Moment) → TurnsClose place next b s2 s3 → HasClosed place next b.history s0.view s4.view
   close-in place next settled = record {
-    quiet = at-seat (λ m s. first_enabled m s s.now ≡ None) settled.quiet;
+    quiet = at-seat (λ m s. first_enabled_action m s s.now ≡ None) settled.quiet;
     next_is = at-seat (λ m s. next_in_horizon m s ≡ Some next.0) settled.next_is;
     added = added-in place (event.End next) settled.place_is settled.entered settled.grown;
   }
 
   finish-in : (place : ℕ) → TurnsFinish place b s2 s3 → HasFinished place b.history s0.view s4.view
   finish-in place settled = record {
-    quiet = at-seat (λ m s. first_enabled m s s.now ≡ None) settled.quiet;
+    quiet = at-seat (λ m s. first_enabled_action m s s.now ≡ None) settled.quiet;
     last = at-seat (λ m s. next_in_horizon m s ≡ None) settled.last;
     added = added-in place event.Finish settled.place_is settled.entered settled.grown;
   }

@@ -14,19 +14,19 @@ use Rattle.sched_model.specs.declared.event.Entry.{Entry}
 use Rattle.sched_model.specs.declared.machine.Machine.{Machine}
 use Rattle.sched_model.specs.declared.state.FreeCore.{FreeCore}
 use Rattle.sched_model.specs.declared.state.State.{State}
-use Rattle.sched_model.specs.Actions.{home_of_core, home_of_domain}
-use Rattle.sched_model.specs.Machine.{after, event_of, is_enabled}
-use Rattle.sched_model.specs.Opening.{core_count}
+use Rattle.sched_model.specs.Actions.{home_pool_of_core, home_pool_of_domain}
+use Rattle.sched_model.specs.Machine.{after, event_of, is_action_enabled}
+use Rattle.sched_model.specs.Opening.{machine_core_count}
 use Rattle.sched_model.specs.Places.{at_place, first_place}
 use Rattle.sched_laws.proofs.EachPlace.{found_at, is_empty, place_below}
 use Rattle.sched_laws.proofs.Lists.{some_is}
 use Rattle.journal_core.specs.Histories.{NamesStandOnce, home_at, now_at, state_at}
-use Rattle.journal_core.specs.Parts.{UnderWay, core_to, domain_to, is_name, lists, no_home, part_of, pool_lists, tool_lock, under_way_of}
+use Rattle.journal_core.specs.Parts.{UnderWay, core_to, domain_to, is_name, lists, no_home, part_of, pool_lists, tool_lock, state_under_way}
 use Rattle.composition_laws.proofs.NamesLaw.{names_stand_once}
 use Rattle.composition_laws.specs.ListedNames.{HandsOver, ListsAsBefore, ListsNames}
 use Rattle.sched_laws.specs.StateLaws.{MovesNothing}
 use Rattle.composition_laws.proofs.Moving.{lists_names}
-use Rattle.cpupool.specs.Steps.{kind_at, move_of}
+use Rattle.cpupool.specs.Steps.{outlined_kind, move_of}
 use Rattle.cpupool.specs.Tool.{Tool, tool_of}
 use Rattle.cpupool.specs.declared.moves.Move.TheVariants as move
 use Rattle.cpupool.proofs.ArrivedLemmas.{core_joins}
@@ -115,41 +115,41 @@ module _ (w : Told) (goes : GoesOn w) where
   hands-none action nothing = (laws-of s.now).stays action nothing
 
   module _ (tool : Tool) (known : tool_of m s ≡ tool) where
-    under : (way : UnderWay) → tool.part.under_way ≡ Some way → under_way_of s ≡ Some way
+    under : (way : UnderWay) → tool.part.under_way ≡ Some way → state_under_way s ≡ Some way
     under way is = ap (λ (x : Tool). x.part.under_way) known ∙ is
 
     -- what is on its way, where a core may move
-    pub core-told : (r : ℕ) → is_enabled m s s.now (Moved (core_number r)) ≡ true → (to : Option ℕ) × (tool.part.under_way ≡ Some (core_to r to))
+    pub core-told : (r : ℕ) → is_action_enabled m s s.now (Moved (core_number r)) ≡ true → (to : Option ℕ) × (tool.part.under_way ≡ Some (core_to r to))
     core-told r on = way-there w tool s.now r (record { goes = goes; now = refl; known = known; enabled = on })
 
     -- and where a domain may
-    pub domain-moves : (d : ℕ) → is_enabled m s s.now (DomMoved (domain_number d)) ≡ true → (j : ℕ) × (option_map (move_of tool.part) tool.part.under_way ≡ Some (move.Dom (domain_number d) (pool_number j) (kind_at tool.part j)))
+    pub domain-moves : (d : ℕ) → is_action_enabled m s s.now (DomMoved (domain_number d)) ≡ true → (j : ℕ) × (option_map (move_of tool.part) tool.part.under_way ≡ Some (move.Dom (domain_number d) (pool_number j) (outlined_kind tool.part j)))
     domain-moves d on = domain-told w tool s.now d (record { goes = goes; now = refl; known = known; enabled = on })
 
     -- the core that moves, from its pool or from none
-    pub core-handed : (r : ℕ) → is_enabled m s s.now (Moved (core_number r)) ≡ true → (home to : Option PoolId) → home ≡ option_map pool_number (home_of_core s r) → tool.part.under_way ≡ Some (core_to r (option_map (λ (i : PoolId). i.0) to))
+    pub core-handed : (r : ℕ) → is_action_enabled m s s.now (Moved (core_number r)) ≡ true → (home to : Option PoolId) → home ≡ option_map pool_number (home_pool_of_core s r) → tool.part.under_way ≡ Some (core_to r (option_map (λ (i : PoolId). i.0) to))
         → (a b : LockId) → a.0 ≡ lock_or_tool home → b.0 ≡ lock_or_tool to → HandsNameOver w (Moved (core_number r)) (record { name = Res (core_number r); from = a; to = b })
     core-handed r on home (Some i) told way a b from is_to =
         let c = core_joins s r i.0 (under (core_to r (Some i.0)) way) in
         let none : home ≡ None = told ∙ ap (option_map pool_number) ((own-of w goes).free r c.0 c.1) in
-        let low : r < core_count m.config = (let below = place_below s.free r c.0 c.1 in let places = (range-of w goes).free_places in omega (arith, below, places)) in
+        let low : r < machine_core_count m.config = (let below = place_below s.free r c.0 c.1 in let places = (range-of w goes).free_places in omega (arith, below, places)) in
         let target : i.0 < 16 = pool-low i.0 ((known-of w goes).housed.aims r i.0 (ap (option_map (λ (x : FreeCore). x.target)) c.1 ∙ ap (λ (o : Option ℕ). Some o) c.2)) in
         hands-core (Moved (core_number r)) r tool_lock i.0 a b (core-small w goes r low) (omega arith) (omega (arith, target)) (from ∙ ap lock_or_tool none) is_to ((laws-of s.now).joins r c.0 i.0 c.1 c.2)
     core-handed r on home None told way a b from is_to = by_home home told from
       where
-        by_home : (o : Option PoolId) → o ≡ option_map pool_number (home_of_core s r) → a.0 ≡ lock_or_tool o → HandsNameOver w (Moved (core_number r)) (record { name = Res (core_number r); from = a; to = b })
+        by_home : (o : Option PoolId) → o ≡ option_map pool_number (home_pool_of_core s r) → a.0 ≡ lock_or_tool o → HandsNameOver w (Moved (core_number r)) (record { name = Res (core_number r); from = a; to = b })
         by_home None is from_is = absurd (leaves-some w goes tool known r on way None is refl)
         by_home (Some i) is from_is =
-            let at_home : home_of_core s r ≡ Some i.0 = number-of (home_of_core s r) i (sym is) in
+            let at_home : home_pool_of_core s r ≡ Some i.0 = number-of (home_pool_of_core s r) i (sym is) in
             let there = found_at i.0 _ s.pools at_home in
             let core = some_is (at_place there.0.resources r) there.2 in
             let not_free : at_place s.free r ≡ None = is_empty (at_place s.free r) (λ c at. absurd (let none = (own-of w goes).free r c at in cc)) in
-            let low : r < core_count m.config = core-inside w goes i.0 r at_home in
+            let low : r < machine_core_count m.config = core-inside w goes i.0 r at_home in
             let pool : i.0 < 16 = (let below = place_below s.pools i.0 there.0 there.1 in let places = (range-of w goes).pool_places in omega (arith, below, places)) in
             hands-core (Moved (core_number r)) r i.0 tool_lock a b (core-small w goes r low) (omega (arith, pool)) (omega arith) from_is is_to ((laws-of s.now).leaves r i.0 there.0 core.0 not_free at_home there.1 core.1)
 
     -- the domain that moves
-    pub domain-handed : (d : ℕ) → is_enabled m s s.now (DomMoved (domain_number d)) ≡ true → (home : Option PoolId) → home ≡ option_map pool_number (home_of_domain s d) → (n : DomId) (to : PoolId) (kind : SchedKind) → option_map (move_of tool.part) tool.part.under_way ≡ Some (move.Dom n to kind)
+    pub domain-handed : (d : ℕ) → is_action_enabled m s s.now (DomMoved (domain_number d)) ≡ true → (home : Option PoolId) → home ≡ option_map pool_number (home_pool_of_domain s d) → (n : DomId) (to : PoolId) (kind : SchedKind) → option_map (move_of tool.part) tool.part.under_way ≡ Some (move.Dom n to kind)
         → (a b : LockId) → a.0 ≡ lock_or_tool home → b.0 ≡ to.0 → HandsNameOver w (DomMoved (domain_number d)) (record { name = Dom (domain_number d); from = a; to = b })
     domain-handed d on home told n to kind moving a b from is_to =
         let found = finds-some w goes d on in
@@ -157,7 +157,7 @@ module _ (w : Told) (goes : GoesOn w) where
         let j : ℕ = found.1 in
         let f = found.2 in
         let way : tool.part.under_way ≡ Some (domain_to d j) = ap (λ (x : Tool). x.part.under_way) (sym known) ∙ f.way in
-        let is : Some (move.Dom (domain_number d) (pool_number j) (kind_at tool.part j)) ≡ Some (move.Dom n to kind) = ap (option_map (move_of tool.part)) (sym way) ∙ moving in
+        let is : Some (move.Dom (domain_number d) (pool_number j) (outlined_kind tool.part j)) ≡ Some (move.Dom n to kind) = ap (option_map (move_of tool.part)) (sym way) ∙ moving in
         let target : pool_number j ≡ to = cc in
         let at_home : home ≡ Some (pool_number i) = told ∙ ap (option_map pool_number) f.home in
         let low : d < 64 = (let below = place_below f.pool.domains d f.domain f.domain_at in let places = ((range-of w goes).pools i f.pool f.pool_at).domain_places in let few = goes.checked.config.few_domains in omega (arith, below, places, few)) in
@@ -167,7 +167,7 @@ module _ (w : Told) (goes : GoesOn w) where
         ((laws-of s.now).domain d i f.pool f.domain (pool_number j) f.home f.pool_at f.domain_at f.moving)
 
 -- the names of a seat that holds all locks, and whose names are those of the state, after the entry of an action
-module _ (w : Told) (goes : GoesOn w) (action : Action) (on : is_enabled w.input (state_of w) (state_of w).now action ≡ true) (e : Entry) (is : e ≡ record { at = moment (state_of w).now; event = event_of w.input (state_of w) (state_of w).now action }) (next_goes : GoesOn (told_more w e))
+module _ (w : Told) (goes : GoesOn w) (action : Action) (on : is_action_enabled w.input (state_of w) (state_of w).now action ≡ true) (e : Entry) (is : e ≡ record { at = moment (state_of w).now; event = event_of w.input (state_of w) (state_of w).now action }) (next_goes : GoesOn (told_more w e))
     (v : Seen) (input : w.input ≡ v.input) (front : v.front ≡ w.history) (current : Current v) (all : HoldsBelow 18 v) where
   abbrev after_it : State
   after_it = after w.input (state_of w) (state_of w).now action

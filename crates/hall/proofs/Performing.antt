@@ -12,8 +12,8 @@ use Rattle.sched_model.specs.declared.event.Entry.{Entry}
 use Rattle.sched_model.specs.declared.event.Event.{Event}
 use Rattle.sched_model.specs.declared.machine.Machine.{Machine}
 use Rattle.sched_model.specs.declared.state.State.{State}
-use Rattle.sched_model.specs.Actions.{IsOfPool, home_of}
-use Rattle.sched_model.specs.Machine.{event_of, is_enabled}
+use Rattle.sched_model.specs.Actions.{IsOfPool, home_pool_of_action}
+use Rattle.sched_model.specs.Machine.{event_of, is_action_enabled}
 use Rattle.sched_model.specs.Places.{at_place}
 use Rattle.sched_model.specs.Runs.{IsNext}
 use Rattle.journal_core.specs.Books.{Chronicle}
@@ -26,7 +26,7 @@ use Rattle.machine_parts.specs.Told.{Told, told_of}
 use Rattle.machine_parts.proofs.Going.{comes-next, entry-is, goes-on}
 use Rattle.machine_parts.proofs.AtPlaces.{number-of, no-number}
 use Rattle.tool_acts.specs.Acts.{told_event}
-use Rattle.machine_parts.specs.Parts.{AreParts, pool_of_event}
+use Rattle.machine_parts.specs.Parts.{AreParts, event_pool}
 use Rattle.machine_parts.proofs.Performing.{own-event}
 use Rattle.lock_moves.specs.Plays.{Current, Kept, Placed}
 use Rattle.lock_moves.specs.Sets.{LockTable, sitting_with}
@@ -59,11 +59,11 @@ handed-book set b s (Some moved) has held = record {
 }
 
 -- the event is of the pool that the tool tells, or of none
-pub of-pool : (m : Machine) (s : State) (action : Action) (g : ℕ) → g ≡ m.config.granularity → (o : Option PoolId) → o ≡ option_map pool_number (pool_of_event g s action) → (i : PoolId) → o ≡ Some i → IsOfPool action × (home_of m.config.granularity s action ≡ Some i.0)
-of-pool m s action g is o told i found = own-event m.config.granularity s action i.0 (ap (λ (n : ℕ). pool_of_event n s action) (sym is) ∙ number-of (pool_of_event g s action) i (sym told ∙ found))
+pub of-pool : (m : Machine) (s : State) (action : Action) (g : ℕ) → g ≡ m.config.granularity → (o : Option PoolId) → o ≡ option_map pool_number (event_pool g s action) → (i : PoolId) → o ≡ Some i → IsOfPool action × (home_pool_of_action m.config.granularity s action ≡ Some i.0)
+of-pool m s action g is o told i found = own-event m.config.granularity s action i.0 (ap (λ (n : ℕ). event_pool n s action) (sym is) ∙ number-of (event_pool g s action) i (sym told ∙ found))
 
-pub of-none : (m : Machine) (s : State) (action : Action) (g : ℕ) → g ≡ m.config.granularity → (o : Option PoolId) → o ≡ option_map pool_number (pool_of_event g s action) → o ≡ None → pool_of_event m.config.granularity s action ≡ None
-of-none m s action g is o told found = ap (λ (n : ℕ). pool_of_event n s action) (sym is) ∙ no-number (pool_of_event g s action) (sym told ∙ found)
+pub of-none : (m : Machine) (s : State) (action : Action) (g : ℕ) → g ≡ m.config.granularity → (o : Option PoolId) → o ≡ option_map pool_number (event_pool g s action) → o ≡ None → event_pool m.config.granularity s action ≡ None
+of-none m s action g is o told found = ap (λ (n : ℕ). event_pool n s action) (sym is) ∙ no-number (event_pool g s action) (sym told ∙ found)
 
 module _ (set : LockTable) (b : Chronicle) (s : Sitting) (has : HasBook set b s) (current : Current s.view) (goes : GoesOn (told_of b)) (all : AllParts) (knows : KnowsAll all s.view) where
   abbrev w : Told
@@ -72,7 +72,7 @@ module _ (set : LockTable) (b : Chronicle) (s : Sitting) (has : HasBook set b s)
   held : HoldsBelow 18 s.view
   held = holds-all all s.view knows has.holds
 
-  module _ (action : Action) (on : is_enabled b.input (state_of w) (state_of w).now action ≡ true) (t : ℕ) (now : t ≡ s.view.now) (event : Event) (ev : event ≡ event_of b.input (state_of w) (state_of w).now action) where
+  module _ (action : Action) (on : is_action_enabled b.input (state_of w) (state_of w).now action ≡ true) (t : ℕ) (now : t ≡ s.view.now) (event : Event) (ev : event ≡ event_of b.input (state_of w) (state_of w).now action) where
     abbrev pub done : Entry
     done = record { at = moment t; event = event }
 

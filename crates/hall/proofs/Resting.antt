@@ -4,8 +4,8 @@ use Rattle.std.specs.Prelude.{Option, Some, None}
 use Rattle.sched_base.specs.declared.Moment.{Moment}
 use Rattle.sched_model.specs.declared.event.Entry.{Entry}
 use Rattle.sched_model.specs.declared.event.Event.TheVariants as event
-use Rattle.sched_model.specs.Machine.{first_enabled, next_in_horizon}
-use Rattle.sched_model.specs.Runs.{IsNext, Reached, action_of}
+use Rattle.sched_model.specs.Machine.{first_enabled_action, next_in_horizon}
+use Rattle.sched_model.specs.Runs.{IsNext, Reached, event_action}
 use Rattle.journal_core.specs.Books.{Chronicle}
 use Rattle.journal_core.specs.Histories.{home_at, now_at, part_at, reached_by}
 use Rattle.journal_core.proofs.Grows.{now_at-append}
@@ -22,14 +22,14 @@ use Rattle.hall.proofs.Parting.{now-held}
 
 module _ (set : LockTable) (b : Chronicle) (s : Sitting) (has : HasBook set b s) (current : Current s.view) (t : Moment) (now : t.0 ≡ s.view.now) where
   -- the end of the moment may come next, and so may that of the run
-  module _ (goes : GoesOn (told_of b)) (nothing : first_enabled b.input (state_of (told_of b)) (state_of (told_of b)).now ≡ None) where
+  module _ (goes : GoesOn (told_of b)) (nothing : first_enabled_action b.input (state_of (told_of b)) (state_of (told_of b)).now ≡ None) where
     pub end-next : (next : Moment) → next_in_horizon b.input (state_of (told_of b)) ≡ Some next.0 → IsNext b.input (reached_by b.input b.history) (record { at = t; event = event.End next })
     end-next next comes = subst (λ (r : Reached). IsNext b.input r (record { at = t; event = event.End next })) (sym (leads-to (told_of b) goes)) (record { goes_on = refl; moment = now ∙ now-held set b s has current; event = (nothing, comes) })
 
     pub finish-next : next_in_horizon b.input (state_of (told_of b)) ≡ None → IsNext b.input (reached_by b.input b.history) (record { at = t; event = event.Finish })
     finish-next last = subst (λ (r : Reached). IsNext b.input r (record { at = t; event = event.Finish })) (sym (leads-to (told_of b) goes)) (record { goes_on = refl; moment = now ∙ now-held set b s has current; event = (nothing, last) })
 
-  module _ (e : Entry) (quiet : action_of e.event ≡ None) where
+  module _ (e : Entry) (quiet : event_action e.event ≡ None) where
     abbrev v : Seen
     v = s.view
 

@@ -9,7 +9,7 @@ use Rattle.sched_model.specs.declared.event.Entry.{Entry}
 use Rattle.sched_model.specs.declared.event.Event.{Event}
 use Rattle.sched_model.specs.declared.event.Event.TheVariants as event
 use Rattle.sched_model.specs.declared.machine.Machine.{Machine}
-use Rattle.sched_model.specs.Machine.{event_of, first_enabled, next_in_horizon}
+use Rattle.sched_model.specs.Machine.{event_of, first_enabled_action, next_in_horizon}
 use Rattle.sched_model.specs.Places.{at_place}
 use Rattle.sched_model.specs.Runs.{IsNext, IsRun, Reached, run_start}
 use Rattle.sched_model.proofs.RunLemmas.{IsRunFrom-append}
@@ -55,9 +55,9 @@ over-last m (first ∷ rest) over = last-of first rest
 
 -- where the run goes on, some entry may come next
 pub some-next : (w : Told) → GoesOn w → (e : Entry) × IsNext w.input (reached_by w.input w.history) e
-some-next w goes = by_first (first_enabled w.input (state_of w) (state_of w).now) refl
+some-next w goes = by_first (first_enabled_action w.input (state_of w) (state_of w).now) refl
   where
-    by_next : (o : Option ℕ) → next_in_horizon w.input (state_of w) ≡ o → first_enabled w.input (state_of w) (state_of w).now ≡ None → (e : Entry) × IsNext w.input (reached_by w.input w.history) e
+    by_next : (o : Option ℕ) → next_in_horizon w.input (state_of w) ≡ o → first_enabled_action w.input (state_of w) (state_of w).now ≡ None → (e : Entry) × IsNext w.input (reached_by w.input w.history) e
     by_next None last quiet =
         let e : Entry = record { at = moment (state_of w).now; event = event.Finish } in
         (e, subst (λ (r : Reached). IsNext w.input r e) (sym (leads-to w goes)) (record { goes_on = refl; moment = refl; event = (quiet, last) }))
@@ -65,7 +65,7 @@ some-next w goes = by_first (first_enabled w.input (state_of w) (state_of w).now
         let e : Entry = record { at = moment (state_of w).now; event = event.End (moment n) } in
         (e, subst (λ (r : Reached). IsNext w.input r e) (sym (leads-to w goes)) (record { goes_on = refl; moment = refl; event = (quiet, comes) }))
 
-    by_first : (o : Option Action) → first_enabled w.input (state_of w) (state_of w).now ≡ o → (e : Entry) × IsNext w.input (reached_by w.input w.history) e
+    by_first : (o : Option Action) → first_enabled_action w.input (state_of w) (state_of w).now ≡ o → (e : Entry) × IsNext w.input (reached_by w.input w.history) e
     by_first None quiet = by_next (next_in_horizon w.input (state_of w)) refl quiet
     by_first (Some action) first =
         let e : Entry = record { at = moment (state_of w).now; event = event_of w.input (state_of w) (state_of w).now action } in
@@ -118,7 +118,7 @@ module _ (set : LockTable) (b : Chronicle) (s : Sitting) (has : HasBook set b s)
     entered-at : (e : Event) (new : Sitting) → HasEntered b (record { at = t; event = e }) s new → HasEntered b (record { at = moment (state_in b).now; event = e }) s new
     entered-at e new entered = subst (λ (a : Moment). HasEntered b (record { at = a; event = e }) s new) at-now entered
 
-    module _ (goes : GoesOn (told_of b)) (quiet : first_enabled b.input (state_in b) (state_in b).now ≡ None) where
+    module _ (goes : GoesOn (told_of b)) (quiet : first_enabled_action b.input (state_in b) (state_in b).now ≡ None) where
       grown-with : (e : Event) → IsNext b.input (reached_by b.input b.history) (record { at = t; event = e }) → IsRun b.input (b.history ++ record { at = moment (state_in b).now; event = e } ∷ [])
       grown-with e next = subst (λ (a : Moment). IsRun b.input (b.history ++ record { at = a; event = e } ∷ [])) at-now (IsRunFrom-append b.input (run_start b.input) b.history (record { at = t; event = e }) (run-held set b s has current) next)
 

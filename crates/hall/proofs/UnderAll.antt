@@ -12,16 +12,16 @@ use Rattle.sched_model.specs.declared.event.Event.TheVariants as event
 use Rattle.sched_model.specs.declared.machine.Machine.{Machine}
 use Rattle.sched_model.specs.declared.state.State.{State}
 use Rattle.sched_model.specs.CheckedMachine.{IsChecked}
-use Rattle.sched_model.specs.Machine.{is_enabled}
+use Rattle.sched_model.specs.Machine.{is_action_enabled}
 use Rattle.sched_model.specs.Runs.{IsRun}
 use Rattle.run_laws.specs.RunLaws.{IsOver}
 use Rattle.composition_laws.proofs.Entries.{over_at_finish}
 use Rattle.composition_laws.specs.Actors.{first_by}
-use Rattle.composition_laws.specs.WholeFirst.{move_first, tool_first}
+use Rattle.composition_laws.specs.WholeFirst.{first_tool_move, first_tool_action}
 use Rattle.composition_laws.proofs.Actors.{tool_is_first}
 use Rattle.journal_core.specs.Books.{Chronicle}
 use Rattle.journal_core.specs.Histories.{now_at, reached_by}
-use Rattle.journal_core.specs.Parts.{UnderWay, core_to, domain_to, under_way_of}
+use Rattle.journal_core.specs.Parts.{UnderWay, core_to, domain_to, state_under_way}
 use Rattle.machine_parts.specs.Places.{state_of}
 use Rattle.machine_parts.specs.Told.{Told, told_of}
 use Rattle.machine_parts.proofs.Going.{now_of-is, state_of-is}
@@ -63,30 +63,30 @@ stall-or : (b : Bool) (rest : Option Action) → (if b then Some Stall else rest
 stall-or true rest is = absurd (cc)
 stall-or false rest is = refl
 
-pub command-first : (m : Machine) (s : State) (t : ℕ) → tool_first m s t ≡ Some Xl → is_enabled m s t Stall ≡ false
-command-first m s t is = stall-or (is_enabled m s t Stall) (if is_enabled m s t Xl then Some Xl else move_first m s t (under_way_of s)) is
+pub command-first : (m : Machine) (s : State) (t : ℕ) → first_tool_action m s t ≡ Some Xl → is_action_enabled m s t Stall ≡ false
+command-first m s t is = stall-or (is_action_enabled m s t Stall) (if is_action_enabled m s t Xl then Some Xl else first_tool_move m s t (state_under_way s)) is
 
 if-no-arrive : (b : Bool) (a : Action) (p : ℕ) (rest : Option Action) → (a ≡ Arrive (processor p) → ⊥) → (rest ≡ Some (Arrive (processor p)) → ⊥) → (if b then Some a else rest) ≡ Some (Arrive (processor p)) → ⊥
 if-no-arrive true a p rest other none is = other (cc)
 if-no-arrive false a p rest other none is = none is
 
-move-no-arrive : (m : Machine) (s : State) (t p : ℕ) (way : Option UnderWay) → move_first m s t way ≡ Some (Arrive (processor p)) → ⊥
+move-no-arrive : (m : Machine) (s : State) (t p : ℕ) (way : Option UnderWay) → first_tool_move m s t way ≡ Some (Arrive (processor p)) → ⊥
 move-no-arrive m s t p None is = cc
-move-no-arrive m s t p (Some (core_to r to)) is = if-no-arrive (is_enabled m s t (Moved (core r))) (Moved (core r)) p None (λ e. cc) (λ e. cc) is
-move-no-arrive m s t p (Some (domain_to d i)) is = if-no-arrive (is_enabled m s t (DomMoved (domain d))) (DomMoved (domain d)) p None (λ e. cc) (λ e. cc) is
+move-no-arrive m s t p (Some (core_to r to)) is = if-no-arrive (is_action_enabled m s t (Moved (core r))) (Moved (core r)) p None (λ e. cc) (λ e. cc) is
+move-no-arrive m s t p (Some (domain_to d i)) is = if-no-arrive (is_action_enabled m s t (DomMoved (domain d))) (DomMoved (domain d)) p None (λ e. cc) (λ e. cc) is
 
-pub no-arrive : (m : Machine) (s : State) (t p : ℕ) → tool_first m s t ≡ Some (Arrive (processor p)) → ⊥
+pub no-arrive : (m : Machine) (s : State) (t p : ℕ) → first_tool_action m s t ≡ Some (Arrive (processor p)) → ⊥
 no-arrive m s t p is =
-    if-no-arrive (is_enabled m s t Stall) Stall p (if is_enabled m s t Xl then Some Xl else move_first m s t (under_way_of s)) (λ e. cc)
-    (λ r. if-no-arrive (is_enabled m s t Xl) Xl p (move_first m s t (under_way_of s)) (λ e. cc) (move-no-arrive m s t p (under_way_of s)) r) is
+    if-no-arrive (is_action_enabled m s t Stall) Stall p (if is_action_enabled m s t Xl then Some Xl else first_tool_move m s t (state_under_way s)) (λ e. cc)
+    (λ r. if-no-arrive (is_action_enabled m s t Xl) Xl p (first_tool_move m s t (state_under_way s)) (λ e. cc) (move-no-arrive m s t p (state_under_way s)) r) is
 
 pub none-else : (o : Option Action) → ((a : Action) → o ≡ Some a → ⊥) → o ≡ None
 none-else None other = refl
 none-else (Some a) other = absurd (other a refl)
 
 -- the tool's first action that was found is that of the book's state
-pub tool-found : (b : Chronicle) (found : Option Action) (w : Told) (t : ℕ) → w ≡ told_of b → t ≡ now_at b.input b.history → found ≡ tool_first w.input (state_of w) t → tool_first b.input (state_in b) (state_in b).now ≡ found
-tool-found b found w t told now is = sym (is ∙ (λ i. tool_first (told i).input (state_of (told i)) ((now ∙ now_of-is (told_of b)) i)))
+pub tool-found : (b : Chronicle) (found : Option Action) (w : Told) (t : ℕ) → w ≡ told_of b → t ≡ now_at b.input b.history → found ≡ first_tool_action w.input (state_of w) t → first_tool_action b.input (state_in b) (state_in b).now ≡ found
+tool-found b found w t told now is = sym (is ∙ (λ i. first_tool_action (told i).input (state_of (told i)) ((now ∙ now_of-is (told_of b)) i)))
 
 -- with the book in hand
 module _ (set : LockTable) (b : Chronicle) (s : Sitting) (has : HasBook set b s) (current : Current s.view) where
@@ -101,8 +101,8 @@ module _ (set : LockTable) (b : Chronicle) (s : Sitting) (has : HasBook set b s)
     pub over-none : (reached_by b.input b.history).over ≡ true → (actor : Actor) → first_by b.input (state_in b) actor ≡ None
     over-none ended actor = none-else (first_by b.input (state_in b) actor) (λ a found. true≢false (sym ended ∙ (goes-where b checked run a (actor-comes b.input (state_in b) actor a found)).goes))
 
-    pub first-is : first_by b.input (state_in b) Tool ≡ tool_first b.input (state_in b) (state_in b).now
-    first-is = subst (λ (x : State). first_by b.input x Tool ≡ tool_first b.input x x.now) (sym (state_of-is (told_of b))) (tool_is_first b.input checked b.history run)
+    pub first-is : first_by b.input (state_in b) Tool ≡ first_tool_action b.input (state_in b) (state_in b).now
+    first-is = subst (λ (x : State). first_by b.input x Tool ≡ first_tool_action b.input x x.now) (sym (state_of-is (told_of b))) (tool_is_first b.input checked b.history run)
 
 -- what was settled with the book leaves the seat's hall and its parts
 done-stays : (actor : Actor) (b : Chronicle) (s new : Sitting) (d : Done) (decides : ℕ) → Settles actor d decides b s new → SeatStays s new

@@ -14,11 +14,11 @@ use Rattle.sched_model.specs.declared.machine.Machine.{Machine}
 use Rattle.sched_model.specs.declared.state.FreeCore.{FreeCore}
 use Rattle.sched_model.specs.declared.state.Pool.{Pool}
 use Rattle.sched_model.specs.declared.state.State.{State}
-use Rattle.sched_model.specs.Actions.{home_of}
+use Rattle.sched_model.specs.Actions.{home_pool_of_action}
 use Rattle.sched_model.specs.CheckedMachine.{IsChecked}
-use Rattle.sched_model.specs.Machine.{event_of, is_enabled}
+use Rattle.sched_model.specs.Machine.{event_of, is_action_enabled}
 use Rattle.sched_model.specs.Places.{at_place}
-use Rattle.sched_model.specs.Runs.{IsRun, action_of}
+use Rattle.sched_model.specs.Runs.{IsRun, event_action}
 use Rattle.sched_base.proofs.Bools.{and_left, and_right}
 use Rattle.sched_laws.proofs.Lists.{some_is}
 use Rattle.journal_core.specs.Books.{Chronicle}
@@ -111,11 +111,11 @@ module _ (set : LockTable) (b : Chronicle) (s : Sitting) (has : HasBook set b s)
     at-home : ComesAtHome m there there.now i action
     at-home = (pool_is_home m checked b.history run i there.now action).0 (record { pool = seen.pool; at = at; enabled = comes-first.enabled })
 
-    pub enabled-held : is_enabled m (state_of (told_of b)) (state_of (told_of b)).now action ≡ true
-    enabled-held = subst (λ (x : State). is_enabled m x x.now action ≡ true) (sym same) at-home.enabled
+    pub enabled-held : is_action_enabled m (state_of (told_of b)) (state_of (told_of b)).now action ≡ true
+    enabled-held = subst (λ (x : State). is_action_enabled m x x.now action ≡ true) (sym same) at-home.enabled
 
-    pub home-held : home_of m.config.granularity (state_of (told_of b)) action ≡ Some i
-    home-held = subst (λ (x : State). home_of m.config.granularity x action ≡ Some i) (sym same) at-home.home
+    pub home-held : home_pool_of_action m.config.granularity (state_of (told_of b)) action ≡ Some i
+    home-held = subst (λ (x : State). home_pool_of_action m.config.granularity x action ≡ Some i) (sym same) at-home.home
 
     pub goes-held : GoesOn (told_of b)
     goes-held = goes-where b checked run action enabled-held
@@ -128,7 +128,7 @@ module _ (set : LockTable) (b : Chronicle) (s : Sitting) (has : HasBook set b s)
     full-held full new finds = settles-full b s new actor action (first-held ∙ is) full finds
 
     pub event-held : (place : ℕ) (e : Event) (decides : ℕ) (new : Sitting) → place ≡ length b.history → e ≡ event_of m (state_of (told_of b)) (state_of (told_of b)).now action
-        → HasEntered b (record { at = moment t; event = e }) s new → ((x : Event) → action_of x ≡ Some action → IsCountBefore set.opened.input.config.granularity b.history x decides) → SettlesEvent actor place e decides b s new
+        → HasEntered b (record { at = moment t; event = e }) s new → ((x : Event) → event_action x ≡ Some action → IsCountBefore set.opened.input.config.granularity b.history x decides) → SettlesEvent actor place e decides b s new
     event-held place e decides new place_is e_is entered count =
         settles-event b s new actor action (first-held ∙ is) place e decides e_is
         (adds-event b s new action (moment t) place e decides set.opened.input input (now ∙ now-held set b s has current) place_is e_is entered count)

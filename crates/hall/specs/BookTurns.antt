@@ -10,7 +10,7 @@ use Rattle.sched_model.specs.declared.event.Event.{Event}
 use Rattle.sched_model.specs.declared.event.Event.TheVariants as event
 use Rattle.sched_model.specs.declared.machine.Machine.{Machine}
 use Rattle.sched_model.specs.declared.state.State.{State}
-use Rattle.sched_model.specs.Machine.{event_of, first_enabled, next_in_horizon}
+use Rattle.sched_model.specs.Machine.{event_of, first_enabled_action, next_in_horizon}
 use Rattle.sched_model.specs.Runs.{IsNext, IsRun, IsWholeRun}
 use Rattle.journal_core.specs.Books.{Chronicle}
 use Rattle.journal_core.specs.Histories.{reached_by}
@@ -84,19 +84,19 @@ pub record SettlesFull (actor : Actor) (full : Full) (b : Chronicle) (old new : 
 -- what an answer for the whole machine says
 pub record TurnsStep (place : ℕ) (e : Event) (decides : ℕ) (b : Chronicle) (old new : Sitting) : Type 0 where
   pub action : Action
-  pub first : first_enabled b.input (state_in b) (state_in b).now ≡ Some action
+  pub first : first_enabled_action b.input (state_in b) (state_in b).now ≡ Some action
   pub is_event : e ≡ event_of b.input (state_in b) (state_in b).now action
   pub adds : AddsEvent place e decides b old new
 
 pub record TurnsClose (place : ℕ) (next : Moment) (b : Chronicle) (old new : Sitting) : Type 0 where
-  pub quiet : first_enabled b.input (state_in b) (state_in b).now ≡ None
+  pub quiet : first_enabled_action b.input (state_in b) (state_in b).now ≡ None
   pub next_is : next_in_horizon b.input (state_in b) ≡ Some next.0
   pub place_is : place ≡ length b.history
   pub entered : HasEntered b (record { at = moment (state_in b).now; event = event.End next }) old new
   pub grown : IsRun b.input (b.history ++ record { at = moment (state_in b).now; event = event.End next } ∷ [])
 
 pub record TurnsFinish (place : ℕ) (b : Chronicle) (old new : Sitting) : Type 0 where
-  pub quiet : first_enabled b.input (state_in b) (state_in b).now ≡ None
+  pub quiet : first_enabled_action b.input (state_in b) (state_in b).now ≡ None
   pub last : next_in_horizon b.input (state_in b) ≡ None
   pub place_is : place ≡ length b.history
   pub entered : HasEntered b (record { at = moment (state_in b).now; event = event.Finish }) old new

@@ -52,11 +52,11 @@ pub record IsHallOf (m : Machine) (granularity horizon : ℕ) : Type 0 where
 
 -- the arrival that a seat keeps after an event of its own: that of an Arrive, with the number of decisions of its core before it, until
 -- the processor leaves. g is the number of a core's processors
-abbrev pub arrived_after : ℕ → List Entry → Event → Option Arrival → Option Arrival
-arrived_after g before (event.Arrive p) kept = Some (record { p = p; decides = decides_at before (p.0 / g) })
-arrived_after g before (event.Leave p v) None = None
-arrived_after g before (event.Leave p v) (Some a) = (if a.p.0 == p.0 then None else Some a)
-arrived_after g before _ kept = kept
+abbrev pub kept_arrival : ℕ → List Entry → Event → Option Arrival → Option Arrival
+kept_arrival g before (event.Arrive p) kept = Some (record { p = p; decides = decides_at before (p.0 / g) })
+kept_arrival g before (event.Leave p v) None = None
+kept_arrival g before (event.Leave p v) (Some a) = (if a.p.0 == p.0 then None else Some a)
+kept_arrival g before _ kept = kept
 
 -- where the event is an arrival, the number is that of the decisions of its core in the history before it
 abbrev pub IsCountBefore : ℕ → List Entry → Event → ℕ → Type 0

@@ -3,7 +3,7 @@ use Rattle.std.specs.Prelude.{ℕ, ◌≡◌, ◌≢◌, ◌<◌, ◌++◌, ◌�
 use mathlib.Core.List.{IsPrefix}
 use Rattle.sched_model.specs.declared.event.Entry.{Entry}
 use Rattle.sched_model.specs.declared.event.Event.{Event}
-use Rattle.sched_model.specs.Runs.{action_of}
+use Rattle.sched_model.specs.Runs.{event_action}
 use Rattle.journal_core.specs.Books.{Chronicle}
 use Rattle.journal_core.specs.Histories.{part_at}
 use Rattle.lock_moves.specs.Decisions.{who_decides}
@@ -85,4 +85,4 @@ pub record HasCore (r : ℕ) (v : Seen) : Type 0 where
 
 -- the seat names the core whose decision the event is, or none where it is no decision
 abbrev pub deciding_view : Event → Seen → Seen
-deciding_view e v = record v { named = who_decides (action_of e) }
+deciding_view e v = record v { named = who_decides (event_action e) }

@@ -11,7 +11,7 @@ use Rattle.sched_model.specs.declared.config.Config.{Config}
 use Rattle.sched_model.specs.declared.event.Entry.{Entry}
 use Rattle.sched_model.specs.declared.event.Event.{Event}
 use Rattle.sched_model.specs.declared.event.Event.TheVariants as event
-use Rattle.sched_model.specs.Machine.{event_of, first_enabled, next_in_horizon}
+use Rattle.sched_model.specs.Machine.{event_of, first_enabled_action, next_in_horizon}
 use Rattle.sched_model.specs.Runs.{IsNext, IsRun, IsWholeRun}
 use Rattle.journal_core.specs.Histories.{decides_at, reached_by, state_at}
 use Rattle.composition_laws.specs.Actors.{first_by}
@@ -25,7 +25,7 @@ use Rattle.hall.specs.declared.turns.Turn.{Turn}
 use Rattle.hall.specs.declared.turns.Turn.TheVariants as turn
 use Rattle.hall.specs.declared.turns.Waits.{Waits}
 use Rattle.hall.specs.declared.turns.Waits.TheVariants as waits
-use Rattle.hall.specs.Seats.{Seated, arrived_after}
+use Rattle.hall.specs.Seats.{Seated, kept_arrival}
 
 -- whether the actor is one of the input
 abbrev pub is_actor : Config → Actor → Bool
@@ -77,19 +77,19 @@ pub record ActsFull (actor : Actor) (full : Full) (old new : Seen) : Type 0 wher
 -- the seat has added the event of the first action of the whole machine
 pub record HasStepped (place : ℕ) (e : Event) (before : List Entry) (old new : Seen) : Type 0 where
   pub action : Action
-  pub first : first_enabled old.input (state_at old.input before) (state_at old.input before).now ≡ Some action
+  pub first : first_enabled_action old.input (state_at old.input before) (state_at old.input before).now ≡ Some action
   pub is_event : e ≡ event_of old.input (state_at old.input before) (state_at old.input before).now action
   pub added : Added place e before old new
 
 -- the seat has ended the moment, at which nothing more may come, and the next one follows
 pub record HasClosed (place : ℕ) (next : Moment) (before : List Entry) (old new : Seen) : Type 0 where
-  pub quiet : first_enabled old.input (state_at old.input before) (state_at old.input before).now ≡ None
+  pub quiet : first_enabled_action old.input (state_at old.input before) (state_at old.input before).now ≡ None
   pub next_is : next_in_horizon old.input (state_at old.input before) ≡ Some next.0
   pub added : Added place (event.End next) before old new
 
 -- the seat has ended the run: nothing more may come up to the horizon
 pub record HasFinished (place : ℕ) (before : List Entry) (old new : Seen) : Type 0 where
-  pub quiet : first_enabled old.input (state_at old.input before) (state_at old.input before).now ≡ None
+  pub quiet : first_enabled_action old.input (state_at old.input before) (state_at old.input before).now ≡ None
   pub last : next_in_horizon old.input (state_at old.input before) ≡ None
   pub added : Added place event.Finish before old new
 
@@ -111,7 +111,7 @@ pub record TurnsFull (full : Full) (old new : Seen) : Type 0 where
 
 -- the arrival that is kept after an event that the seat added behind the history `before`
 abbrev pub KeepsArrival : List Entry → Event → Seated → Seated → Type 0
-KeepsArrival before e old new = new.arrived ≡ arrived_after old.sitting.view.input.config.granularity before e old.arrived
+KeepsArrival before e old new = new.arrived ≡ kept_arrival old.sitting.view.input.config.granularity before e old.arrived
 
 -- what an answer of `act` says
 abbrev pub IsDone : Actor → Done → Seated → Seated → Type 0

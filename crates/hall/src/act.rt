@@ -6,7 +6,7 @@ ghost use Rattle.std.specs.Option.{ForSome, IsSome};
 ghost use Rattle.sched_model.specs.declared.action.Action.TheVariants.{Arrive};
 ghost use Rattle.sched_model.specs.declared.action.Actor.TheVariants.{Tool};
 ghost use Rattle.sched_model.specs.declared.event.Event.{Event as EventSpec};
-ghost use Rattle.sched_model.specs.Runs.{action_of};
+ghost use Rattle.sched_model.specs.Runs.{event_action};
 ghost use Rattle.journal_core.specs.Histories.{reached_by};
 ghost use Rattle.composition_laws.specs.Actors.{has_actor};
 ghost use Rattle.pool_laws.specs.Actors.{IsFirstBy};
@@ -208,7 +208,7 @@ impl Hall {
     pub(crate) fn decides_before(&self, book: &Book, action: Action) -> u32
         requires few { (p : ℕ) → action ≡ Arrive (processor p) →
             p / self.now.opened.input.config.granularity < 64 }
-        ensures { (e : EventSpec) → action_of e ≡ Some action →
+        ensures { (e : EventSpec) → event_action e ≡ Some action →
             IsCountBefore self.now.opened.input.config.granularity book.now.history e result }
     {
         match action {

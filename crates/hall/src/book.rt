@@ -4,7 +4,7 @@ ghost use Rattle.sched_base.specs.Numbers.{core};
 ghost use Rattle.std.specs.Prelude.{◌≡◌, ◌≢◌, ◌<◌, ◌++◌, ◌∷◌, [], ℕ, Some, length};
 ghost use Rattle.sched_model.specs.declared.action.Action.TheVariants.{Decide};
 ghost use Rattle.sched_model.specs.CheckedMachine.{IsChecked};
-ghost use Rattle.sched_model.specs.Runs.{IsNext, action_of};
+ghost use Rattle.sched_model.specs.Runs.{IsNext, event_action};
 ghost use Rattle.journal_core.specs.Histories.{reached_by};
 ghost use Rattle.lock_moves.specs.Plays.{Current, Kept, Placed};
 ghost use Rattle.lock_moves.specs.SeatSight.{AllBelow, Known, find_lock};
@@ -48,7 +48,7 @@ pub(crate) fn put_book(set: &LockSet<PartState>, seat: &mut LockSeat, book: Held
 /// Raises the stage word of the core whose decision the event is, where it is one. The seat then names that core, or else none.
 fn raise_stage(set: &LockSet<PartState>, seat: &mut LockSeat, book: &HeldBook, event: Event)
     requires has { HasBook set.now book.now seat.old }
-    requires core { (r : ℕ) → action_of event ≡ Some (Decide (core r)) → HasCore r seat.old.view }
+    requires core { (r : ℕ) → event_action event ≡ Some (Decide (core r)) → HasCore r seat.old.view }
     ensures { seat.new ≡ sitting_with seat.old (deciding_view event seat.old.view) }
 {
     if let Event::Decide { r, .. } = event {
@@ -64,7 +64,7 @@ pub(crate) fn enter(set: &LockSet<PartState>, seat: &mut LockSeat, book: HeldBoo
     requires room { length book.history < book.limit }
     requires kept { Kept seat.old.view (book.history ++ entry ∷ []) }
     requires placed { Placed seat.old.view (book.history ++ entry ∷ []) }
-    requires core { (r : ℕ) → action_of entry.event ≡ Some (Decide (core r)) →
+    requires core { (r : ℕ) → event_action entry.event ≡ Some (Decide (core r)) →
         HasCore r seat.old.view }
     ensures entered { HasEntered book entry seat.old seat.new }
     ensures knows { KnowsAfter (book.history ++ entry ∷ []) seat.old.view seat.new.view }

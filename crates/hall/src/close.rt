@@ -1,7 +1,7 @@
 //! A turn of the whole machine: its next entry, under all locks.
 
 ghost use Rattle.std.specs.Prelude.{◌≡◌, ◌<◌, None, Some, IfOk, IfErr, length};
-ghost use Rattle.sched_model.specs.Machine.{first_enabled};
+ghost use Rattle.sched_model.specs.Machine.{first_enabled_action};
 ghost use Rattle.lock_moves.specs.Plays.{Current};
 ghost use Rattle.lock_moves.specs.SeatSight.{find_lock};
 ghost use Rattle.machine_parts.specs.Places.{GoesOn, state_of};
@@ -145,7 +145,7 @@ impl Hall {
         requires room { length book.history < book.limit }
         requires now { t.0 ≡ seat.old.view.now }
         requires knows { KnowsAll all.old seat.old.view }
-        requires first { first_enabled book.input (state_of (told_of book))
+        requires first { first_enabled_action book.input (state_of (told_of book))
             (state_of (told_of book)).now ≡ Some action }
         ensures knows { KnowsAll all.new seat.new.view }
         ensures book { find_lock book_lock seat.new.view.held ≡ None }
@@ -166,7 +166,7 @@ impl Hall {
         requires room { length book.history < book.limit }
         requires now { t.0 ≡ seat.old.view.now }
         requires knows { KnowsAll all.now seat.old.view }
-        requires quiet { first_enabled book.input (state_of (told_of book))
+        requires quiet { first_enabled_action book.input (state_of (told_of book))
             (state_of (told_of book)).now ≡ None }
         ensures knows { KnowsAll all.now seat.new.view }
         ensures book { find_lock book_lock seat.new.view.held ≡ None }

@@ -1,8 +1,8 @@
 //! An event of the pool under one lock, while the book is in the seat's hands.
 
 ghost use Rattle.std.specs.Prelude.{◌≡◌, ◌<◌, ℕ, true, Some, length};
-ghost use Rattle.sched_model.specs.Actions.{IsOfPool, home_of};
-ghost use Rattle.sched_model.specs.Machine.{event_of, is_enabled};
+ghost use Rattle.sched_model.specs.Actions.{IsOfPool, home_pool_of_action};
+ghost use Rattle.sched_model.specs.Machine.{event_of, is_action_enabled};
 ghost use Rattle.machine_parts.specs.Places.{GoesOn, state_of};
 ghost use Rattle.machine_parts.specs.Told.{told_of};
 ghost use Rattle.lock_moves.specs.Plays.{Current};
@@ -38,9 +38,9 @@ pub(crate) fn perform_at(
     requires number { i < tool_lock }
     requires knows { KnowsPool i slot.old seat.old.view }
     requires own { IsOfPool action }
-    requires enabled { is_enabled book.input (state_of (told_of book)) (state_of (told_of book)).now
+    requires enabled { is_action_enabled book.input (state_of (told_of book)) (state_of (told_of book)).now
         action ≡ true }
-    requires home { home_of book.input.config.granularity (state_of (told_of book)) action
+    requires home { home_pool_of_action book.input.config.granularity (state_of (told_of book)) action
         ≡ Some i }
     ensures event { result ≡ event_of book.input (state_of (told_of book))
         (state_of (told_of book)).now action }

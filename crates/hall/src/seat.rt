@@ -2,7 +2,7 @@
 
 ghost use Rattle.std.specs.Prelude.{◌≡◌, ℕ, List};
 ghost use Rattle.sched_model.specs.declared.event.Entry.{Entry};
-ghost use Rattle.hall.specs.Seats.{IsCountBefore, arrived_after as arrived_after_spec};
+ghost use Rattle.hall.specs.Seats.{IsCountBefore, kept_arrival};
 
 use lock_moves::LockSeat;
 use sched_base::ProcId;
@@ -37,7 +37,7 @@ impl Model for HallSeat {
 /// The arrival that is kept after an event, before which the core of an arriving processor had so many decisions.
 pub(crate) fn arrived_after(kept: Option<Arrival>, event: Event, decides: u32) -> Option<Arrival>
     ensures { (g : ℕ) (before : List Entry) → IsCountBefore g before event decides → result
-        ≡ arrived_after_spec g before event kept }
+        ≡ kept_arrival g before event kept }
 {
     match (event, kept) {
         (Event::Arrive { p }, _) => Some(Arrival { p, decides }),

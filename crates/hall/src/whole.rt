@@ -4,10 +4,10 @@ ghost use Rattle.std.specs.Prelude.{◌≡◌, ◌<◌, ℕ, true, false, None, 
 ghost use Rattle.std.specs.Option.{ForSome};
 ghost use Rattle.sched_model.specs.declared.action.Action.TheVariants as actions;
 ghost use Rattle.sched_model.specs.declared.event.Event.TheVariants as events;
-ghost use Rattle.sched_model.specs.Machine.{event_of, first_enabled, is_enabled, next_in_horizon};
+ghost use Rattle.sched_model.specs.Machine.{event_of, first_enabled_action, is_action_enabled, next_in_horizon};
 ghost use Rattle.machine_parts.specs.Places.{GoesOn, state_of};
 ghost use Rattle.machine_parts.specs.Told.{told_of};
-ghost use Rattle.machine_parts.specs.Parts.{pool_of_event as pool_of_event_spec};
+ghost use Rattle.machine_parts.specs.Parts.{event_pool};
 ghost use Rattle.lock_moves.specs.Plays.{Current};
 ghost use Rattle.lock_moves.specs.Sets.{sitting_with};
 ghost use Rattle.lock_moves.specs.SeatSight.{Holds, find_lock};
@@ -51,7 +51,7 @@ fn lock_of(pool: Option<PoolId>) -> LockId
 fn core_move(tool: &ToolState, at: &Trail, r: ResId) -> NameMove
     requires goes { GoesOn at.now }
     requires known { tool_of at.now.input (state_of at.now) ≡ tool.now }
-    requires enabled { is_enabled at.now.input (state_of at.now) (state_of at.now).now
+    requires enabled { is_action_enabled at.now.input (state_of at.now) (state_of at.now).now
         (actions.Moved r) ≡ true }
     ensures { HandsNameOver at.now (actions.Moved r) result }
 {
@@ -71,7 +71,7 @@ fn core_move(tool: &ToolState, at: &Trail, r: ResId) -> NameMove
 fn domain_move(tool: &ToolState, at: &Trail, d: DomId) -> NameMove
     requires goes { GoesOn at.now }
     requires known { tool_of at.now.input (state_of at.now) ≡ tool.now }
-    requires enabled { is_enabled at.now.input (state_of at.now) (state_of at.now).now
+    requires enabled { is_action_enabled at.now.input (state_of at.now) (state_of at.now).now
         (actions.DomMoved d) ≡ true }
     ensures { HandsNameOver at.now (actions.DomMoved d) result }
 {
@@ -90,7 +90,7 @@ fn domain_move(tool: &ToolState, at: &Trail, d: DomId) -> NameMove
 fn name_move(tool: &ToolState, at: &Trail, action: Action) -> Option<NameMove>
     requires goes { GoesOn at.now }
     requires known { tool_of at.now.input (state_of at.now) ≡ tool.now }
-    requires enabled { is_enabled at.now.input (state_of at.now) (state_of at.now).now action
+    requires enabled { is_action_enabled at.now.input (state_of at.now) (state_of at.now).now action
         ≡ true }
     ensures { HandsName at.now action result }
 {
@@ -130,12 +130,12 @@ fn act_as_tool(
     requires now { t.0 ≡ seat.old.view.now }
     requires granularity { granularity ≡ book.input.config.granularity }
     requires knows { KnowsAll all.old seat.old.view }
-    requires enabled { is_enabled book.input (state_of (told_of book)) (state_of (told_of book)).now
+    requires enabled { is_action_enabled book.input (state_of (told_of book)) (state_of (told_of book)).now
         action ≡ true }
     requires first { action ≡ actions.Xl →
-        is_enabled book.input (state_of (told_of book)) (state_of (told_of book)).now actions.Stall
+        is_action_enabled book.input (state_of (told_of book)) (state_of (told_of book)).now actions.Stall
         ≡ false }
-    requires no_pool { pool_of_event_spec book.input.config.granularity (state_of (told_of book))
+    requires no_pool { event_pool book.input.config.granularity (state_of (told_of book))
         action ≡ None }
     ensures event { result ≡ event_of book.input (state_of (told_of book))
         (state_of (told_of book)).now action }
@@ -177,10 +177,10 @@ pub(crate) fn perform(
     requires now { t.0 ≡ seat.old.view.now }
     requires granularity { granularity ≡ book.input.config.granularity }
     requires knows { KnowsAll all.old seat.old.view }
-    requires enabled { is_enabled book.input (state_of (told_of book)) (state_of (told_of book)).now
+    requires enabled { is_action_enabled book.input (state_of (told_of book)) (state_of (told_of book)).now
         action ≡ true }
     requires first { action ≡ actions.Xl →
-        is_enabled book.input (state_of (told_of book)) (state_of (told_of book)).now actions.Stall
+        is_action_enabled book.input (state_of (told_of book)) (state_of (told_of book)).now actions.Stall
         ≡ false }
     ensures event { result ≡ event_of book.input (state_of (told_of book))
         (state_of (told_of book)).now action }
@@ -217,7 +217,7 @@ pub(crate) fn end_moment(
     requires room { length book.history < book.limit }
     requires now { t.0 ≡ seat.old.view.now }
     requires all { (k : ℕ) → k < book_lock → Holds k seat.old.view }
-    requires nothing { first_enabled book.input (state_of (told_of book))
+    requires nothing { first_enabled_action book.input (state_of (told_of book))
         (state_of (told_of book)).now ≡ None }
     requires next { next_in_horizon book.input (state_of (told_of book)) ≡ Some next.0 }
     ensures entered { HasEntered book (record { at = t; event = events.End next }) seat.old
@@ -243,7 +243,7 @@ pub(crate) fn finish(set: &LockSet<PartState>, seat: &mut LockSeat, book: HeldBo
     requires goes { GoesOn (told_of book) }
     requires room { length book.history < book.limit }
     requires now { t.0 ≡ seat.old.view.now }
-    requires nothing { first_enabled book.input (state_of (told_of book))
+    requires nothing { first_enabled_action book.input (state_of (told_of book))
         (state_of (told_of book)).now ≡ None }
     requires last { next_in_horizon book.input (state_of (told_of book)) ≡ None }
     ensures entered { HasEntered book (record { at = t; event = events.Finish }) seat.old seat.new }

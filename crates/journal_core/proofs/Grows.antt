@@ -6,22 +6,22 @@ use Rattle.sched_model.specs.declared.event.Event.TheVariants as event
 use Rattle.sched_model.specs.declared.event.Entry.{Entry}
 use Rattle.sched_model.specs.declared.machine.Machine.{Machine}
 use Rattle.sched_model.specs.declared.action.Action.TheVariants.{Stall}
-use Rattle.sched_model.specs.Runs.{Reached, run_start, action_of, after_event}
+use Rattle.sched_model.specs.Runs.{Reached, run_start, event_action, after_event}
 use Rattle.sched_model.proofs.RunLemmas.{after_entries-append}
 use Rattle.sched_laws.proofs.Free.{now_after}
-use Rattle.journal_core.specs.Histories.{reached_by, now_at, decides_at, decision_of, moment_after}
+use Rattle.journal_core.specs.Histories.{reached_by, now_at, decides_at, decision_of, following_moment}
 
 by_cond : {Y : Type 0} (Q : Y → Type 0) (test : Bool) (a b : Y) → Q a → Q b → Q (cond test a b)
 by_cond Q true a b when else = when
 by_cond Q false a b when else = else
 
-now-after_event : (m : Machine) (e : Event) (from : Reached) → (after_event m e (action_of e) from).state.now ≡ moment_after e from.state.now
+now-after_event : (m : Machine) (e : Event) (from : Reached) → (after_event m e (event_action e) from).state.now ≡ following_moment e from.state.now
 now-after_event m (event.End next) from = refl
 now-after_event m event.Finish from = refl
-now-after_event m e from = now_after m from.state from.state.now (unwrap_or (action_of e) Stall)
+now-after_event m e from = now_after m from.state from.state.now (unwrap_or (event_action e) Stall)
 
 -- the moment after one entry more
-pub now_at-append : (m : Machine) (h : List Entry) (entry : Entry) → now_at m (h ++ entry ∷ []) ≡ moment_after entry.event (now_at m h)
+pub now_at-append : (m : Machine) (h : List Entry) (entry : Entry) → now_at m (h ++ entry ∷ []) ≡ following_moment entry.event (now_at m h)
 unfolding now_at
 now_at-append m h entry = ap (λ (from : Reached). from.state.now) (after_entries-append m (run_start m) h entry) ∙ now-after_event m entry.event (reached_by m h)
 

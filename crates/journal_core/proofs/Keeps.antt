@@ -6,7 +6,7 @@ use Rattle.sched_model.specs.declared.event.Entry.{Entry}
 use Rattle.sched_model.specs.declared.machine.Machine.{Machine}
 use Rattle.sched_model.specs.Runs.{IsNext, run_start}
 use Rattle.sched_model.proofs.RunLemmas.{IsRunFrom-append}
-use Rattle.journal_core.specs.Histories.{reached_by, now_at, decides_at, decision_of, moment_after}
+use Rattle.journal_core.specs.Histories.{reached_by, now_at, decides_at, decision_of, following_moment}
 use Rattle.journal_core.specs.Books.{Chronicle, chronicle, IsKept}
 use Rattle.journal_core.proofs.Grows.{now_at-append, decides_at-append, decides_at-few}
 
@@ -33,13 +33,13 @@ kept_new config work limit capacity decides few room cores none = record {
 pub kept_more : (config : Config) (work : Work) (h : List Entry) (limit capacity now : ℕ) (decides decides' : List ℕ) (e : Entry) → IsKept (chronicle config work h limit) capacity now decides
     → IsNext (record { config = config; work = work }) (reached_by (record { config = config; work = work }) h) e → length h < limit → length decides' ≡ 64
     → ((r : ℕ) → r < 64 → slice_index decides' r ≡ decision_of e.event r + slice_index decides r)
-    → IsKept (chronicle config work (h ++ e ∷ []) limit) capacity (moment_after e.event now) decides'
+    → IsKept (chronicle config work (h ++ e ∷ []) limit) capacity (following_moment e.event now) decides'
 kept_more config work h limit capacity now decides decides' e kept next room cores counted = record {
   run = IsRunFrom-append m (run_start m) h e kept.run next;
   fits = let len = length-append h (e ∷ []) in omega (arith, len, room);
   room = kept.room;
   few = kept.few;
-  now_is = ap (moment_after e.event) kept.now_is ∙ sym (now_at-append m h e);
+  now_is = ap (following_moment e.event) kept.now_is ∙ sym (now_at-append m h e);
   cores = cores;
   decides_are = λ r low. counted r low ∙ (ap (λ (n : ℕ). decision_of e.event r + n) (kept.decides_are r low) ∙ sym (decides_at-append h e r));
 }

@@ -30,9 +30,9 @@ unfoldable pub now_at : Machine → List Entry → ℕ
 now_at m h = (state_at m h).now
 
 -- the moment after an event at the moment now: the one that End names, or the same
-abbrev pub moment_after : Event → ℕ → ℕ
-moment_after (event.End next) now = next.0
-moment_after _ now = now
+abbrev pub following_moment : Event → ℕ → ℕ
+following_moment (event.End next) now = next.0
+following_moment _ now = now
 
 -- 1 where the event is a decision of the core r
 abbrev pub decision_of : Event → ℕ → ℕ

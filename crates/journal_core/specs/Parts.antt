@@ -11,8 +11,8 @@ use Rattle.sched_model.specs.declared.state.FreeCore.{FreeCore}
 use Rattle.sched_model.specs.declared.state.Pool.{Pool}
 use Rattle.sched_model.specs.declared.state.State.{State}
 use Rattle.sched_model.specs.Places.{at_place, first_place}
-use Rattle.sched_model.specs.Opening.{core_count}
-use Rattle.sched_model.specs.Policy.{kind_of}
+use Rattle.sched_model.specs.Opening.{machine_core_count}
+use Rattle.sched_model.specs.Policy.{records_kind}
 
 -- a pool as the tool knows it: its scheduler, which cores it has, and for each domain that it has the number of its vCPUs
 pub record Outline : Type 0 where
@@ -49,8 +49,8 @@ abbrev pub tool_lock : ℕ
 tool_lock = 16
 
 -- how the tool knows a pool
-abbrev pub outline_of : Pool → Outline
-outline_of pool = record { kind = kind_of pool.scheduler.records; cores = map is_some pool.resources; domains = map (option_map (λ (d : Domain). length d.vcpus)) pool.domains }
+abbrev pub pool_outline : Pool → Outline
+pool_outline pool = record { kind = records_kind pool.scheduler.records; cores = map is_some pool.resources; domains = map (option_map (λ (d : Domain). length d.vcpus)) pool.domains }
 
 -- the first answer for something that stands at a place, with the number of its place; the first place has the number n
 abbrev pub first_answer : {X Y : Type 0} → (ℕ → X → Option Y) → ℕ → List (Option X) → Option Y
@@ -62,37 +62,37 @@ first_answer f n (Some x ∷ places) = elim (f n x) [ Some y ↦ Some y | None �
 abbrev pub is_leaving : Resource → Bool
 is_leaving c = c.leaving
 
-abbrev pub core_leaving : ℕ → Resource → Option UnderWay
-core_leaving r c = (if is_leaving c then Some (core_to r None) else None)
+abbrev pub core_to_leave : ℕ → Resource → Option UnderWay
+core_to_leave r c = (if is_leaving c then Some (core_to r None) else None)
 
 -- the domain moves to a pool
-abbrev pub domain_moving : ℕ → Domain → Option UnderWay
-domain_moving d domain = option_map (λ i. domain_to d i.0) domain.moving
+abbrev pub domain_to_move : ℕ → Domain → Option UnderWay
+domain_to_move d domain = option_map (λ i. domain_to d i.0) domain.moving
 
 -- the core of no pool is to join one
-abbrev pub core_joining : ℕ → FreeCore → Option UnderWay
-core_joining r c = option_map (λ (i : ℕ). core_to r (Some i)) c.target
+abbrev pub core_to_join : ℕ → FreeCore → Option UnderWay
+core_to_join r c = option_map (λ (i : ℕ). core_to r (Some i)) c.target
 
 -- the first answer, or else the second
 abbrev pub or_else : Option UnderWay → Option UnderWay → Option UnderWay
 or_else first second = elim first [ Some way ↦ Some way | None ↦ second ]
 
 -- what is on its way from the pool
-abbrev pub leaving_pool : ℕ → Pool → Option UnderWay
-leaving_pool i pool = or_else (first_answer core_leaving 0 pool.resources) (first_answer domain_moving 0 pool.domains)
+abbrev pub pool_under_way : ℕ → Pool → Option UnderWay
+pool_under_way i pool = or_else (first_answer core_to_leave 0 pool.resources) (first_answer domain_to_move 0 pool.domains)
 
 -- what is on its way
-abbrev pub under_way_of : State → Option UnderWay
-under_way_of s = or_else (first_answer leaving_pool 0 s.pools) (first_answer core_joining 0 s.free)
+abbrev pub state_under_way : State → Option UnderWay
+state_under_way s = or_else (first_answer pool_under_way 0 s.pools) (first_answer core_to_join 0 s.free)
 
 -- what the tool keeps of the state
 abbrev pub tool_of : State → ToolPart
 tool_of s =
     record {
       names = s.names;
-      pools = map (option_map outline_of) s.pools;
+      pools = map (option_map pool_outline) s.pools;
       free = map (option_map (λ (c : FreeCore). c.stall_ends)) s.free;
-      under_way = under_way_of s;
+      under_way = state_under_way s;
       next_stall = s.next_stall;
       next_command = s.next_command;
     }
@@ -113,7 +113,7 @@ lists (tool_part tool) n = nat_lt n 64 && is_some (at_place tool.free n)
 
 -- whether the input has what the name n names
 abbrev pub is_name : Config → ℕ → Bool
-is_name config n = (if nat_lt n 64 then nat_lt n (core_count config) else nat_lt (n - 64) (length config.domains))
+is_name config n = (if nat_lt n 64 then nat_lt n (machine_core_count config) else nat_lt (n - 64) (length config.domains))
 
 -- the home of a name that names nothing of the input
 abbrev pub no_home : ℕ

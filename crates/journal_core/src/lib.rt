@@ -5,7 +5,7 @@
 
 ghost use Rattle.std.specs.Prelude.{ℕ, ◌≡◌, ◌≤◌, ◌<◌, ◌+◌, ◌++◌, ◌∷◌, [], ◌↔◌, IsTrue, IfOk, Some, length, slice_get, slice_index};
 ghost use Rattle.sched_model.specs.Runs.{IsNext, IsRun};
-ghost use Rattle.journal_core.specs.Histories.{decision_of, decides_at, moment_after, now_at, reached_by};
+ghost use Rattle.journal_core.specs.Histories.{decision_of, decides_at, following_moment, now_at, reached_by};
 
 use sched_base::{Moment, NoMemory, ResId};
 use sched_model::config::Config;
@@ -44,7 +44,7 @@ impl Model for Book {
 
 // The moment that an entry leads to from the moment now.
 fn moment_after(e: &Entry, now: Moment) -> Moment
-    ensures { result.0 ≡ moment_after e.now.event now.0 }
+    ensures { result.0 ≡ following_moment e.now.event now.0 }
 {
     match e.event {
         Event::End { next } => next,

@@ -1,7 +1,7 @@
 //! The queues of Credit2 and of RTDS.
 
 ghost use Rattle.std.specs.Prelude.{◌≡◌, ◌+◌, ◌<◌, ◌≤◌, true};
-ghost use Rattle.unit_places.specs.Places.{has_place};
+ghost use Rattle.unit_places.specs.Places.{has_unit_place};
 ghost use Rattle.runq.specs.Queue.{empty_queue};
 ghost use Rattle.rtds_queue.specs.Lists.{empty_lists};
 
@@ -86,7 +86,7 @@ fn a_unit_is_passed_over_for_its_cores(rt: HostRuntime) -> Result<(), Fail> {
 
 /// Lets a unit come that the queue has not. It answers whether it had none.
 fn comes(queue: &mut Runq, u: UnitId, key: i128) -> bool
-    requires place { has_place u ≡ true }
+    requires place { has_unit_place u ≡ true }
     requires room { 0 < queue.old.spare }
     ensures { queue.old.spare ≤ queue.new.spare + 1 }
 {
@@ -145,7 +145,7 @@ fn drained_of_eligible(queues: &mut RtdsQueues, order: [u8; 4]) -> bool {
 
 /// Puts a unit that neither list has. It answers whether they had it not.
 fn puts(queues: &mut RtdsQueues, u: UnitId, key: RtdsKey, spent: bool) -> bool
-    requires place { has_place u ≡ true }
+    requires place { has_unit_place u ≡ true }
     requires room { 0 < queues.old.spare }
     ensures { queues.old.spare ≤ queues.new.spare + 1 }
 {

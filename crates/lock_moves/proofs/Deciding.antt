@@ -6,7 +6,7 @@ use native.Mathlib.Decide.{ℕ_discrete}
 use Rattle.sched_model.specs.declared.event.Event.{Event}
 use Rattle.sched_model.specs.declared.event.Event.TheVariants as event
 use Rattle.sched_model.specs.declared.event.Entry.{Entry}
-use Rattle.sched_model.specs.Runs.{action_of}
+use Rattle.sched_model.specs.Runs.{event_action}
 use Rattle.journal_core.specs.Histories.{decides_at, decision_of}
 use Rattle.journal_core.proofs.Grows.{decides_at-append}
 use Rattle.lock_moves.specs.SeatSight.{Seen, raise}
@@ -30,11 +30,11 @@ raises_none : (r : ℕ) → raised_by r 0 ≡ 0
 raises_none r = ap (λ b. let z : ℕ = cond b 1 0 in z) (ne_eqb (suc r) 0 (λ e. absurd (omega (arith, e))))
 
 -- the event counts for the core r exactly where a view that names its decider raises r
-decision_raises : (e : Event) (r : ℕ) → decision_of e r ≡ raised_by r (who_decides (action_of e))
+decision_raises : (e : Event) (r : ℕ) → decision_of e r ≡ raised_by r (who_decides (event_action e))
 decision_raises (event.Decide core unit due late reset) r = ap (λ b. let z : ℕ = cond b 1 0 in z) (sym (eqb_flip core.0 r))
 decision_raises e r = sym (raises_none r)
 
-pub decided_added : (v : Seen) (entry : Entry) → v.named ≡ who_decides (action_of entry.event) → Decided v (v.front ++ entry ∷ [])
+pub decided_added : (v : Seen) (entry : Entry) → v.named ≡ who_decides (event_action entry.event) → Decided v (v.front ++ entry ∷ [])
 decided_added v entry named r low = one_more v.front entry r ∙ ap (λ (n : ℕ). decides_at v.front r + n) (decision_raises entry.event r ∙ ap (raised_by r) (sym named))
 
 pub decided_same : (v : Seen) → v.named ≡ 0 → Decided v v.front

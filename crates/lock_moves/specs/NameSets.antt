@@ -1,12 +1,12 @@
 -- The names that a value lists, as two sets of bits.
 use Rattle.std.specs.Prelude.{◌≡◌, ◌-◌, ℕ, ◌<◌, Bool, nat_lt, cond}
-use Rattle.sched_model.specs.State.{has_core as has_bit}
+use Rattle.sched_model.specs.State.{has_core_bit}
 use Rattle.journal_core.specs.Parts.{StatePart, lists}
 use Rattle.lock_moves.specs.declared.names.Names.{Names}
 
 -- whether the name n is in the sets
 abbrev pub in_names : Names → ℕ → Bool
-in_names names n = cond (nat_lt n 64) (has_bit names.res n) (has_bit names.dom (n - 64))
+in_names names n = cond (nat_lt n 64) (has_core_bit names.res n) (has_core_bit names.dom (n - 64))
 
 -- the sets have the names that the part lists, and no other
 abbrev pub AreNamesOf : StatePart → Names → Type 0

@@ -3,7 +3,7 @@
 ghost use Rattle.std.specs.Prelude.{◌≡◌, ℕ, ◌+◌, ◌≤◌, List, [], ◌∷◌, ◌++◌};
 ghost use mathlib.Core.List.{IsPrefix};
 ghost use Rattle.sched_model.specs.declared.event.Entry.{Entry};
-ghost use Rattle.sched_model.specs.Runs.{action_of};
+ghost use Rattle.sched_model.specs.Runs.{event_action};
 ghost use Rattle.journal_core.specs.Histories.{decides_at, decision_of};
 ghost use Rattle.lock_moves.specs.Plays.{Decided};
 ghost use Rattle.lock_moves.specs.SeatSight.{Seen};
@@ -18,7 +18,7 @@ pub fn law_decisions()
 /// The same in the words of `commit`: a view that names the core whose decision the event is, or none where it is no decision, may commit
 /// the history with this entry more; and a view that names none may commit its front as it is.
 pub fn law_decided()
-    ensures added { (v : Seen) (entry : Entry) → v.named ≡ who_decides (action_of entry.event) →
+    ensures added { (v : Seen) (entry : Entry) → v.named ≡ who_decides (event_action entry.event) →
         Decided v (v.front ++ entry ∷ []) }
     ensures same { (v : Seen) → v.named ≡ 0 → Decided v v.front }
 {}

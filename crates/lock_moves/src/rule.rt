@@ -66,17 +66,17 @@ impl<V> Play<Content<V>, View> for Commit {
     ghost then = { committed };
 }
 
-pub(crate) struct Look;
+pub(crate) struct ReadWord;
 
-impl<V> Play<Content<V>, View> for Look {
+impl<V> Play<Content<V>, View> for ReadWord {
     ghost use Rattle.lock_moves.specs.Plays.{looked};
 
     ghost then = { looked };
 }
 
-pub(crate) struct Name;
+pub(crate) struct WriteName;
 
-impl<V> Play<Content<V>, View> for Name {
+impl<V> Play<Content<V>, View> for WriteName {
     ghost use Rattle.lock_moves.specs.Plays.{named};
 
     ghost then = { named };

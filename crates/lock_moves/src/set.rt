@@ -33,8 +33,8 @@ ghost use Rattle.lock_moves.specs.Words.{name_number, has_name, has_core, has_wo
 
 use crate::content::{BOOK, Content, Held, HeldBook, LockId, NOW, NameId, Part, WordId};
 use crate::rule::{
-    Agreement, Clock, Commit, Cut, Fetch, Glue, Load, Look, Name, Put, Raise, Settle, Take,
-    TakeBook,
+    Agreement, Clock, Commit, Cut, Fetch, Glue, Load, Put, Raise, ReadWord, Settle, Take, TakeBook,
+    WriteName,
 };
 use crate::seat::{LockSeat, seated};
 use crate::view::View;
@@ -218,7 +218,7 @@ impl<V: Part> LockSet<V> {
         ensures tells { Tells (word_index w) result seat.old.view }
     {
         let mut me = seated::<V>(&mut seat.badge);
-        let found = self.table.shared.load::<Look>(&mut me, w.index());
+        let found = self.table.shared.load::<ReadWord>(&mut me, w.index());
         seat.badge = me.into_badge();
         found
     }
@@ -254,7 +254,7 @@ impl<V: Part> LockSet<V> {
         let mut me = seated::<V>(&mut seat.badge);
         self.table
             .shared
-            .store::<Name>(&mut me, WordId::Name(name).index(), to.0 as u64);
+            .store::<WriteName>(&mut me, WordId::Name(name).index(), to.0 as u64);
         seat.badge = me.into_badge();
     }
 

@@ -4,10 +4,10 @@ use Rattle.std.specs.Prelude.{Option, Some, None, map, replicate, slice_set}
 use Rattle.std.proofs.lemmas.List.{length-append, length-replicate, replicate-append-replicate, set-get_or, append_assoc, append-nil}
 use Rattle.sched_base.specs.Numbers.{moment}
 use Rattle.sched_model.specs.declared.state.Resource.{Resource}
-use Rattle.sched_model.specs.Opening.{fresh_core}
+use Rattle.sched_model.specs.Opening.{joined_core}
 use Rattle.sched_model.specs.Places.{at_place, numbers_from}
 use Rattle.sched_model.specs.Pool.{settled_pool}
-use Rattle.sched_model.specs.State.{has_core}
+use Rattle.sched_model.specs.State.{has_core_bit}
 use Rattle.sched_laws.proofs.EachPlace.{EachPlace-empty, EachPlace-put_at}
 use Rattle.sched_laws.proofs.Opened.{length_map_numbers}
 use Rattle.sched_laws.specs.EachPlace.{EachPlace}
@@ -18,18 +18,18 @@ use Rattle.machine_opening.specs.OpeningPool.{IsPending, IsStill, with_cores}
 use Rattle.machine_opening.proofs.Steady.{stays}
 
 -- a core that is in the set came in
-pub core_came : (cores g r : ℕ) (seen : Seen) → IsStill seen → has_core cores r ≡ true
+pub core_came : (cores g r : ℕ) (seen : Seen) → IsStill seen → has_core_bit cores r ≡ true
     → seen_at 0 (settled_pool 0 (with_core r (replicate g (moment 0)) seen.pool)) seen ≡ with_cores (slice_set seen.pool.resources r (opening_core g cores r)) seen
 core_came cores g r seen still is =
-    stays (with_core r (replicate g (moment 0)) seen.pool) seen still.early (EachPlace-put_at IsPending r (fresh_core (replicate g (moment 0))) seen.pool.resources still.pending refl)
-    ∙ ap (λ (b : Bool). with_cores (slice_set seen.pool.resources r (cond b (Some (fresh_core (replicate g (moment 0)))) None)) seen) (sym is)
+    stays (with_core r (replicate g (moment 0)) seen.pool) seen still.early (EachPlace-put_at IsPending r (joined_core (replicate g (moment 0))) seen.pool.resources still.pending refl)
+    ∙ ap (λ (b : Bool). with_cores (slice_set seen.pool.resources r (cond b (Some (joined_core (replicate g (moment 0)))) None)) seen) (sym is)
 
 -- another does not
-pub no_core_came : (cores g r : ℕ) (seen : Seen) → at_place seen.pool.resources r ≡ None → has_core cores r ≡ false → seen ≡ with_cores (slice_set seen.pool.resources r (opening_core g cores r)) seen
+pub no_core_came : (cores g r : ℕ) (seen : Seen) → at_place seen.pool.resources r ≡ None → has_core_bit cores r ≡ false → seen ≡ with_cores (slice_set seen.pool.resources r (opening_core g cores r)) seen
 no_core_came cores g r seen absent is =
     ap (λ (list : List (Option Resource)). with_cores list seen) (sym (set-get_or seen.pool.resources r None))
     ∙ ap (λ (o : Option Resource). with_cores (slice_set seen.pool.resources r o) seen) absent
-    ∙ ap (λ (b : Bool). with_cores (slice_set seen.pool.resources r (cond b (Some (fresh_core (replicate g (moment 0)))) None)) seen) (sym is)
+    ∙ ap (λ (b : Bool). with_cores (slice_set seen.pool.resources r (cond b (Some (joined_core (replicate g (moment 0)))) None)) seen) (sym is)
 
 -- the places below r made by f, and so many empty ones
 abbrev pub places_to : {X : Type 0} → (ℕ → Option X) → ℕ → ℕ → List (Option X)
@@ -69,10 +69,10 @@ module _ {X : Type 0} (f : ℕ → Option X) where
       omega (arith, all, made, empty)
 
 core_pending : (g cores r : ℕ) (c : Resource) → opening_core g cores r ≡ Some c → c.pending ≡ true
-core_pending g cores r c is = by_set (has_core cores r) is
+core_pending g cores r c is = by_set (has_core_bit cores r) is
   where
-    by_set : (b : Bool) → cond b (Some (fresh_core (replicate g (moment 0)))) None ≡ Some c → c.pending ≡ true
-    by_set true e = let same : fresh_core (replicate g (moment 0)) ≡ c = cc in sym (ap (λ (x : Resource). x.pending) same)
+    by_set : (b : Bool) → cond b (Some (joined_core (replicate g (moment 0)))) None ≡ Some c → c.pending ≡ true
+    by_set true e = let same : joined_core (replicate g (moment 0)) ≡ c = cc in sym (ap (λ (x : Resource). x.pending) same)
     by_set false e = absurd (cc)
 
 -- those that came are to decide

@@ -11,9 +11,9 @@ use Rattle.sched_model.specs.declared.machine.Machine.{Machine}
 use Rattle.sched_model.specs.declared.state.Domain.{Domain}
 use Rattle.sched_model.specs.declared.state.Resource.{Resource}
 use Rattle.sched_model.specs.CheckedMachine.{IsChecked}
-use Rattle.sched_model.specs.Opening.{core_count, opening}
+use Rattle.sched_model.specs.Opening.{machine_core_count, opening}
 use Rattle.sched_model.specs.Places.{at_place}
-use Rattle.sched_model.specs.Policy.{default_pool_params, fresh_records}
+use Rattle.sched_model.specs.Policy.{standard_pool_params, empty_records}
 use Rattle.sched_laws.proofs.EachPlace.{EachPlace-empty, is_empty}
 use Rattle.sched_laws.proofs.Records.{kind_default}
 use Rattle.journal_core.specs.Parts.{tool_of}
@@ -30,15 +30,15 @@ use Rattle.machine_opening.proofs.Tallying.{few_configured, in_use_new}
 places_empty : (X : Type 0) (n k : ℕ) → at_place {X = X} (replicate n None) k ≡ None
 places_empty X n k = is_empty (at_place {X = X} (replicate n None) k) (λ x at. EachPlace-empty {X = X} (λ y. ⊥) n k x at)
 
-core_places : (kind : SchedKind) (domains cores : ℕ) → HasCorePlaces cores (fresh_records (default_pool_params kind) domains cores)
+core_places : (kind : SchedKind) (domains cores : ℕ) → HasCorePlaces cores (empty_records (standard_pool_params kind) domains cores)
 core_places kinds.Null domains cores = length-replicate cores None
 core_places a domains cores = tt
 
 pub idle_spare : (config : Config) (kind : SchedKind) → IsIdle kind (spare_seen config kind)
 idle_spare config kind = record {
   unused = refl;
-  empty = record { domains = places_empty Domain (length config.domains); cores = places_empty Resource (core_count config) };
-  kind_is = kind_default kind (length config.domains) (core_count config);
+  empty = record { domains = places_empty Domain (length config.domains); cores = places_empty Resource (machine_core_count config) };
+  kind_is = kind_default kind (length config.domains) (machine_core_count config);
   room = refl;
 }
 
@@ -48,8 +48,8 @@ spare_suits m kind = record {
   suits = record {
     domains = length-replicate (length m.config.domains) None;
     affinity = length-replicate (length m.config.domains) None;
-    cores = length-replicate (core_count m.config) None;
-    records = core_places kind (length m.config.domains) (core_count m.config);
+    cores = length-replicate (machine_core_count m.config) None;
+    records = core_places kind (length m.config.domains) (machine_core_count m.config);
     granularity = refl;
     latest = omega arith;
   };

@@ -7,10 +7,10 @@ use Rattle.sched_model.specs.declared.config.SchedKind.{SchedKind}
 use Rattle.sched_model.specs.declared.state.Pool.{Pool}
 use Rattle.sched_model.specs.declared.state.Resource.{Resource}
 use Rattle.sched_model.specs.Actions.{units_from, configured_units}
-use Rattle.sched_model.specs.Opening.{opening_pool, with_configured, with_domains, fresh_domain}
+use Rattle.sched_model.specs.Opening.{pool_at_opening, pool_with_configured, pool_with_domains, domain_at_opening}
 use Rattle.sched_model.specs.Places.{at_place}
-use Rattle.sched_model.specs.Policy.{kind_of}
-use Rattle.sched_model.specs.Pool.{with_domain}
+use Rattle.sched_model.specs.Policy.{records_kind}
+use Rattle.sched_model.specs.Pool.{pool_with_domain}
 use Rattle.sched_laws.specs.EachPlace.{EachPlace}
 use Rattle.unit_state.specs.Guests.{units_in, most_units}
 use Rattle.pool_core.specs.Seen.{Seen}
@@ -40,22 +40,22 @@ units_at_home g i (joining ∷ domains) = units_if_home g i joining + units_at_h
 -- the pool with the domain d, whose units may run on all cores; with the sets of cores of its units; with these where its home is the pool i;
 -- with the domains from d on whose home that is
 abbrev pub after_joining : ℕ → ℕ → DomConfig → Seen → Seen
-after_joining g d joining seen = record seen { pool = with_domain g 0 d (fresh_domain joining) joining.params seen.pool; spare = seen.spare - configured_units g joining }
+after_joining g d joining seen = record seen { pool = pool_with_domain g 0 d (domain_at_opening joining) joining.params seen.pool; spare = seen.spare - configured_units g joining }
 
 abbrev pub configured_pool : ℕ → ℕ → DomConfig → Seen → Seen
-configured_pool g d joining seen = record seen { pool = with_configured g d joining seen.pool; spare = seen.spare - configured_units g joining }
+configured_pool g d joining seen = record seen { pool = pool_with_configured g d joining seen.pool; spare = seen.spare - configured_units g joining }
 
 abbrev pub configured_if : ℕ → ℕ → ℕ → DomConfig → Seen → Seen
 configured_if g i d joining seen = (if joining.home.0 == i then configured_pool g d joining seen else seen)
 
 abbrev pub with_all : ℕ → ℕ → ℕ → List DomConfig → Seen → Seen
-with_all g i d domains seen = record seen { pool = with_domains g i d domains seen.pool; spare = seen.spare - units_at_home g i domains }
+with_all g i d domains seen = record seen { pool = pool_with_domains g i d domains seen.pool; spare = seen.spare - units_at_home g i domains }
 
 -- the pool i of the machine at its opening
 abbrev pub opening_seen : Config → ℕ → PoolConfig → Seen
 opening_seen config i home =
     record {
-      pool = opening_pool config i home;
+      pool = pool_at_opening config i home;
       granularity = config.granularity;
       spare = most_units - units_at_home config.granularity i config.domains;
       latest = 0;
@@ -76,7 +76,7 @@ pub record IsStill (seen : Seen) : Type 0 where
 pub record IsOpening (config : Config) (home : PoolConfig) (d : ℕ) (seen : Seen) : Type 0 where
   pub still : IsStill seen
   pub granularity : seen.granularity ≡ config.granularity
-  pub kind : kind_of seen.pool.scheduler.records ≡ home.kind
+  pub kind : records_kind seen.pool.scheduler.records ≡ home.kind
   pub places : length seen.pool.domains ≡ length config.domains
   pub sets : length seen.pool.scheduler.affinity ≡ length config.domains
   pub absent : (n : ℕ) → d ≤ n → at_place seen.pool.domains n ≡ None

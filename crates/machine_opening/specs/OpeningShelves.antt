@@ -3,8 +3,8 @@ use Rattle.std.specs.Prelude.{ℕ, zero, suc, ◌≡◌, ◌≤◌, ◌-◌, [],
 use Rattle.sched_model.specs.declared.config.Config.{Config}
 use Rattle.sched_model.specs.declared.config.SchedKind.{SchedKind}
 use Rattle.sched_model.specs.declared.config.SchedKind.TheVariants as kinds
-use Rattle.sched_model.specs.Opening.{core_count}
-use Rattle.sched_model.specs.Policy.{default_pool_params}
+use Rattle.sched_model.specs.Opening.{machine_core_count}
+use Rattle.sched_model.specs.Policy.{standard_pool_params}
 use Rattle.pool_core.specs.Seen.{Seen, vacant_pool}
 use Rattle.machine_parts.specs.declared.counts.KindCounts.{KindCounts}
 use Rattle.machine_parts.specs.Counts.{configured_of}
@@ -14,7 +14,7 @@ use Rattle.machine_parts.specs.Spares.{Shelf, Shelves, shelves_with}
 
 -- a pool of the scheduler that is not in use: it has the machine's places for domains and cores, and room for all units of a machine
 abbrev pub spare_seen : Config → SchedKind → Seen
-spare_seen config kind = vacant_pool (default_pool_params kind) config.granularity (length config.domains) (core_count config) most_units
+spare_seen config kind = vacant_pool (standard_pool_params kind) config.granularity (length config.domains) (machine_core_count config) most_units
 
 -- with so many of them more
 abbrev pub filled_shelves : Config → SchedKind → ℕ → Shelves → Shelves

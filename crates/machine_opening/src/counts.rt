@@ -3,7 +3,7 @@
 ghost use Rattle.std.specs.Prelude.{◌≡◌, ◌≤◌, length};
 ghost use Rattle.sched_model.specs.declared.config.SchedKind.{SchedKind as Kind};
 ghost use Rattle.sched_model.specs.CheckedMachine.{IsChecked};
-ghost use Rattle.sched_model.specs.Commands.{is_kind as is_kind_spec};
+ghost use Rattle.sched_model.specs.Commands.{is_same_kind};
 ghost use Rattle.machine_parts.specs.Counts.{configured_of, made_by, makes_at, most_at_once};
 ghost use Rattle.machine_parts.specs.Kinds.{count_of};
 
@@ -15,7 +15,7 @@ use sched_model::work::{CommandLine, Work};
 
 /// Whether the two are the same scheduler.
 fn is_kind(kind: SchedKind, other: SchedKind) -> bool
-    ensures { result ≡ is_kind_spec kind other }
+    ensures { result ≡ is_same_kind kind other }
 {
     kind == other
 }

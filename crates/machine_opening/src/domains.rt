@@ -2,8 +2,8 @@
 
 ghost use Rattle.std.specs.Prelude.{◌≡◌, ◌≤◌, ◌<◌, ◌+◌, ◌∷◌, [], true, Some, OnOk, length, slice_get};
 ghost use Rattle.sched_model.specs.CheckedMachine.{IsCheckedConfig, IsCheckedDomain};
-ghost use Rattle.sched_model.specs.Opening.{with_pins};
-ghost use Rattle.sched_ops.specs.Conditions.{has_joined};
+ghost use Rattle.sched_model.specs.Opening.{pool_with_pins};
+ghost use Rattle.sched_ops.specs.Conditions.{has_joined_domain};
 ghost use Rattle.sched_ops.specs.Seen.{units_of};
 ghost use Rattle.machine_opening.specs.OpeningPool.{IsOpening, IsStill, configured_pool, configured_if, after_joining, units_at_home, units_if_home, with_all, with_pool};
 ghost use Rattle.sched_model.specs.Actions.{configured_units};
@@ -35,7 +35,7 @@ fn give<P: Policy>(
     ensures after { OnOk result (pool.new
         ≡ after_joining config.now.granularity d.0 joining.now pool.old) }
     ensures still { OnOk result (IsStill pool.new) }
-    ensures joined { OnOk result (has_joined pool.new.pool.scheduler d.0 ≡ true) }
+    ensures joined { OnOk result (has_joined_domain pool.new.pool.scheduler d.0 ≡ true) }
     ensures units { OnOk result (units_of pool.new.pool.scheduler d.0
         ≡ configured_units config.now.granularity joining.now) }
 {
@@ -56,11 +56,11 @@ fn give<P: Policy>(
 /// The unit n of the domain may run on these cores alone.
 fn pin<P: Policy>(d: DomId, n: u8, cores: Cores, pool: &mut PoolState<P>)
     requires still { IsStill pool.old }
-    requires joined { has_joined pool.old.pool.scheduler d.0 ≡ true }
+    requires joined { has_joined_domain pool.old.pool.scheduler d.0 ≡ true }
     requires units { n < units_of pool.old.pool.scheduler d.0 }
-    ensures after { pool.new ≡ with_pool (with_pins d.0 n (cores ∷ []) pool.old.pool) pool.old }
+    ensures after { pool.new ≡ with_pool (pool_with_pins d.0 n (cores ∷ []) pool.old.pool) pool.old }
     ensures still { IsStill pool.new }
-    ensures joined { has_joined pool.new.pool.scheduler d.0 ≡ true }
+    ensures joined { has_joined_domain pool.new.pool.scheduler d.0 ≡ true }
     ensures units { units_of pool.new.pool.scheduler d.0 ≡ units_of pool.old.pool.scheduler d.0 }
 {
     let change = ParamChange::Pin {
@@ -75,9 +75,9 @@ fn pin<P: Policy>(d: DomId, n: u8, cores: Cores, pool: &mut PoolState<P>)
 fn pin_all<P: Policy>(d: DomId, n: u8, pins: &[Cores], pool: &mut PoolState<P>)
     requires few { n + length pins.now ≤ 32 }
     requires still { IsStill pool.old }
-    requires joined { has_joined pool.old.pool.scheduler d.0 ≡ true }
+    requires joined { has_joined_domain pool.old.pool.scheduler d.0 ≡ true }
     requires units { n + length pins.now ≤ units_of pool.old.pool.scheduler d.0 }
-    ensures { pool.new ≡ with_pool (with_pins d.0 n pins.now pool.old.pool) pool.old }
+    ensures { pool.new ≡ with_pool (pool_with_pins d.0 n pins.now pool.old.pool) pool.old }
 {
     match pins {
         [] => {}

@@ -3,9 +3,9 @@
 ghost use Rattle.std.specs.Prelude.{◌≡◌, ◌+◌, Some, true, IfOk, length, slice_get};
 ghost use Rattle.sched_model.specs.CheckedMachine.{IsCheckedConfig};
 ghost use Rattle.sched_model.specs.declared.work.Work.{Work};
-ghost use Rattle.sched_model.specs.Opening.{core_count as core_count_spec, opening};
+ghost use Rattle.sched_model.specs.Opening.{machine_core_count, opening};
 ghost use Rattle.sched_model.specs.Places.{at_place};
-ghost use Rattle.sched_model.specs.Policy.{default_pool_params, kind_of};
+ghost use Rattle.sched_model.specs.Policy.{standard_pool_params, records_kind};
 ghost use Rattle.sched_ops.specs.Conditions.{is_vacant};
 ghost use Rattle.unit_state.specs.Guests.{units_in, most_units};
 ghost use Rattle.pool_core.specs.Seen.{vacant_pool};
@@ -27,7 +27,7 @@ const MOST_UNITS: usize = 256;
 fn places_of(config: &Config) -> Places
     requires { IsCheckedConfig config.now }
     ensures domains { result.domains ≡ length config.now.domains }
-    ensures cores { result.cores ≡ core_count_spec config.now }
+    ensures cores { result.cores ≡ machine_core_count config.now }
 {
     Places {
         domains: config.domains.len() as u8,
@@ -45,7 +45,7 @@ fn open_home<P: Policy>(
 ) -> Result<PoolState<P>, NoMemory>
     requires config { IsCheckedConfig config.now }
     requires home { slice_get config.now.pools i ≡ Some home.now }
-    requires kind { kind_of (P.seen policy).scheduler.records ≡ home.now.kind }
+    requires kind { records_kind (P.seen policy).scheduler.records ≡ home.now.kind }
     requires vacant { is_vacant (P.seen policy).scheduler ≡ true }
     requires early { (P.seen policy).latest ≡ 0 }
     ensures seen { IfOk result (λ opened. opened ≡ opening_seen config.now i home.now) }
@@ -79,7 +79,7 @@ pub fn opened<P: Policy>(
 ) -> Result<PoolState<P>, NoMemory>
     requires config { IsCheckedConfig config.now }
     requires kind { slice_get (kinds_of config.now) i
-        ≡ Some (kind_of (P.seen policy).scheduler.records) }
+        ≡ Some (records_kind (P.seen policy).scheduler.records) }
     requires vacant { is_vacant (P.seen policy).scheduler ≡ true }
     requires early { (P.seen policy).latest ≡ 0 }
     ensures pool { IfOk result (λ opened. (work : Work) →
@@ -104,8 +104,8 @@ pub fn spare<P: Policy>(alloc: Global, config: &Config, policy: P) -> Result<Poo
     requires vacant { is_vacant (P.seen policy).scheduler ≡ true }
     requires early { (P.seen policy).latest ≡ 0 }
     ensures { IfOk result (λ spare. spare
-        ≡ vacant_pool (default_pool_params (kind_of (P.seen policy).scheduler.records))
-        config.now.granularity (length config.now.domains) (core_count_spec config.now)
+        ≡ vacant_pool (standard_pool_params (records_kind (P.seen policy).scheduler.records))
+        config.now.granularity (length config.now.domains) (machine_core_count config.now)
         most_units) }
 {
     let places = places_of(config);

@@ -12,7 +12,7 @@ use Rattle.sched_model.specs.declared.state.State.{State}
 use Rattle.sched_base.specs.Numbers.{pool as pool_number, core}
 use Rattle.sched_base.specs.declared.PoolId.{PoolId}
 use Rattle.sched_model.specs.declared.machine.Machine.{Machine}
-use Rattle.sched_model.specs.Actions.{home_of, home_of_core, home_of_domain}
+use Rattle.sched_model.specs.Actions.{home_pool_of_action, home_pool_of_core, home_pool_of_domain}
 use Rattle.sched_model.specs.Machine.{enabled_at_home}
 use Rattle.sched_model.specs.Places.{at_place, test_at}
 use Rattle.sched_model.specs.Pool.{enabled_in}
@@ -35,10 +35,10 @@ module _ (w : Told) (slots : List (Option Seen)) (tool : Tool) (parts : AreParts
   below i pool at = (let low = place_below s.pools i pool at in let places = (range-of w parts.goes).pool_places in let count = parts.stand.count in omega (arith, low, places, count))
 
   -- the home of a core or a domain is one of the places
-  pub core_below : (r i : ℕ) → home_of_core s r ≡ Some i → i < length slots
+  pub core_below : (r i : ℕ) → home_pool_of_core s r ≡ Some i → i < length slots
   core_below r i is = (let f = found_at i _ s.pools is in below i f.0 f.1)
 
-  pub domain_below : (d i : ℕ) → home_of_domain s d ≡ Some i → i < length slots
+  pub domain_below : (d i : ℕ) → home_pool_of_domain s d ≡ Some i → i < length slots
   domain_below d i is = (let f = found_at i _ s.pools is in below i f.0 f.1)
 
   module _ (i : ℕ) (low : i < length slots) where
@@ -67,7 +67,7 @@ module _ (w : Told) (slots : List (Option Seen)) (tool : Tool) (parts : AreParts
             ∙ sym (ap (λ (x : Option Pool). elim x as (λ _. Bool) [ None ↦ false | Some pool ↦ may pool ]) there)
 
 -- from when on a core may leave the pool of its home
-pub leaves-there : (w : Told) (slots : List (Option Seen)) (tool : Tool) → AreParts w slots tool → (r i : ℕ) → i < length slots → (result : Option Moment) → home_of_core (state_of w) r ≡ Some i
+pub leaves-there : (w : Told) (slots : List (Option Seen)) (tool : Tool) → AreParts w slots tool → (r i : ℕ) → i < length slots → (result : Option Moment) → home_pool_of_core (state_of w) r ≡ Some i
     → ForSome (at_place slots i) (λ seen. result ≡ ready_in seen.granularity seen.pool (Moved (core r))) → (at_place slots i ≡ None → result ≡ None) → result ≡ leaves_at w.input.config.granularity (state_of w) r
 leaves-there w slots tool parts r i low result home some none = by_slot (at_place slots i) refl ∙ sym (ap (λ (o : Option ℕ). elim o as (λ _. Option Moment) [ None ↦ None | Some k ↦ by_pool (at_place s.pools k) ]) home)
   where
@@ -83,7 +83,7 @@ leaves-there w slots tool parts r i low result home some none = by_slot (at_plac
         let suits : SlotSuits w.input s.now seen = (stands w slots tool parts i low).suits seen is in
         some seen is ∙ ap (λ (g : ℕ). ready_in g seen.pool (Moved (core r))) suits.granularity ∙ sym (ap by_pool (pool-there w slots tool parts i low ∙ ap pool_at is))
 
-pub leaves-nowhere : (g : ℕ) (s : State) (r : ℕ) → home_of_core s r ≡ None → None ≡ leaves_at g s r
+pub leaves-nowhere : (g : ℕ) (s : State) (r : ℕ) → home_pool_of_core s r ≡ None → None ≡ leaves_at g s r
 leaves-nowhere g s r home =
     sym (ap (λ (o : Option ℕ). elim o as (λ _. Option Moment) [ None ↦ None | Some i ↦ elim (at_place s.pools i) as (λ _. Option Moment) [ None ↦ None | Some pool ↦ ready_in g pool (Moved (core r)) ] ]) home)
 
@@ -122,12 +122,12 @@ module _ (w : Told) (slots : List (Option Seen)) (tool : Tool) (parts : AreParts
       by_slot (Some seen) is = absurd (let there : at_place (state_of w).pools i ≡ Some seen.pool = pool-anywhere i ∙ ap pool_at is in cc)
 
 -- an action with a home may come where the pool lets it, and one with none may not
-pub at-home : (m : Machine) (s : State) (t : ℕ) (action : Action) (i : ℕ) (result : Bool) → home_of m.config.granularity s action ≡ Some i
+pub at-home : (m : Machine) (s : State) (t : ℕ) (action : Action) (i : ℕ) (result : Bool) → home_pool_of_action m.config.granularity s action ≡ Some i
     → result ≡ test_at s.pools i (λ pool. enabled_in m.config.granularity t pool action) → result ≡ enabled_at_home m s t action
 at-home m s t action i result home is =
     is ∙ sym (ap (λ (o : Option ℕ). elim o as (λ _. Bool) [ None ↦ false | Some k ↦ test_at s.pools k (λ pool. enabled_in m.config.granularity t pool action) ]) home)
 
-pub no-home : (m : Machine) (s : State) (t : ℕ) (action : Action) → home_of m.config.granularity s action ≡ None → false ≡ enabled_at_home m s t action
+pub no-home : (m : Machine) (s : State) (t : ℕ) (action : Action) → home_pool_of_action m.config.granularity s action ≡ None → false ≡ enabled_at_home m s t action
 no-home m s t action home =
     sym (ap (λ (o : Option ℕ). elim o as (λ _. Bool) [ None ↦ false | Some k ↦ test_at s.pools k (λ pool. enabled_in m.config.granularity t pool action) ]) home)
 

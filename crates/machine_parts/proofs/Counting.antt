@@ -4,7 +4,7 @@ use Rattle.std.specs.Prelude.{Option, Some, None, filter, slice_get, take, cond}
 use Rattle.sched_model.specs.declared.config.SchedKind.{SchedKind}
 use Rattle.sched_model.specs.declared.machine.Machine.{Machine}
 use Rattle.sched_model.specs.declared.work.CommandLine.{CommandLine}
-use Rattle.sched_model.specs.Commands.{is_kind}
+use Rattle.sched_model.specs.Commands.{is_same_kind}
 use Rattle.sched_model.specs.Opening.{most_pools}
 use Rattle.sched_model.specs.Places.{at_place}
 use Rattle.sched_laws.proofs.EachPlace.{by_cond}
@@ -18,7 +18,7 @@ in_use-low kind [] = omega arith
 in_use-low kind (None ∷ places) = (let rest = in_use-low kind places in omega (arith, rest))
 in_use-low kind (Some outline ∷ places) =
     let rest = in_use-low kind places in
-    by_cond (λ (n : ℕ). n ≤ length (Some outline ∷ places)) (is_kind kind outline.kind) _ _ (λ same. omega (arith, rest)) (λ other. omega (arith, rest))
+    by_cond (λ (n : ℕ). n ≤ length (Some outline ∷ places)) (is_same_kind kind outline.kind) _ _ (λ same. omega (arith, rest)) (λ other. omega (arith, rest))
 
 in_use-fewer : (kind : SchedKind) (places : List (Option Outline)) (i : ℕ) → at_place places i ≡ None → i < length places → in_use_of kind places < length places
 in_use-fewer kind [] i at inside = absurd (omega (arith, inside))
@@ -27,7 +27,7 @@ in_use-fewer kind (Some outline ∷ places) zero at inside = absurd (cc)
 in_use-fewer kind (None ∷ places) (suc i) at inside = (let rest = in_use-fewer kind places i at (omega (arith, inside)) in omega (arith, rest))
 in_use-fewer kind (Some outline ∷ places) (suc i) at inside =
     let rest = in_use-fewer kind places i at (omega (arith, inside)) in
-    by_cond (λ (n : ℕ). n < length (Some outline ∷ places)) (is_kind kind outline.kind) _ _ (λ same. omega (arith, rest)) (λ other. omega (arith, rest))
+    by_cond (λ (n : ℕ). n < length (Some outline ∷ places)) (is_same_kind kind outline.kind) _ _ (λ same. omega (arith, rest)) (λ other. omega (arith, rest))
 
 -- the command at n is one more than those before it
 made-more : (kind : SchedKind) (lines : List CommandLine) (n : ℕ) (line : CommandLine) → slice_get lines n ≡ Some line → makes_at kind line ≡ true → made_by kind (take n lines) < made_by kind lines

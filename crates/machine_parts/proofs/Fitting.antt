@@ -6,7 +6,7 @@ use Rattle.sched_model.specs.declared.config.DomConfig.{DomConfig}
 use Rattle.sched_model.specs.declared.state.Domain.{Domain}
 use Rattle.sched_model.specs.Actions.{units_from}
 use Rattle.sched_model.specs.Places.{at_place}
-use Rattle.sched_model.specs.Pool.{unit_count}
+use Rattle.sched_model.specs.Pool.{domain_unit_count}
 use Rattle.sched_laws.proofs.Opened.{units_from-more}
 use Rattle.state_ranges.specs.Ranges.{DomainInRange, PoolInRange}
 use Rattle.pool_core.specs.Seen.{Seen, IsNow}
@@ -18,7 +18,7 @@ use Rattle.machine_parts.proofs.Going.{early, range-of}
 use Rattle.machine_parts.proofs.Standing.{stands-there}
 use Rattle.sched_model.specs.Actions.{configured_units}
 
-same-units : (g : ℕ) (x : Domain) (b c : DomConfig) → length x.vcpus ≡ length b.guests → b ≡ c → unit_count g x ≡ configured_units g c
+same-units : (g : ℕ) (x : Domain) (b c : DomConfig) → length x.vcpus ≡ length b.guests → b ≡ c → domain_unit_count g x ≡ configured_units g c
 same-units g x b c count same = ap (λ k. (k + g - 1) / g) (count ∙ ap (λ (y : DomConfig). length y.guests) same)
 
 -- each domain at a place has as many vCPUs as the domain of the file with that number
@@ -70,7 +70,7 @@ units-room g n (suc d) (Some x ∷ places) (b ∷ configs) c follows absent at =
 
 -- a domain of the machine that is not in the pool has room there
 pub room-here : (w : Told) → GoesOn w → (i : ℕ) (seen : Seen) → StandsAt w i (Some seen) → IsPlaced seen → (d : ℕ) (x : Domain) → at_place seen.pool.domains d ≡ None → DomainInRange w.input (state_of w).now d x
-    → unit_count seen.granularity x ≤ seen.spare
+    → domain_unit_count seen.granularity x ≤ seen.spare
 room-here w goes i seen stands placed d x absent range =
     let pool : PoolInRange w.input (state_of w).now seen.pool = (range-of w goes).pools i seen.pool (stands-there w i (Some seen) stands) in
     let m = w.input in
@@ -81,8 +81,8 @@ room-here w goes i seen stands placed d x absent range =
     let same = same-units g x range.config range.config range.count refl in
     let suits = stands.suits seen refl in
     let all = placed.roomy.room in
-    let fits : unit_count g x ≤ seen.spare = (let here = subst (λ (k : ℕ). units_in k seen.pool.domains + seen.spare ≡ most_units) suits.granularity all in omega (arith, room, few, same, here)) in
-    subst (λ (k : ℕ). unit_count k x ≤ seen.spare) (sym suits.granularity) fits
+    let fits : domain_unit_count g x ≤ seen.spare = (let here = subst (λ (k : ℕ). units_in k seen.pool.domains + seen.spare ≡ most_units) suits.granularity all in omega (arith, room, few, same, here)) in
+    subst (λ (k : ℕ). domain_unit_count k x ≤ seen.spare) (sym suits.granularity) fits
 
 -- there is a place for it, and the moment is not before the latest one given
 pub place-here : (w : Told) → GoesOn w → (i : ℕ) (seen : Seen) → StandsAt w i (Some seen) → (d : ℕ) (x : Domain) → DomainInRange w.input (state_of w).now d x → d < length seen.pool.domains

@@ -6,7 +6,7 @@ use Rattle.sched_model.specs.declared.event.Entry.{Entry}
 use Rattle.sched_model.specs.declared.machine.Machine.{Machine}
 use Rattle.sched_model.specs.declared.state.State.{State}
 use Rattle.sched_model.specs.CheckedMachine.{most_span}
-use Rattle.sched_model.specs.Machine.{is_enabled, event_of, after}
+use Rattle.sched_model.specs.Machine.{is_action_enabled, event_of, after}
 use Rattle.sched_model.specs.Runs.{Reached, IsNext, run_start, after_entry}
 use Rattle.sched_model.proofs.RunLemmas.{after_entries-append, IsRunFrom-append, IsNext-action, after_entry-action}
 use Rattle.state_ranges.specs.Ranges.{StateInRange}
@@ -43,7 +43,7 @@ pub early : (w : Told) → GoesOn w → (state_of w).now ≤ most_span
 early w goes = (let now = (range-of w goes).now in let last = goes.checked.config.horizon.most in omega (arith, now, last))
 
 -- one entry on
-module _ (w : Told) (goes : GoesOn w) (action : Action) (on : is_enabled w.input (state_of w) (state_of w).now action ≡ true) (e : Entry) (is : e ≡ record { at = moment (state_of w).now; event = event_of w.input (state_of w) (state_of w).now action }) where
+module _ (w : Told) (goes : GoesOn w) (action : Action) (on : is_action_enabled w.input (state_of w) (state_of w).now action ≡ true) (e : Entry) (is : e ≡ record { at = moment (state_of w).now; event = event_of w.input (state_of w) (state_of w).now action }) where
   abbrev m : Machine
   m = w.input
 

@@ -8,7 +8,7 @@ use Rattle.sched_model.specs.declared.config.SchedKind.{SchedKind}
 use Rattle.sched_model.specs.declared.config.SchedKind.TheVariants as kinds
 use Rattle.sched_model.specs.declared.machine.Machine.{Machine}
 use Rattle.sched_model.specs.declared.work.CommandLine.{CommandLine}
-use Rattle.sched_model.specs.Commands.{is_kind}
+use Rattle.sched_model.specs.Commands.{is_same_kind}
 use Rattle.sched_model.specs.Places.{at_place, clear_at, put_at}
 use Rattle.journal_core.specs.Parts.{Outline, ToolPart}
 use Rattle.pool_core.specs.Seen.{Seen}
@@ -21,42 +21,42 @@ one-more true x y more = ap suc more
 one-more false x y more = more
 
 -- how many are in use after a pool came to an empty place, and after one went
-in_use-put : (kind : SchedKind) (outline : Outline) (places : List (Option Outline)) (i : ℕ) → at_place places i ≡ None → i < length places → is_kind kind outline.kind ≡ true
+in_use-put : (kind : SchedKind) (outline : Outline) (places : List (Option Outline)) (i : ℕ) → at_place places i ≡ None → i < length places → is_same_kind kind outline.kind ≡ true
     → in_use_of kind (put_at i outline places) ≡ suc (in_use_of kind places)
 in_use-put kind outline [] i empty inside same = absurd (omega (arith, inside))
 in_use-put kind outline (None ∷ places) zero empty inside same = ap (λ b. cond b (suc (in_use_of kind places)) (in_use_of kind places)) same
 in_use-put kind outline (Some other ∷ places) zero empty inside same = absurd (cc)
 in_use-put kind outline (None ∷ places) (suc i) empty inside same = in_use-put kind outline places i empty (omega (arith, inside)) same
-in_use-put kind outline (Some other ∷ places) (suc i) empty inside same = one-more (is_kind kind other.kind) _ _ (in_use-put kind outline places i empty (omega (arith, inside)) same)
+in_use-put kind outline (Some other ∷ places) (suc i) empty inside same = one-more (is_same_kind kind other.kind) _ _ (in_use-put kind outline places i empty (omega (arith, inside)) same)
 
-in_use-put_other : (kind : SchedKind) (outline : Outline) (places : List (Option Outline)) (i : ℕ) → at_place places i ≡ None → i < length places → is_kind kind outline.kind ≡ false
+in_use-put_other : (kind : SchedKind) (outline : Outline) (places : List (Option Outline)) (i : ℕ) → at_place places i ≡ None → i < length places → is_same_kind kind outline.kind ≡ false
     → in_use_of kind (put_at i outline places) ≡ in_use_of kind places
 in_use-put_other kind outline [] i empty inside other = refl
 in_use-put_other kind outline (None ∷ places) zero empty inside other = ap (λ b. cond b (suc (in_use_of kind places)) (in_use_of kind places)) other
 in_use-put_other kind outline (Some there ∷ places) zero empty inside other = absurd (cc)
 in_use-put_other kind outline (None ∷ places) (suc i) empty inside other = in_use-put_other kind outline places i empty (omega (arith, inside)) other
 in_use-put_other kind outline (Some there ∷ places) (suc i) empty inside other =
-    ap (λ n. cond (is_kind kind there.kind) (suc n) n) (in_use-put_other kind outline places i empty (omega (arith, inside)) other)
+    ap (λ n. cond (is_same_kind kind there.kind) (suc n) n) (in_use-put_other kind outline places i empty (omega (arith, inside)) other)
 
-in_use-clear : (kind : SchedKind) (outline : Outline) (places : List (Option Outline)) (i : ℕ) → at_place places i ≡ Some outline → is_kind kind outline.kind ≡ true
+in_use-clear : (kind : SchedKind) (outline : Outline) (places : List (Option Outline)) (i : ℕ) → at_place places i ≡ Some outline → is_same_kind kind outline.kind ≡ true
     → in_use_of kind places ≡ suc (in_use_of kind (clear_at i places))
 in_use-clear kind outline [] i at same = absurd (cc)
 in_use-clear kind outline (None ∷ places) zero at same = absurd (cc)
 in_use-clear kind outline (Some there ∷ places) zero at same =
     let is : there ≡ outline = cc in
-    ap (λ b. cond b (suc (in_use_of kind places)) (in_use_of kind places)) (ap (λ (o : Outline). is_kind kind o.kind) is ∙ same)
+    ap (λ b. cond b (suc (in_use_of kind places)) (in_use_of kind places)) (ap (λ (o : Outline). is_same_kind kind o.kind) is ∙ same)
 in_use-clear kind outline (None ∷ places) (suc i) at same = in_use-clear kind outline places i at same
-in_use-clear kind outline (Some there ∷ places) (suc i) at same = one-more (is_kind kind there.kind) _ _ (in_use-clear kind outline places i at same)
+in_use-clear kind outline (Some there ∷ places) (suc i) at same = one-more (is_same_kind kind there.kind) _ _ (in_use-clear kind outline places i at same)
 
-in_use-clear_other : (kind : SchedKind) (outline : Outline) (places : List (Option Outline)) (i : ℕ) → at_place places i ≡ Some outline → is_kind kind outline.kind ≡ false
+in_use-clear_other : (kind : SchedKind) (outline : Outline) (places : List (Option Outline)) (i : ℕ) → at_place places i ≡ Some outline → is_same_kind kind outline.kind ≡ false
     → in_use_of kind (clear_at i places) ≡ in_use_of kind places
 in_use-clear_other kind outline [] i at other = refl
 in_use-clear_other kind outline (None ∷ places) zero at other = refl
 in_use-clear_other kind outline (Some there ∷ places) zero at other =
     let is : there ≡ outline = cc in
-    sym (ap (λ b. cond b (suc (in_use_of kind places)) (in_use_of kind places)) (ap (λ (o : Outline). is_kind kind o.kind) is ∙ other))
+    sym (ap (λ b. cond b (suc (in_use_of kind places)) (in_use_of kind places)) (ap (λ (o : Outline). is_same_kind kind o.kind) is ∙ other))
 in_use-clear_other kind outline (None ∷ places) (suc i) at other = in_use-clear_other kind outline places i at other
-in_use-clear_other kind outline (Some there ∷ places) (suc i) at other = ap (λ n. cond (is_kind kind there.kind) (suc n) n) (in_use-clear_other kind outline places i at other)
+in_use-clear_other kind outline (Some there ∷ places) (suc i) at other = ap (λ n. cond (is_same_kind kind there.kind) (suc n) n) (in_use-clear_other kind outline places i at other)
 
 -- one command more makes no fewer pools, and one more where it makes one
 made-grows : (kind : SchedKind) (lines : List CommandLine) (n : ℕ) → made_by kind (take n lines) ≤ made_by kind (take (suc n) lines)
@@ -83,7 +83,7 @@ made-next kind (l ∷ lines) (suc n) line at makes = both (makes_at kind l) (mad
     both false rest = rest
 
 -- a scheduler is this one, or another whose shelf stays
-pub kind-itself : (kind : SchedKind) → is_kind kind kind ≡ true
+pub kind-itself : (kind : SchedKind) → is_same_kind kind kind ≡ true
 kind-itself kinds.Credit2 = refl
 kind-itself kind = refl
 
@@ -92,7 +92,7 @@ shelf-filled kinds.Credit2 seen shelves = refl
 shelf-filled kind seen shelves = refl
 
 pub record IsOther (other kind : SchedKind) : Type 0 where
-  pub differs : is_kind other kind ≡ false
+  pub differs : is_same_kind other kind ≡ false
   pub stays : (seen : Seen) (shelves : Shelves) → shelf_of other (shelves_with kind seen shelves) ≡ shelf_of other shelves
 
 pub this-or-other : (other kind : SchedKind) → (other ≡ kind) ⊎ IsOther other kind
@@ -157,7 +157,7 @@ module _ (m : Machine) (now : ℕ) (kind : SchedKind) (part : ToolPart) (shelves
     one-made : HasSpares m kind next (shelf_of kind left)
     one-made =
         let has : HasSpares m kind part (shelf_with seen (shelf_of kind left)) = subst (HasSpares m kind part) shelf-was (are.counts kind) in
-        let in_use : in_use_of kind next.pools ≡ suc (in_use_of kind part.pools) = ap (in_use_of kind) comes ∙ in_use-put kind outline part.pools i empty inside (ap (is_kind kind) is ∙ kind-itself kind) in
+        let in_use : in_use_of kind next.pools ≡ suc (in_use_of kind part.pools) = ap (in_use_of kind) comes ∙ in_use-put kind outline part.pools i empty inside (ap (is_same_kind kind) is ∙ kind-itself kind) in
         let sum = has.sum in
         let made = has.made in
         let count = length_push (shelf_of kind left).pools seen in
@@ -171,7 +171,7 @@ module _ (m : Machine) (now : ℕ) (kind : SchedKind) (part : ToolPart) (shelves
     no-other_made : (other : SchedKind) → IsOther other kind → HasSpares m other next (shelf_of other left)
     no-other_made other differs =
         has-passed m other part next (shelf_of other left)
-        (ap (in_use_of other) comes ∙ in_use-put_other other outline part.pools i empty inside (ap (is_kind other) is ∙ differs.differs)) over
+        (ap (in_use_of other) comes ∙ in_use-put_other other outline part.pools i empty inside (ap (is_same_kind other) is ∙ differs.differs)) over
         (subst (HasSpares m other part) (ap (shelf_of other) taken ∙ differs.stays seen left) (are.counts other))
 
     pub spares-created : AreSpares m now next left
@@ -185,7 +185,7 @@ module _ (m : Machine) (now : ℕ) (kind : SchedKind) (part : ToolPart) (shelves
 -- the pool that a command destroyed is a spare one, for which there is room
 module _ (m : Machine) (now : ℕ) (kind : SchedKind) (part : ToolPart) (shelves : Shelves) (are : AreSpares m now part shelves) (i : ℕ) (outline : Outline) (there : at_place part.pools i ≡ Some outline) (is : outline.kind ≡ kind) where
   was-in_use : in_use_of kind part.pools ≡ suc (in_use_of kind (clear_at i part.pools))
-  was-in_use = in_use-clear kind outline part.pools i there (ap (is_kind kind) is ∙ kind-itself kind)
+  was-in_use = in_use-clear kind outline part.pools i there (ap (is_same_kind kind) is ∙ kind-itself kind)
 
   pub spares-room : length (shelf_of kind shelves).pools < (shelf_of kind shelves).capacity
   spares-room =
@@ -215,7 +215,7 @@ module _ (m : Machine) (now : ℕ) (kind : SchedKind) (part : ToolPart) (shelves
     no-other_back other differs =
         subst (HasSpares m other next) (sym (differs.stays seen shelves))
         (has-passed m other part next (shelf_of other shelves)
-        (ap (in_use_of other) goes ∙ in_use-clear_other other outline part.pools i there (ap (is_kind other) is ∙ differs.differs)) over (are.counts other))
+        (ap (in_use_of other) goes ∙ in_use-clear_other other outline part.pools i there (ap (is_same_kind other) is ∙ differs.differs)) over (are.counts other))
 
     pub spares-destroyed : AreSpares m now next (shelves_with kind seen shelves)
     spares-destroyed = record {

@@ -9,16 +9,16 @@ use Rattle.sched_model.specs.declared.event.Entry.{Entry}
 use Rattle.sched_model.specs.declared.machine.Machine.{Machine}
 use Rattle.sched_model.specs.declared.state.FreeCore.{FreeCore}
 use Rattle.sched_model.specs.declared.state.State.{State}
-use Rattle.sched_model.specs.Actions.{home_of_core}
+use Rattle.sched_model.specs.Actions.{home_pool_of_core}
 use Rattle.sched_model.specs.CheckedMachine.{IsChecked}
-use Rattle.sched_model.specs.Machine.{is_enabled, enabled_at_home, free_ready}
+use Rattle.sched_model.specs.Machine.{is_action_enabled, enabled_at_home, is_free_core_ready}
 use Rattle.sched_model.specs.Places.{at_place, test_at}
 use Rattle.sched_model.specs.Runs.{IsRun}
 use Rattle.sched_laws.specs.StateLaws.{state_after}
 use Rattle.sched_base.proofs.Bools.{and_left}
 use Rattle.sched_laws.proofs.Lists.{some-test_at}
 use Rattle.sched_laws.proofs.PoolsLaw.{pools_keep_their_own}
-use Rattle.journal_core.specs.Parts.{ToolPart, UnderWay, core_to, domain_to, under_way_of}
+use Rattle.journal_core.specs.Parts.{ToolPart, UnderWay, core_to, domain_to, state_under_way}
 use Rattle.cpupool.specs.declared.moves.Move.TheVariants as move
 use Rattle.journal_core.specs.ToolActions.{joins_at, may_join}
 use Rattle.cpupool.specs.Steps.{move_of}
@@ -26,7 +26,7 @@ use Rattle.cpupool.proofs.ArrivedLemmas.{core_joins}
 use Rattle.composition_laws.proofs.Counted.{in_all, in_all_is}
 use Rattle.composition_laws.proofs.Whose.{joining_answers}
 use Rattle.composition_laws.proofs.MoveLaw.{has_one_move}
-use Rattle.composition_laws.specs.WholeFirst.{move_first}
+use Rattle.composition_laws.specs.WholeFirst.{first_tool_move}
 use Rattle.machine_parts.specs.Told.{Told}
 use Rattle.machine_parts.specs.Places.{GoesOn, state_of}
 use Rattle.machine_parts.proofs.Going.{state_of-is}
@@ -53,29 +53,29 @@ module _ (m : Machine) (checked : IsChecked m) (entries : List Entry) (run : IsR
   few : in_all s ≤ 1
   few = let same = in_all_is s in let most = (has_one_move m checked entries run).most in omega (arith, same, most)
 
-  not-both : (r : ℕ) (c : FreeCore) (o : Option ℕ) → under_way_of s ≡ Some (core_to r None) → at_place s.free r ≡ Some c → c.target ≡ o → is_some o ≡ true → ⊥
+  not-both : (r : ℕ) (c : FreeCore) (o : Option ℕ) → state_under_way s ≡ Some (core_to r None) → at_place s.free r ≡ Some c → c.target ≡ o → is_some o ≡ true → ⊥
   not-both r c None way at target aims = cc
   not-both r c (Some i) way at target aims =
-      let joins : under_way_of s ≡ Some (core_to r (Some i)) = joining_answers s few r (record { core = c; target = i; at = at; aims = target }) in
+      let joins : state_under_way s ≡ Some (core_to r (Some i)) = joining_answers s few r (record { core = c; target = i; at = at; aims = target }) in
       cc
 
   -- a core that leaves its pool is asked of the pool alone
-  leaving-alone : (r : ℕ) → under_way_of s ≡ Some (core_to r None) → is_enabled m s t (Moved (core_number r)) ≡ enabled_at_home m s t (Moved (core_number r))
-  leaving-alone r way = by_free (test_at s.free r (free_ready t)) refl
+  leaving-alone : (r : ℕ) → state_under_way s ≡ Some (core_to r None) → is_action_enabled m s t (Moved (core_number r)) ≡ enabled_at_home m s t (Moved (core_number r))
+  leaving-alone r way = by_free (test_at s.free r (is_free_core_ready t)) refl
     where
-      by_free : (b : Bool) → test_at s.free r (free_ready t) ≡ b → (b || enabled_at_home m s t (Moved (core_number r))) ≡ enabled_at_home m s t (Moved (core_number r))
+      by_free : (b : Bool) → test_at s.free r (is_free_core_ready t) ≡ b → (b || enabled_at_home m s t (Moved (core_number r))) ≡ enabled_at_home m s t (Moved (core_number r))
       by_free false is = refl
       by_free true is =
-          let f = some-test_at s.free r (free_ready t) is in
+          let f = some-test_at s.free r (is_free_core_ready t) is in
           let aims : is_some (f.0).target ≡ true = and_left (is_some (f.0).target) _ f.2 in
           absurd (not-both r (f.0) (f.0).target way f.1 refl aims)
 
   -- a core of no pool is asked of the tool alone
-  joining-alone : (r i : ℕ) → under_way_of s ≡ Some (core_to r (Some i)) → is_enabled m s t (Moved (core_number r)) ≡ may_join s t
+  joining-alone : (r i : ℕ) → state_under_way s ≡ Some (core_to r (Some i)) → is_action_enabled m s t (Moved (core_number r)) ≡ may_join s t
   joining-alone r i way =
       let found = core_joins s r i way in
-      let none : home_of_core s r ≡ None = (pools_keep_their_own m checked entries run).free r found.0 found.1 in
-      ap (λ (b : Bool). test_at s.free r (free_ready t) || b) (sym (no-home m s t (Moved (core_number r)) none)) ∙ or-false (test_at s.free r (free_ready t))
+      let none : home_pool_of_core s r ≡ None = (pools_keep_their_own m checked entries run).free r found.0 found.1 in
+      ap (λ (b : Bool). test_at s.free r (is_free_core_ready t) || b) (sym (no-home m s t (Moved (core_number r)) none)) ∙ or-false (test_at s.free r (is_free_core_ready t))
       ∙ sym (ap (joins_at s t) way)
     where
       or-false : (b : Bool) → (b || false) ≡ b
@@ -83,22 +83,22 @@ module _ (m : Machine) (checked : IsChecked m) (entries : List Entry) (run : IsR
       or-false false = refl
 
   -- the move of what is on its way, by what is asked of it
-  pub first-leaving : (r : ℕ) (ready : Bool) → under_way_of s ≡ Some (core_to r None) → ready ≡ enabled_at_home m s t (Moved (core_number r)) → cond ready (Some (Moved (core_number r))) None ≡ move_first m s t (under_way_of s)
-  first-leaving r ready way is = ap (λ (b : Bool). cond b (Some (Moved (core_number r))) None) (is ∙ sym (leaving-alone r way)) ∙ sym (ap (move_first m s t) way)
+  pub first-leaving : (r : ℕ) (ready : Bool) → state_under_way s ≡ Some (core_to r None) → ready ≡ enabled_at_home m s t (Moved (core_number r)) → cond ready (Some (Moved (core_number r))) None ≡ first_tool_move m s t (state_under_way s)
+  first-leaving r ready way is = ap (λ (b : Bool). cond b (Some (Moved (core_number r))) None) (is ∙ sym (leaving-alone r way)) ∙ sym (ap (first_tool_move m s t) way)
 
-  pub first-joining : (r i : ℕ) (ready : Bool) → under_way_of s ≡ Some (core_to r (Some i)) → ready ≡ may_join s t → cond ready (Some (Moved (core_number r))) None ≡ move_first m s t (under_way_of s)
-  first-joining r i ready way is = ap (λ (b : Bool). cond b (Some (Moved (core_number r))) None) (is ∙ sym (joining-alone r i way)) ∙ sym (ap (move_first m s t) way)
+  pub first-joining : (r i : ℕ) (ready : Bool) → state_under_way s ≡ Some (core_to r (Some i)) → ready ≡ may_join s t → cond ready (Some (Moved (core_number r))) None ≡ first_tool_move m s t (state_under_way s)
+  first-joining r i ready way is = ap (λ (b : Bool). cond b (Some (Moved (core_number r))) None) (is ∙ sym (joining-alone r i way)) ∙ sym (ap (first_tool_move m s t) way)
 
 -- the same in the state that a trail leads to
 module _ (w : Told) (goes : GoesOn w) (t : ℕ) where
-  pub leaving-first : (r : ℕ) (ready : Bool) → under_way_of (state_of w) ≡ Some (core_to r None) → ready ≡ enabled_at_home w.input (state_of w) t (Moved (core_number r))
-      → cond ready (Some (Moved (core_number r))) None ≡ move_first w.input (state_of w) t (under_way_of (state_of w))
+  pub leaving-first : (r : ℕ) (ready : Bool) → state_under_way (state_of w) ≡ Some (core_to r None) → ready ≡ enabled_at_home w.input (state_of w) t (Moved (core_number r))
+      → cond ready (Some (Moved (core_number r))) None ≡ first_tool_move w.input (state_of w) t (state_under_way (state_of w))
   leaving-first r ready =
-      subst (λ (s : State). under_way_of s ≡ Some (core_to r None) → ready ≡ enabled_at_home w.input s t (Moved (core_number r)) → cond ready (Some (Moved (core_number r))) None ≡ move_first w.input s t (under_way_of s))
+      subst (λ (s : State). state_under_way s ≡ Some (core_to r None) → ready ≡ enabled_at_home w.input s t (Moved (core_number r)) → cond ready (Some (Moved (core_number r))) None ≡ first_tool_move w.input s t (state_under_way s))
       (sym (state_of-is w)) (first-leaving w.input goes.checked w.history goes.run t r ready)
 
-  pub joining-first : (r i : ℕ) (ready : Bool) → under_way_of (state_of w) ≡ Some (core_to r (Some i)) → ready ≡ may_join (state_of w) t
-      → cond ready (Some (Moved (core_number r))) None ≡ move_first w.input (state_of w) t (under_way_of (state_of w))
+  pub joining-first : (r i : ℕ) (ready : Bool) → state_under_way (state_of w) ≡ Some (core_to r (Some i)) → ready ≡ may_join (state_of w) t
+      → cond ready (Some (Moved (core_number r))) None ≡ first_tool_move w.input (state_of w) t (state_under_way (state_of w))
   joining-first r i ready =
-      subst (λ (s : State). under_way_of s ≡ Some (core_to r (Some i)) → ready ≡ may_join s t → cond ready (Some (Moved (core_number r))) None ≡ move_first w.input s t (under_way_of s))
+      subst (λ (s : State). state_under_way s ≡ Some (core_to r (Some i)) → ready ≡ may_join s t → cond ready (Some (Moved (core_number r))) None ≡ first_tool_move w.input s t (state_under_way s))
       (sym (state_of-is w)) (first-joining w.input goes.checked w.history goes.run t r i ready)

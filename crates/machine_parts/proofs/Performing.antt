@@ -6,19 +6,19 @@ use Rattle.sched_model.specs.declared.action.Action.{Action}
 use Rattle.sched_model.specs.declared.action.Action.TheVariants.{Stall, Xl, Moved, DomMoved}
 use Rattle.sched_model.specs.declared.machine.Machine.{Machine}
 use Rattle.sched_model.specs.declared.state.State.{State}
-use Rattle.sched_model.specs.Actions.{IsOfPool, candidates, home_of}
-use Rattle.sched_model.specs.Machine.{is_enabled, first_enabled}
+use Rattle.sched_model.specs.Actions.{IsOfPool, candidates, home_pool_of_action}
+use Rattle.sched_model.specs.Machine.{is_action_enabled, first_enabled_action}
 use Rattle.sched_model.proofs.RunLemmas.{find_passes}
 use Rattle.pool_core.specs.Seen.{Seen}
 use Rattle.machine_parts.specs.Places.{SlotSuits}
-use Rattle.machine_parts.specs.Parts.{pool_of_event}
+use Rattle.machine_parts.specs.Parts.{event_pool}
 
 -- the first action may come
-pub first-comes : (m : Machine) (s : State) (action : Action) → first_enabled m s s.now ≡ Some action → is_enabled m s s.now action ≡ true
-first-comes m s action first = find_passes (is_enabled m s s.now) (candidates m.config) action first
+pub first-comes : (m : Machine) (s : State) (action : Action) → first_enabled_action m s s.now ≡ Some action → is_action_enabled m s s.now action ≡ true
+first-comes m s action first = find_passes (is_action_enabled m s s.now) (candidates m.config) action first
 
 -- an event that is of a pool is none of the tool's, and its home is that pool
-pub own-event : (g : ℕ) (s : State) (action : Action) (i : ℕ) → pool_of_event g s action ≡ Some i → IsOfPool action × (home_of g s action ≡ Some i)
+pub own-event : (g : ℕ) (s : State) (action : Action) (i : ℕ) → event_pool g s action ≡ Some i → IsOfPool action × (home_pool_of_action g s action ≡ Some i)
 own-event g s Stall i is = absurd (cc)
 own-event g s Xl i is = absurd (cc)
 own-event g s (Moved r) i is = absurd (cc)

@@ -9,9 +9,9 @@ use Rattle.sched_model.specs.declared.state.Pool.{Pool}
 use Rattle.sched_model.specs.declared.state.Records.{Records}
 use Rattle.sched_model.specs.declared.state.Records.TheVariants.{NullPool}
 use Rattle.sched_model.specs.declared.state.Scheduler.{Scheduler}
-use Rattle.sched_model.specs.Opening.{core_count, empty_pool}
+use Rattle.sched_model.specs.Opening.{machine_core_count, fresh_pool}
 use Rattle.sched_model.specs.Places.{at_place}
-use Rattle.sched_model.specs.Policy.{fresh_records, kind_of}
+use Rattle.sched_model.specs.Policy.{empty_records, records_kind}
 use Rattle.sched_ops.specs.Conditions.{ArePoolParams}
 use Rattle.sched_ops.specs.Seen.{core_places, restarted_scheduler}
 use Rattle.state_ranges.specs.Ranges.{PoolInRange, RecordsInRange}
@@ -31,47 +31,47 @@ no-units g (None ∷ places) none = (let rest = no-units g places (λ n. none (s
 no-units g (Some d ∷ places) none = absurd (let here = none 0 in cc)
 
 -- the records of a pool with new parameters are those of the machine's empty pool
-fresh-places : (cores domains : ℕ) (params : PoolParams) (records : Records) → HasCorePlaces cores records → ArePoolParams (kind_of records) params → fresh_records params domains (core_places records) ≡ fresh_records params domains cores
-fresh-places cores domains pool_params.Null (NullPool kept) places params = ap (fresh_records pool_params.Null domains) places
+fresh-places : (cores domains : ℕ) (params : PoolParams) (records : Records) → HasCorePlaces cores records → ArePoolParams (records_kind records) params → empty_records params domains (core_places records) ≡ empty_records params domains cores
+fresh-places cores domains pool_params.Null (NullPool kept) places params = ap (empty_records pool_params.Null domains) places
 fresh-places cores domains pool_params.Null records places params = absurd params
 fresh-places cores domains other records places params = refl
 
-module _ (m : Machine) (now : ℕ) (params : PoolParams) (seen : Seen) (spare : IsSpare m now (kind_of seen.pool.scheduler.records) seen) (given : ArePoolParams (kind_of seen.pool.scheduler.records) params) where
+module _ (m : Machine) (now : ℕ) (params : PoolParams) (seen : Seen) (spare : IsSpare m now (records_kind seen.pool.scheduler.records) seen) (given : ArePoolParams (records_kind seen.pool.scheduler.records) params) where
   abbrev made : Pool
   made = record seen.pool { scheduler = restarted_scheduler params seen.pool.scheduler }
 
-  made-scheduler : restarted_scheduler params seen.pool.scheduler ≡ (empty_pool m.config params).scheduler
+  made-scheduler : restarted_scheduler params seen.pool.scheduler ≡ (fresh_pool m.config params).scheduler
   made-scheduler =
-      ap (λ (n : ℕ). let x : Scheduler = record { queue = []; affinity = replicate n None; records = fresh_records params n (core_places seen.pool.scheduler.records) } in x) spare.suits.affinity
+      ap (λ (n : ℕ). let x : Scheduler = record { queue = []; affinity = replicate n None; records = empty_records params n (core_places seen.pool.scheduler.records) } in x) spare.suits.affinity
       ∙ ap (λ (records : Records). let x : Scheduler = record { queue = []; affinity = replicate (length m.config.domains) None; records = records } in x)
-      (fresh-places (core_count m.config) (length m.config.domains) params seen.pool.scheduler.records spare.suits.records given)
+      (fresh-places (machine_core_count m.config) (length m.config.domains) params seen.pool.scheduler.records spare.suits.records given)
 
-  made-domains : seen.pool.domains ≡ (empty_pool m.config params).domains
+  made-domains : seen.pool.domains ≡ (fresh_pool m.config params).domains
   made-domains = all_empty seen.pool.domains spare.idle.empty.domains ∙ ap (λ n. replicate n None) spare.suits.domains
 
-  made-cores : seen.pool.resources ≡ (empty_pool m.config params).resources
+  made-cores : seen.pool.resources ≡ (fresh_pool m.config params).resources
   made-cores = all_empty seen.pool.resources spare.idle.empty.cores ∙ ap (λ n. replicate n None) spare.suits.cores
 
-  made-pool : made ≡ empty_pool m.config params
+  made-pool : made ≡ fresh_pool m.config params
   made-pool =
       ap (λ (s : Scheduler). let x : Pool = record { scheduler = s; domains = seen.pool.domains; resources = seen.pool.resources } in x) made-scheduler
-      ∙ ap₂ (λ ds cs. let x : Pool = record { scheduler = (empty_pool m.config params).scheduler; domains = ds; resources = cs } in x) made-domains made-cores
+      ∙ ap₂ (λ ds cs. let x : Pool = record { scheduler = (fresh_pool m.config params).scheduler; domains = ds; resources = cs } in x) made-domains made-cores
 
   pub opened-is : reopened_pool params seen ≡ made_seen m.config params seen.latest
   opened-is =
       ap (λ (p : Pool). let x : Seen = record { pool = p; granularity = seen.granularity; spare = seen.spare; latest = seen.latest; in_use = true } in x) made-pool
-      ∙ ap₂ (λ g n. let x : Seen = record { pool = empty_pool m.config params; granularity = g; spare = n; latest = seen.latest; in_use = true } in x) spare.suits.granularity spare.idle.room
+      ∙ ap₂ (λ g n. let x : Seen = record { pool = fresh_pool m.config params; granularity = g; spare = n; latest = seen.latest; in_use = true } in x) spare.suits.granularity spare.idle.room
 
   pub opened-placed : IsPlaced (reopened_pool params seen)
   opened-placed = record { used = refl; roomy = record { room = (let none = no-units seen.granularity seen.pool.domains spare.idle.empty.domains in let room = spare.idle.room in omega (arith, none, room)) } }
 
 -- a pool of the machine that is in use no longer
-core-places : (m : Machine) (t : ℕ) (records : Records) → RecordsInRange m t records → HasCorePlaces (core_count m.config) records
+core-places : (m : Machine) (t : ℕ) (records : Records) → RecordsInRange m t records → HasCorePlaces (machine_core_count m.config) records
 core-places m t (NullPool kept) range = range
 core-places m t records range = tt
 
 pub shut-spare : (w : Told) → GoesOn w → (i : ℕ) (seen : Seen) → StandsAt w i (Some seen) → IsEmpty seen.pool → IsPlaced seen
-    → IsSpare w.input (state_of w).now (kind_of seen.pool.scheduler.records) (record seen { in_use = false })
+    → IsSpare w.input (state_of w).now (records_kind seen.pool.scheduler.records) (record seen { in_use = false })
 shut-spare w goes i seen stands empty placed =
     let range : PoolInRange w.input (state_of w).now seen.pool = (range-of w goes).pools i seen.pool (stands-there w i (Some seen) stands) in
     let suits = stands.suits seen refl in

@@ -3,7 +3,7 @@ use Rattle.std.proofs.Common.{◌≡◌, ◌≤◌, ℕ, zero, suc, Bool, true, 
 use Rattle.std.specs.Prelude.{Option, Some, None, nat_le}
 use Rattle.sched_base.specs.declared.Moment.{Moment}
 use Rattle.sched_model.specs.Places.{at_place}
-use Rattle.core_state.specs.Firsts.{earlier_moment}
+use Rattle.core_state.specs.Firsts.{earlier_of_both}
 use Rattle.composition_laws.specs.WholeNext.{ComesSoonest, IsSoonest}
 
 goes_before : (a : Option Moment) (b : Moment) (moments : List (Option Moment)) → ((x : Moment) → a ≡ Some x → b.0 ≤ x.0) → ComesSoonest moments b → ComesSoonest (a ∷ moments) b
@@ -20,7 +20,7 @@ comes_first a moments before = record { place = 0; there = refl; least = later }
     later zero other at = (let same : a ≡ other = cc in subst (λ (x : Moment). a.0 ≤ x.0) same (omega arith))
     later (suc i) other at = before i other at
 
-pub sooner_more : (a : Option Moment) (moments : List (Option Moment)) (found : Option Moment) → IsSoonest moments found → IsSoonest (a ∷ moments) (earlier_moment a found)
+pub sooner_more : (a : Option Moment) (moments : List (Option Moment)) (found : Option Moment) → IsSoonest moments found → IsSoonest (a ∷ moments) (earlier_of_both a found)
 sooner_more None moments None all = λ i. elim i as (λ (k : ℕ). at_place (None ∷ moments) k ≡ None) [ zero ↦ refl | suc k ↦ all k ]
 sooner_more None moments (Some b) found = goes_before None b moments (λ x is. absurd (cc)) found
 sooner_more (Some a) moments None all = comes_first a moments (λ i other at. absurd (let none = all i in cc))

@@ -11,8 +11,8 @@ use Rattle.sched_model.specs.declared.state.Pool.{Pool}
 use Rattle.sched_model.specs.declared.state.State.{State}
 use Rattle.sched_model.specs.Places.{at_place}
 use Rattle.sched_model.specs.Pool.{enabled_in, event_in, after_in, settled_pool}
-use Rattle.sched_model.specs.Actions.{IsOfPool, home_of}
-use Rattle.sched_model.specs.Machine.{is_enabled, event_of, after}
+use Rattle.sched_model.specs.Actions.{IsOfPool, home_pool_of_action}
+use Rattle.sched_model.specs.Machine.{is_action_enabled, event_of, after}
 use Rattle.journal_core.specs.Parts.{StatePart, pool_part, tool_part, tool_of, part_of}
 use Rattle.journal_core.specs.Histories.{part_at}
 use Rattle.pool_core.specs.Seen.{Seen, IsNow, seen_after}
@@ -50,7 +50,7 @@ module _ (w : Told) (goes : GoesOn w) (i t : ℕ) (now : t ≡ (state_of w).now)
   abbrev s : State
   s = state_of w
 
-  module _ (action : Action) (own : IsOfPool action) (on : is_enabled m s s.now action ≡ true) (home : home_of m.config.granularity s action ≡ Some i) where
+  module _ (action : Action) (own : IsOfPool action) (on : is_action_enabled m s s.now action ≡ true) (home : home_pool_of_action m.config.granularity s action ≡ Some i) where
     comes : ComesInPool m s s.now i action
     comes = comes-there w goes action i on home
 
@@ -94,7 +94,7 @@ module _ (w : Told) (goes : GoesOn w) (i t : ℕ) (now : t ≡ (state_of w).now)
         suits-slot = subst (SlotSuits m s.now) (sym is) (record { granularity = suits.granularity; latest = (omega (arith, now)) })
 
 -- after an entry of a pool's event each place is its part
-module _ (w : Told) (goes : GoesOn w) (action : Action) (own : IsOfPool action) (on : is_enabled w.input (state_of w) (state_of w).now action ≡ true) (i : ℕ) (home : home_of w.input.config.granularity (state_of w) action ≡ Some i) (e : Entry) (is : e ≡ record { at = moment (state_of w).now; event = event_of w.input (state_of w) (state_of w).now action }) where
+module _ (w : Told) (goes : GoesOn w) (action : Action) (own : IsOfPool action) (on : is_action_enabled w.input (state_of w) (state_of w).now action ≡ true) (i : ℕ) (home : home_pool_of_action w.input.config.granularity (state_of w) action ≡ Some i) (e : Entry) (is : e ≡ record { at = moment (state_of w).now; event = event_of w.input (state_of w) (state_of w).now action }) where
   abbrev next : Told
   next = told_more w e
 

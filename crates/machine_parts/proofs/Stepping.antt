@@ -8,8 +8,8 @@ use Rattle.sched_base.specs.Numbers.{moment}
 use Rattle.sched_model.specs.declared.action.Action.{Action}
 use Rattle.sched_model.specs.declared.event.Event.{Event}
 use Rattle.sched_model.specs.declared.event.Entry.{Entry}
-use Rattle.sched_model.specs.Actions.{IsOfPool, home_of}
-use Rattle.sched_model.specs.Machine.{is_enabled, event_of, after}
+use Rattle.sched_model.specs.Actions.{IsOfPool, home_pool_of_action}
+use Rattle.sched_model.specs.Machine.{is_action_enabled, event_of, after}
 use Rattle.sched_model.specs.Places.{at_place}
 use Rattle.sched_laws.proofs.EachPlace.{place_below}
 use Rattle.journal_core.specs.Parts.{pool_part, part_of}
@@ -21,7 +21,7 @@ use Rattle.machine_parts.proofs.AtHome.{comes-there}
 use Rattle.machine_parts.proofs.Standing.{here-on, other-on, stepped}
 use Rattle.machine_parts.proofs.Rooming.{some-out}
 
-module _ (w : Told) (goes : GoesOn w) (t : ℕ) (now : t ≡ (state_of w).now) (action : Action) (own : IsOfPool action) (on : is_enabled w.input (state_of w) (state_of w).now action ≡ true) (i : ℕ) (home : home_of w.input.config.granularity (state_of w) action ≡ Some i) where
+module _ (w : Told) (goes : GoesOn w) (t : ℕ) (now : t ≡ (state_of w).now) (action : Action) (own : IsOfPool action) (on : is_action_enabled w.input (state_of w) (state_of w).now action ≡ true) (i : ℕ) (home : home_pool_of_action w.input.config.granularity (state_of w) action ≡ Some i) where
   -- the pool is one of the 16
   pub few-pools : i < 16
   few-pools = (let comes = comes-there w goes action i on home in let below = place_below (state_of w).pools i comes.pool comes.at in let places = (range-of w goes).pool_places in omega (arith, below, places))

@@ -7,7 +7,7 @@ use Rattle.sched_model.specs.declared.config.SchedKind.{SchedKind}
 use Rattle.sched_model.specs.declared.config.SchedKind.TheVariants as kinds
 use Rattle.sched_model.specs.declared.machine.Machine.{Machine}
 use Rattle.sched_model.specs.declared.work.CommandLine.{CommandLine}
-use Rattle.sched_model.specs.Commands.{is_kind}
+use Rattle.sched_model.specs.Commands.{is_same_kind}
 use Rattle.sched_model.specs.Opening.{most_pools}
 use Rattle.journal_core.specs.Parts.{Outline, ToolPart}
 use Rattle.std.specs.List.{All}
@@ -17,20 +17,20 @@ use Rattle.machine_parts.specs.Spares.{IsSpare, Shelf, Shelves, shelf_of}
 abbrev pub in_use_of : SchedKind → List (Option Outline) → ℕ
 in_use_of kind [] = 0
 in_use_of kind (None ∷ places) = in_use_of kind places
-in_use_of kind (Some outline ∷ places) = (if is_kind kind outline.kind then suc (in_use_of kind places) else in_use_of kind places)
+in_use_of kind (Some outline ∷ places) = (if is_same_kind kind outline.kind then suc (in_use_of kind places) else in_use_of kind places)
 
 -- how many of the domain file's pools have the scheduler
 abbrev pub configured_of : SchedKind → List PoolConfig → ℕ
-configured_of kind pools = length (filter (λ (pool : PoolConfig). is_kind kind pool.kind) pools)
+configured_of kind pools = length (filter (λ (pool : PoolConfig). is_same_kind kind pool.kind) pools)
 
 -- whether the command makes a pool of the scheduler: of Credit2 where it names none
-abbrev pub makes : SchedKind → Command → Bool
-makes kind (command.PoolCreate name given) = is_kind kind (unwrap_or given kinds.Credit2)
-makes kind _ = false
+abbrev pub is_made_by : SchedKind → Command → Bool
+is_made_by kind (command.PoolCreate name given) = is_same_kind kind (unwrap_or given kinds.Credit2)
+is_made_by kind _ = false
 
 -- how many of the lines have such a command
 abbrev pub makes_at : SchedKind → CommandLine → Bool
-makes_at kind line = elim line.command [ Err fault ↦ false | Ok c ↦ makes kind c ]
+makes_at kind line = elim line.command [ Err fault ↦ false | Ok c ↦ is_made_by kind c ]
 
 abbrev pub made_by : SchedKind → List CommandLine → ℕ
 made_by kind lines = length (filter (makes_at kind) lines)

@@ -4,7 +4,7 @@ use Rattle.sched_base.specs.declared.Moment.{Moment}
 use Rattle.sched_model.specs.declared.action.Action.{Action}
 use Rattle.sched_model.specs.declared.action.Action.TheVariants.{Stall, Xl, Moved, DomMoved}
 use Rattle.sched_model.specs.declared.state.State.{State}
-use Rattle.sched_model.specs.Actions.{home_of}
+use Rattle.sched_model.specs.Actions.{home_pool_of_action}
 use Rattle.sched_model.specs.Places.{at_place}
 use Rattle.cpupool.specs.Tool.{Tool, tool_of}
 use Rattle.pool_laws.specs.FirstEvents.{IsFirstEnabled, IsNextMoment}
@@ -39,9 +39,9 @@ IsNextOfPlace None next = next ≡ None
 IsNextOfPlace (Some seen) next = IsNextMoment seen.granularity seen.pool next
 
 -- the pool that the event is of; none of an action of the tool
-abbrev pub pool_of_event : ℕ → State → Action → Option ℕ
-pool_of_event g s Stall = None
-pool_of_event g s Xl = None
-pool_of_event g s (Moved r) = None
-pool_of_event g s (DomMoved d) = None
-pool_of_event g s action = home_of g s action
+abbrev pub event_pool : ℕ → State → Action → Option ℕ
+event_pool g s Stall = None
+event_pool g s Xl = None
+event_pool g s (Moved r) = None
+event_pool g s (DomMoved d) = None
+event_pool g s action = home_pool_of_action g s action

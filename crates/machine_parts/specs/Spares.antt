@@ -8,8 +8,8 @@ use Rattle.sched_model.specs.declared.config.SchedKind.TheVariants as kinds
 use Rattle.sched_model.specs.declared.machine.Machine.{Machine}
 use Rattle.sched_model.specs.declared.state.Records.{Records}
 use Rattle.sched_model.specs.declared.state.Records.TheVariants.{NullPool}
-use Rattle.sched_model.specs.Opening.{core_count, empty_pool}
-use Rattle.sched_model.specs.Policy.{kind_of}
+use Rattle.sched_model.specs.Opening.{machine_core_count, fresh_pool}
+use Rattle.sched_model.specs.Policy.{records_kind}
 use Rattle.pool_core.specs.Seen.{Seen, IsEmpty}
 use Rattle.unit_state.specs.Guests.{most_units}
 
@@ -17,7 +17,7 @@ use Rattle.unit_state.specs.Guests.{most_units}
 pub record IsIdle (kind : SchedKind) (seen : Seen) : Type 0 where
   pub unused : seen.in_use ≡ false
   pub empty : IsEmpty seen.pool
-  pub kind_is : kind_of seen.pool.scheduler.records ≡ kind
+  pub kind_is : records_kind seen.pool.scheduler.records ≡ kind
   pub room : seen.spare ≡ most_units
 
 -- the records of null have a place for each core
@@ -30,8 +30,8 @@ HasCorePlaces cores _ = Unit {0}
 pub record SpareSuits (m : Machine) (now : ℕ) (seen : Seen) : Type 0 where
   pub domains : length seen.pool.domains ≡ length m.config.domains
   pub affinity : length seen.pool.scheduler.affinity ≡ length m.config.domains
-  pub cores : length seen.pool.resources ≡ core_count m.config
-  pub records : HasCorePlaces (core_count m.config) seen.pool.scheduler.records
+  pub cores : length seen.pool.resources ≡ machine_core_count m.config
+  pub records : HasCorePlaces (machine_core_count m.config) seen.pool.scheduler.records
   pub granularity : seen.granularity ≡ m.config.granularity
   pub latest : seen.latest ≤ now
 
@@ -42,7 +42,7 @@ pub record IsSpare (m : Machine) (now : ℕ) (kind : SchedKind) (seen : Seen) : 
 
 -- a pool of the machine with these parameters, in use, without a domain or a core; the greatest moment that was given to it is the latest
 abbrev pub made_seen : Config → PoolParams → ℕ → Seen
-made_seen config params latest = record { pool = empty_pool config params; granularity = config.granularity; spare = most_units; latest = latest; in_use = true }
+made_seen config params latest = record { pool = fresh_pool config params; granularity = config.granularity; spare = most_units; latest = latest; in_use = true }
 
 -- pools of one scheduler, of which the last is taken first, and how many there may be without taking memory
 pub record Shelf : Type 0 where

@@ -10,9 +10,9 @@ use sched_model::event::Event;
 impl PoolSlot {
     ghost use Rattle.std.specs.Prelude.{◌≡◌, true, false, None, Some};
     ghost use Rattle.std.specs.Option.{ForSome, IfSome, IsSome};
-    ghost use Rattle.sched_model.specs.Actions.{IsOfPool, home_of};
-    ghost use Rattle.sched_model.specs.Machine.{is_enabled, event_of, after};
-    ghost use Rattle.sched_model.specs.Policy.{kind_of};
+    ghost use Rattle.sched_model.specs.Actions.{IsOfPool, home_pool_of_action};
+    ghost use Rattle.sched_model.specs.Machine.{is_action_enabled, event_of, after};
+    ghost use Rattle.sched_model.specs.Policy.{records_kind};
     ghost use Rattle.sched_ops.specs.Conditions.{ArePoolParams};
     ghost use Rattle.journal_core.specs.Parts.{part_of};
     ghost use Rattle.pool_core.specs.Seen.{IsEmpty};
@@ -27,9 +27,9 @@ impl PoolSlot {
         requires now { t.0 ≡ (state_of at.now).now }
         requires stands { StandsAt at.now i self.old }
         requires own { IsOfPool action }
-        requires enabled { is_enabled at.now.input (state_of at.now) (state_of at.now).now action
+        requires enabled { is_action_enabled at.now.input (state_of at.now) (state_of at.now).now action
             ≡ true }
-        requires home { home_of at.now.input.config.granularity (state_of at.now) action ≡ Some i }
+        requires home { home_pool_of_action at.now.input.config.granularity (state_of at.now) action ≡ Some i }
         ensures event { result ≡ event_of at.now.input (state_of at.now) (state_of at.now).now
             action }
         ensures part { slot_part self.new
@@ -48,8 +48,8 @@ impl PoolSlot {
     pub fn open_with(&mut self, at: &Trail, spare: AnyPool, params: &PoolParams)
         requires empty { self.old ≡ None }
         requires spare { IsSpare at.now.input (state_of at.now).now
-            (kind_of spare.value.pool.scheduler.records) spare.value }
-        requires params { ArePoolParams (kind_of spare.value.pool.scheduler.records) params.now }
+            (records_kind spare.value.pool.scheduler.records) spare.value }
+        requires params { ArePoolParams (records_kind spare.value.pool.scheduler.records) params.now }
         ensures { self.new ≡ Some (made_seen at.now.input.config params.now spare.value.latest) }
     {
         let mut pool = spare;
@@ -67,7 +67,7 @@ impl PoolSlot {
         ensures after { self.new ≡ None }
         ensures pool { ForSome self.old (λ seen. result.value ≡ record seen { in_use = false }) }
         ensures spare { IsSpare at.now.input (state_of at.now).now
-            (kind_of result.value.pool.scheduler.records) result.value }
+            (records_kind result.value.pool.scheduler.records) result.value }
     {
         let Some(mut pool) = self.state.take() else {
             unreachable!();

@@ -1,8 +1,8 @@
 //! The places of all pools of a machine, of which one acts.
 
 ghost use Rattle.std.specs.Prelude.{◌≡◌, ◌≢◌, ℕ, true, Some};
-ghost use Rattle.sched_model.specs.Actions.{IsOfPool, home_of};
-ghost use Rattle.sched_model.specs.Machine.{is_enabled, event_of, after};
+ghost use Rattle.sched_model.specs.Actions.{IsOfPool, home_pool_of_action};
+ghost use Rattle.sched_model.specs.Machine.{is_action_enabled, event_of, after};
 ghost use Rattle.sched_model.specs.Places.{at_place};
 ghost use Rattle.machine_parts.specs.Told.{told_more};
 ghost use Rattle.machine_parts.specs.Places.{AllStand, GoesOn, HasStepped, state_of};
@@ -20,9 +20,9 @@ pub fn perform_among(slots: &mut [PoolSlot], at: &Trail, i: u8, action: Action, 
     requires now { t.0 ≡ (state_of at.now).now }
     requires stand { AllStand at.now slots.old }
     requires own { IsOfPool action }
-    requires enabled { is_enabled at.now.input (state_of at.now) (state_of at.now).now action
+    requires enabled { is_action_enabled at.now.input (state_of at.now) (state_of at.now).now action
         ≡ true }
-    requires home { home_of at.now.input.config.granularity (state_of at.now) action ≡ Some i }
+    requires home { home_pool_of_action at.now.input.config.granularity (state_of at.now) action ≡ Some i }
     ensures event { result ≡ event_of at.now.input (state_of at.now) (state_of at.now).now action }
     ensures state { state_of (told_more at.now (record { at = t; event = result }))
         ≡ after at.now.input (state_of at.now) (state_of at.now).now action }

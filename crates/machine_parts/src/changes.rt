@@ -12,10 +12,10 @@ impl PoolSlot {
     ghost use Rattle.std.specs.Prelude.{◌≡◌, ◌≤◌, ◌<◌, ◌+◌, ◌-◌, true, None, Some, length, option_map};
     ghost use Rattle.std.specs.Option.{ForSome, IsSome};
     ghost use Rattle.sched_model.specs.declared.action.Action.TheVariants.{DomMoved, Moved};
-    ghost use Rattle.sched_model.specs.Commands.{set_rtds};
+    ghost use Rattle.sched_model.specs.Commands.{pool_with_rtds};
     ghost use Rattle.sched_model.specs.Places.{at_place, numbers_from};
-    ghost use Rattle.sched_model.specs.Policy.{kind_of};
-    ghost use Rattle.sched_model.specs.Pool.{enabled_in, pause as pause_spec, set_leaving as set_leaving_spec, set_moving as set_moving_spec, set_params as set_params_spec, settled_pool, unit_count, unpause as unpause_spec, with_domain, without_domain};
+    ghost use Rattle.sched_model.specs.Policy.{records_kind};
+    ghost use Rattle.sched_model.specs.Pool.{enabled_in, paused_pool, pool_with_leaving, pool_with_moving, changed_pool, settled_pool, domain_unit_count, unpaused_pool, pool_with_domain, pool_without_domain};
     ghost use Rattle.sched_ops.specs.Conditions.{AreDomParams, IsChange};
     ghost use Rattle.state_ranges.specs.Ranges.{DomainInRange};
     ghost use Rattle.pool_records.specs.Cores.{ends_of};
@@ -66,10 +66,10 @@ impl PoolSlot {
     pub fn set_params(&mut self, change: &ParamChange, t: Moment)
         requires now { ForSome self.old (λ seen. IsNow seen t.0) }
         requires change { ForSome self.old
-            (λ seen. IsChange (kind_of seen.pool.scheduler.records) seen.pool.scheduler
+            (λ seen. IsChange (records_kind seen.pool.scheduler.records) seen.pool.scheduler
             change.now) }
         ensures { self.new ≡ option_map (λ seen.
-            seen_at t.0 (settled_pool t.0 (set_params_spec change.now t.0 seen.pool)) seen)
+            seen_at t.0 (settled_pool t.0 (changed_pool change.now t.0 seen.pool)) seen)
             self.old }
     {
         let Some(pool) = &mut self.state else {
@@ -86,7 +86,7 @@ impl PoolSlot {
             (λ seen. first + count ≤ units_at seen.granularity (at_place seen.pool.domains d.0)) }
         requires given { 0 < count → AreGiven given.period given.budget }
         ensures { self.new ≡ option_map (λ seen.
-            seen_at t.0 (settled_pool t.0 (set_rtds t.0 d.0 given.period given.budget given.extra
+            seen_at t.0 (settled_pool t.0 (pool_with_rtds t.0 d.0 given.period given.budget given.extra
             (numbers_from first count) seen.pool)) seen) self.old }
     {
         let Some(pool) = &mut self.state else {
@@ -97,7 +97,7 @@ impl PoolSlot {
 
     /// A core is leaving; it is to decide where it has a unit. The cores are not looked at.
     pub fn set_leaving(&mut self, r: ResId)
-        ensures { self.new ≡ with_pool (λ seen. set_leaving_spec r.0 seen.pool) self.old }
+        ensures { self.new ≡ with_pool (λ seen. pool_with_leaving r.0 seen.pool) self.old }
     {
         let Some(pool) = &mut self.state else {
             return;
@@ -109,7 +109,7 @@ impl PoolSlot {
     pub fn pause(&mut self, d: DomId, t: Moment)
         requires now { ForSome self.old (λ seen. IsNow seen t.0) }
         ensures { self.new ≡ option_map (λ seen.
-            seen_at t.0 (settled_pool t.0 (pause_spec d.0 seen.pool)) seen) self.old }
+            seen_at t.0 (settled_pool t.0 (paused_pool d.0 seen.pool)) seen) self.old }
     {
         let Some(pool) = &mut self.state else {
             return;
@@ -121,7 +121,7 @@ impl PoolSlot {
     pub fn unpause(&mut self, d: DomId, t: Moment)
         requires now { ForSome self.old (λ seen. IsNow seen t.0) }
         ensures { self.new ≡ option_map (λ seen.
-            seen_at t.0 (settled_pool t.0 (unpause_spec seen.granularity d.0 seen.pool)) seen)
+            seen_at t.0 (settled_pool t.0 (unpaused_pool seen.granularity d.0 seen.pool)) seen)
             self.old }
     {
         let Some(pool) = &mut self.state else {
@@ -134,7 +134,7 @@ impl PoolSlot {
     pub fn set_moving(&mut self, d: DomId, to: PoolId, t: Moment)
         requires now { ForSome self.old (λ seen. IsNow seen t.0) }
         ensures { self.new ≡ option_map (λ seen.
-            seen_at t.0 (settled_pool t.0 (set_moving_spec d.0 to.0 seen.pool)) seen) self.old }
+            seen_at t.0 (settled_pool t.0 (pool_with_moving d.0 to.0 seen.pool)) seen) self.old }
     {
         let Some(pool) = &mut self.state else {
             return;
@@ -153,8 +153,8 @@ impl PoolSlot {
             ≡ Some result.domain) }
         ensures part { IsPart result }
         ensures after { self.new ≡ option_map
-            (λ seen. with_spare (seen.spare + unit_count result.granularity result.domain)
-            (record seen { pool = without_domain d.0 seen.pool })) self.old }
+            (λ seen. with_spare (seen.spare + domain_unit_count result.granularity result.domain)
+            (record seen { pool = pool_without_domain d.0 seen.pool })) self.old }
     {
         let Some(pool) = &mut self.state else {
             unreachable!();
@@ -175,10 +175,10 @@ impl PoolSlot {
         requires granularity { part.granularity ≡ at.now.input.config.granularity }
         requires absent { ForSome self.old (λ seen. at_place seen.pool.domains part.d.0 ≡ None) }
         requires params { ForSome self.old
-            (λ seen. AreDomParams (kind_of seen.pool.scheduler.records) params.now) }
+            (λ seen. AreDomParams (records_kind seen.pool.scheduler.records) params.now) }
         ensures { self.new ≡ option_map (λ seen.
-            with_spare (seen.spare - unit_count part.granularity part.domain)
-            (seen_at t.0 (settled_pool t.0 (with_domain seen.granularity t.0 part.d.0 part.domain
+            with_spare (seen.spare - domain_unit_count part.granularity part.domain)
+            (seen_at t.0 (settled_pool t.0 (pool_with_domain seen.granularity t.0 part.d.0 part.domain
             params.now seen.pool)) seen)) self.old }
     {
         let Some(pool) = &mut self.state else {

@@ -2,9 +2,9 @@
 
 ghost use Rattle.std.specs.Prelude.{◌≡◌, ℕ, Some, None, if◌then◌else◌};
 ghost use Rattle.sched_model.specs.declared.action.Action.TheVariants.{DomMoved, Moved};
-ghost use Rattle.sched_model.specs.Machine.{enabled_at_home, first_enabled};
-ghost use Rattle.journal_core.specs.Parts.{under_way_of};
-ghost use Rattle.composition_laws.specs.WholeFirst.{move_first as move_first_of, tool_first as tool_first_of};
+ghost use Rattle.sched_model.specs.Machine.{enabled_at_home, first_enabled_action};
+ghost use Rattle.journal_core.specs.Parts.{state_under_way};
+ghost use Rattle.composition_laws.specs.WholeFirst.{first_tool_move, first_tool_action};
 ghost use Rattle.machine_parts.specs.Places.{state_of};
 ghost use Rattle.machine_parts.specs.Parts.{AreFirsts, AreParts};
 
@@ -48,8 +48,8 @@ fn domain_ready(slots: &[PoolSlot], tool: &ToolState, at: &Trail, d: DomId) -> b
 /// The move of what is on its way, where it may come at t.
 fn move_first(slots: &[PoolSlot], tool: &ToolState, at: &Trail, t: Moment) -> Option<Action>
     requires parts { AreParts at.now slots.now tool.now }
-    ensures { result ≡ move_first_of at.now.input (state_of at.now) t.0
-        (under_way_of (state_of at.now)) }
+    ensures { result ≡ first_tool_move at.now.input (state_of at.now) t.0
+        (state_under_way (state_of at.now)) }
 {
     match tool.moving() {
         None => None,
@@ -68,7 +68,7 @@ fn move_first(slots: &[PoolSlot], tool: &ToolState, at: &Trail, t: Moment) -> Op
 /// The tool's first action that may come at t: the stall, or else the command, or else the move of what is on its way.
 pub fn tool_first(slots: &[PoolSlot], tool: &ToolState, at: &Trail, t: Moment) -> Option<Action>
     requires parts { AreParts at.now slots.now tool.now }
-    ensures { result ≡ tool_first_of at.now.input (state_of at.now) t.0 }
+    ensures { result ≡ first_tool_action at.now.input (state_of at.now) t.0 }
 {
     match tool.tool_enabled(t) {
         Some(ToolEvent::Stall(_)) => Some(Action::Stall),
@@ -88,7 +88,7 @@ pub fn whole_first(
 ) -> Option<Action>
     requires parts { AreParts at.now slots.now tool.now }
     requires firsts { AreFirsts t.0 slots.now firsts.now }
-    ensures { result ≡ first_enabled at.now.input (state_of at.now) t.0 }
+    ensures { result ≡ first_enabled_action at.now.input (state_of at.now) t.0 }
 {
     law_whole_first();
     match tool_first(slots, tool, at, t) {

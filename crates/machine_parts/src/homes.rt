@@ -4,9 +4,9 @@ ghost use Rattle.std.specs.Prelude.{◌≡◌, ◌<◌, ◌/◌, option_map};
 ghost use Rattle.sched_base.specs.Numbers.{pool as pool_number};
 ghost use Rattle.sched_model.specs.declared.machine.Machine.{Machine};
 ghost use Rattle.sched_model.specs.declared.state.State.{State};
-ghost use Rattle.sched_model.specs.Actions.{home_of_core};
+ghost use Rattle.sched_model.specs.Actions.{home_pool_of_core};
 ghost use Rattle.cpupool.specs.Tool.{tool_of};
-ghost use Rattle.machine_parts.specs.Parts.{pool_of_event as pool_of_event_spec};
+ghost use Rattle.machine_parts.specs.Parts.{event_pool};
 
 use cpupool::ToolState;
 use sched_base::{DomId, PoolId, ProcId, ResId};
@@ -16,7 +16,7 @@ use sched_model::action::Action;
 fn home_of_processor(tool: &ToolState, granularity: u8, p: ProcId) -> Option<PoolId>
     requires some { 0 < granularity }
     ensures { (m : Machine) → (s : State) → tool_of m s ≡ tool.now → result
-        ≡ option_map pool_number (home_of_core s (p.0 / granularity)) }
+        ≡ option_map pool_number (home_pool_of_core s (p.0 / granularity)) }
 {
     tool.home_of_core(ResId(p.0 / granularity))
 }
@@ -25,7 +25,7 @@ fn home_of_processor(tool: &ToolState, granularity: u8, p: ProcId) -> Option<Poo
 pub fn pool_of_event(tool: &ToolState, granularity: u8, action: Action) -> Option<PoolId>
     requires some { 0 < granularity }
     ensures { (m : Machine) → (s : State) → tool_of m s ≡ tool.now → result
-        ≡ option_map pool_number (pool_of_event_spec granularity s action) }
+        ≡ option_map pool_number (event_pool granularity s action) }
 {
     match action {
         Action::Stall | Action::Xl | Action::Moved(_) | Action::DomMoved(_) => None,

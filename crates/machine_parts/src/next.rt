@@ -2,8 +2,8 @@
 
 ghost use Rattle.std.specs.Prelude.{◌≡◌, None, option_map};
 ghost use Rattle.sched_base.specs.Numbers.{moment};
-ghost use Rattle.sched_model.specs.Machine.{first_enabled, next_in_horizon};
-ghost use Rattle.journal_core.specs.Parts.{under_way_of};
+ghost use Rattle.sched_model.specs.Machine.{first_enabled_action, next_in_horizon};
+ghost use Rattle.journal_core.specs.Parts.{state_under_way};
 ghost use Rattle.composition_laws.specs.WholeNext.{leaves_at, leaving_at, number_within};
 ghost use Rattle.machine_parts.specs.Places.{state_of};
 ghost use Rattle.machine_parts.specs.Parts.{AreNexts, AreParts};
@@ -31,7 +31,7 @@ fn core_next(slots: &[PoolSlot], tool: &ToolState, at: &Trail, r: ResId) -> Opti
 fn leaving_next(slots: &[PoolSlot], tool: &ToolState, at: &Trail) -> Option<Moment>
     requires parts { AreParts at.now slots.now tool.now }
     ensures { result ≡ leaving_at at.now.input.config.granularity (state_of at.now)
-        (under_way_of (state_of at.now)) }
+        (state_under_way (state_of at.now)) }
 {
     match tool.moving() {
         Some(Move::Res { r, to: None }) => core_next(slots, tool, at, r),
@@ -62,7 +62,7 @@ pub fn whole_next(
     requires parts { AreParts at.now slots.now tool.now }
     requires now { t.0 ≡ (state_of at.now).now }
     requires nexts { AreNexts slots.now nexts.now }
-    requires quiet { first_enabled at.now.input (state_of at.now) t.0 ≡ None }
+    requires quiet { first_enabled_action at.now.input (state_of at.now) t.0 ≡ None }
     requires horizon { horizon.0 ≡ at.now.input.config.horizon.0 }
     ensures { result ≡ option_map moment (next_in_horizon at.now.input (state_of at.now)) }
 {

@@ -49,16 +49,16 @@ impl PoolSlot {
     ghost use Rattle.std.specs.Prelude.{◌≡◌, ℕ, [], false, not, None, Some, is_some, option_map, map};
     ghost use Rattle.std.specs.Option.{ForSome};
     ghost use Rattle.sched_model.specs.Places.{at_place};
-    ghost use Rattle.sched_model.specs.Policy.{rate_of};
-    ghost use Rattle.sched_model.specs.Pool.{enabled_in, processor_of, settled_pool};
-    ghost use Rattle.sched_model.specs.State.{has_core as has_bit};
+    ghost use Rattle.sched_model.specs.Policy.{pool_rate_limit};
+    ghost use Rattle.sched_model.specs.Pool.{enabled_in, pool_processor, settled_pool};
+    ghost use Rattle.sched_model.specs.State.{has_core_bit};
     ghost use Rattle.sched_model.specs.declared.action.Action.TheVariants.{DomMoved, Moved};
     ghost use Rattle.pool_laws.specs.ReadyMoments.{ready_in};
     ghost use Rattle.policy_laws.specs.Holds.{Holds};
     ghost use Rattle.pool_laws.specs.Actors.{IsFirstBy};
     ghost use Rattle.pool_laws.specs.FirstEvents.{IsFirstEnabled, IsNextMoment};
     ghost use Rattle.pool_core.specs.Params.{stored_in};
-    ghost use Rattle.pool_core.specs.Seen.{IsNow, seen_at, stall_until, with_stall};
+    ghost use Rattle.pool_core.specs.Seen.{IsNow, seen_at, extended_stall_end, with_stall};
     ghost use Rattle.machine_parts.specs.Places.{with_pool};
     ghost use Rattle.machine_parts.specs.Rooms.{IsPlaced};
 
@@ -166,7 +166,7 @@ impl PoolSlot {
     /// named: in order, at most 32, and none where the domain is not here. 0 and none where there is no pool.
     pub fn facts(&self, d: Option<DomId>) -> Facts
         ensures rate { ForSome self.now (λ seen. result.rate
-            ≡ rate_of seen.pool.scheduler.records) }
+            ≡ pool_rate_limit seen.pool.scheduler.records) }
         ensures units { ForSome self.now (λ seen. map Some result.units
             ≡ stored_in seen.granularity seen.pool.domains seen.pool.scheduler.records d) }
         ensures empty { self.now ≡ None → (result.rate ≡ 0) × (result.units ≡ []) }
@@ -182,9 +182,9 @@ impl PoolSlot {
 
     /// The cores and the domains that the pool has, with bit n for the number n. None where there is no pool.
     pub fn members(&self) -> (u64, u64)
-        ensures cores { ForSome self.now (λ seen. (r : ℕ) → has_bit result.0 r
+        ensures cores { ForSome self.now (λ seen. (r : ℕ) → has_core_bit result.0 r
             ≡ is_some (at_place seen.pool.resources r)) }
-        ensures domains { ForSome self.now (λ seen. (d : ℕ) → has_bit result.1 d
+        ensures domains { ForSome self.now (λ seen. (d : ℕ) → has_core_bit result.1 d
             ≡ is_some (at_place seen.pool.domains d)) }
         ensures empty { self.now ≡ None → result ≡ (0, 0) }
     {
@@ -209,7 +209,7 @@ impl PoolSlot {
     /// A processor is stalled up to this moment, if it is not yet for longer: the end of its stall. The cores are not looked at.
     pub fn stall(&mut self, p: ProcId, until: Moment) -> Moment
         ensures pool { ForSome self.old (λ seen. result
-            ≡ stall_until (processor_of seen.granularity seen.pool p.0) until) }
+            ≡ extended_stall_end (pool_processor seen.granularity seen.pool p.0) until) }
         ensures empty { self.old ≡ None → result ≡ until }
         ensures after { self.new ≡ with_pool
             (λ seen. with_stall seen.granularity p.0 result seen.pool) self.old }

@@ -13,7 +13,7 @@ use std::snapshot::Snapshot;
 #[derive(Drop)]
 #[cycle(trail)]
 pub struct Trail {
-    way: Snapshot<Way>,
+    way: Snapshot<TrailOrigin>,
 }
 
 // The trail has no bytes.
@@ -22,7 +22,7 @@ const _: () = prove!(size_of::<Trail>() == 0);
 // How a trail was made. It is a snapshot too, so that a trail is let go without a look at it.
 #[derive(Drop)]
 #[cycle(trail)]
-enum Way {
+enum TrailOrigin {
     Opened(Snapshot<Config>, Snapshot<Work>),
     Read(Snapshot<Book>),
     Added(Snapshot<Trail>, Snapshot<Entry>),
@@ -49,7 +49,7 @@ impl Trail {
         ensures { result ≡ told_new config.now work.now }
     {
         Trail {
-            way: Snapshot::of(&Way::Opened(Snapshot::of(config), Snapshot::of(work))),
+            way: Snapshot::of(&TrailOrigin::Opened(Snapshot::of(config), Snapshot::of(work))),
         }
     }
 
@@ -58,7 +58,7 @@ impl Trail {
         ensures { result ≡ told_of book.now }
     {
         Trail {
-            way: Snapshot::of(&Way::Read(Snapshot::of(book))),
+            way: Snapshot::of(&TrailOrigin::Read(Snapshot::of(book))),
         }
     }
 
@@ -67,7 +67,7 @@ impl Trail {
         ensures { self.new ≡ told_more self.old e.now }
     {
         *self = Trail {
-            way: Snapshot::of(&Way::Added(Snapshot::of(self), Snapshot::of(e))),
+            way: Snapshot::of(&TrailOrigin::Added(Snapshot::of(self), Snapshot::of(e))),
         };
     }
 }

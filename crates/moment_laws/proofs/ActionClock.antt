@@ -14,11 +14,11 @@ use Rattle.sched_model.specs.declared.plan.Plan.TheVariants as plan
 use Rattle.sched_model.specs.declared.state.State.{State}
 use Rattle.sched_model.specs.declared.work.CommandLine.{CommandLine}
 use Rattle.sched_model.specs.declared.work.StallLine.{StallLine}
-use Rattle.sched_model.specs.Actions.{home_of, home_of_core, home_of_domain}
-use Rattle.sched_model.specs.Commands.{carried_out, pool_of_plan}
-use Rattle.sched_model.specs.Machine.{is_enabled, is_move_under_way, after, after_at_home, after_command, after_dom_moved, after_moved, after_stall, settled_at, verdict}
+use Rattle.sched_model.specs.Actions.{home_pool_of_action, home_pool_of_core, home_pool_of_domain}
+use Rattle.sched_model.specs.Commands.{carried_out, plan_pool}
+use Rattle.sched_model.specs.Machine.{is_action_enabled, has_move_under_way, after, after_at_home, after_command, after_dom_moved, state_after_moved, after_stall, settled_at, line_verdict}
 use Rattle.sched_model.specs.Places.{at_place}
-use Rattle.sched_model.specs.Runs.{Reached, IsNextEvent, IsRunFrom, action_of, after_entry, after_event}
+use Rattle.sched_model.specs.Runs.{Reached, IsNextEvent, IsRunFrom, event_action, after_entry, after_event}
 use Rattle.sched_laws.proofs.EachPlace.{by_option}
 use Rattle.moment_laws.specs.Turns.{how_many}
 use Rattle.sched_base.specs.Numbers.{one_if}
@@ -28,29 +28,29 @@ use Rattle.sched_laws.proofs.Clock.{SameClock, same_clock, carried_clock, settle
 
 -- a command is one line more
 command_clock : (m : Machine) (t : ℕ) (line : CommandLine) (s : State) → SameClock (after_command m t line s) (record s { next_command = suc s.next_command })
-command_clock m t line s = by_verdict (verdict m s line)
+command_clock m t line s = by_verdict (line_verdict m s line)
   where
     next : State
     next = record s { next_command = suc s.next_command }
 
-    by_verdict : (v : Result Plan Refusal) → SameClock (elim v as (λ _. State) [ Err fault ↦ next | Ok p ↦ settled_at t (pool_of_plan s p) (carried_out m t p next) ]) next
+    by_verdict : (v : Result Plan Refusal) → SameClock (elim v as (λ _. State) [ Err fault ↦ next | Ok p ↦ settled_at t (plan_pool s p) (carried_out m t p next) ]) next
     by_verdict (Err fault) = same_clock next
     by_verdict (Ok p) =
-        let a = settled_clock t (pool_of_plan s p) (carried_out m t p next) in
+        let a = settled_clock t (plan_pool s p) (carried_out m t p next) in
         let b = carried_clock m t p next in
         (a.0 ∙ b.0, a.1 ∙ b.1, a.2 ∙ b.2)
 
 -- and so is a stall
 stall_clock : (g t : ℕ) (line : StallLine) (s : State) → SameClock (after_stall g t line s) (record s { next_stall = suc s.next_stall })
 stall_clock g t line s =
-    let a = by_option (λ (x : State). SameClock x s) (home_of_core s (line.cpu.0 / g)) _ _ (λ none. (refl, refl, refl)) (λ i is. (refl, refl, refl)) in
+    let a = by_option (λ (x : State). SameClock x s) (home_pool_of_core s (line.cpu.0 / g)) _ _ (λ none. (refl, refl, refl)) (λ i is. (refl, refl, refl)) in
     (a.0, refl, a.2)
 
-moved_clock : (t r : ℕ) (s : State) → SameClock (after_moved t r s) s
+moved_clock : (t r : ℕ) (s : State) → SameClock (state_after_moved t r s) s
 moved_clock t r s =
     let Q : State → Type 0 = λ next. SameClock next s in
     by_option Q (at_place s.free r) _ _
-    (λ is. by_option Q (home_of_core s r) _ _ (λ is2. same_clock s)
+    (λ is. by_option Q (home_pool_of_core s r) _ _ (λ is2. same_clock s)
     (λ i is2. by_option Q (at_place s.pools i) _ _ (λ is3. same_clock s)
     (λ pool is3. by_option Q (at_place pool.resources r) _ _ (λ is4. same_clock s) (λ c is4. (refl, refl, refl)))))
     (λ c is. by_option Q c.target _ _ (λ is2. same_clock s) (λ i is2. (refl, refl, refl)))
@@ -58,13 +58,13 @@ moved_clock t r s =
 dom_moved_clock : (g t d : ℕ) (s : State) → SameClock (after_dom_moved g t d s) s
 dom_moved_clock g t d s =
     let Q : State → Type 0 = λ next. SameClock next s in
-    by_option Q (home_of_domain s d) _ _ (λ is. same_clock s)
+    by_option Q (home_pool_of_domain s d) _ _ (λ is. same_clock s)
     (λ i is. by_option Q (at_place s.pools i) _ _ (λ is2. same_clock s)
     (λ pool is2. by_option Q (at_place pool.domains d) _ _ (λ is3. same_clock s)
     (λ domain is3. by_option Q domain.moving _ _ (λ is4. same_clock s) (λ j is4. (refl, refl, refl)))))
 
 inside_clock : (g t : ℕ) (s : State) (action : Action) → SameClock (after_at_home g s t action) s
-inside_clock g t s action = by_option (λ (x : State). SameClock x s) (home_of g s action) _ _ (λ none. same_clock s) (λ i is. (refl, refl, refl))
+inside_clock g t s action = by_option (λ (x : State). SameClock x s) (home_pool_of_action g s action) _ _ (λ none. same_clock s) (λ i is. (refl, refl, refl))
 
 -- how many lines are left to do
 abbrev pub lines_left : Machine → State → ℕ
@@ -84,7 +84,7 @@ same_left m a b same = (
 abbrev Goes : Machine → State → State → ℕ → Type 0
 Goes m s next drop = (next.now ≡ s.now) × (lines_left m next + drop ≤ lines_left m s)
 
-stall_goes : (m : Machine) (s : State) (t : ℕ) → is_enabled m s t Stall ≡ true → Goes m s (after m s t Stall) 1
+stall_goes : (m : Machine) (s : State) (t : ℕ) → is_action_enabled m s t Stall ≡ true → Goes m s (after m s t Stall) 1
 stall_goes m s t on = by_line (slice_get m.work.stalls s.next_stall) refl on
   where
     by_line : (o : Option StallLine) → slice_get m.work.stalls s.next_stall ≡ o → elim o as (λ _. Bool) [ None ↦ false | Some line ↦ nat_le line.at.0 t ] ≡ true → Goes m s (elim o as (λ _. State) [ None ↦ s | Some line ↦ after_stall m.config.granularity t line s ]) 1
@@ -96,10 +96,10 @@ stall_goes m s t on = by_line (slice_get m.work.stalls s.next_stall) refl on
         let y : length m.work.commands - (after_stall m.config.granularity t line s).next_command ≡ length m.work.commands - s.next_command = ap (λ n. length m.work.commands - n) same.2 in
         (same.0, omega (arith, x, y, low)))
 
-command_goes : (m : Machine) (s : State) (t : ℕ) → is_enabled m s t Xl ≡ true → Goes m s (after m s t Xl) 1
+command_goes : (m : Machine) (s : State) (t : ℕ) → is_action_enabled m s t Xl ≡ true → Goes m s (after m s t Xl) 1
 command_goes m s t on = by_line (slice_get m.work.commands s.next_command) refl on
   where
-    by_line : (o : Option CommandLine) → slice_get m.work.commands s.next_command ≡ o → elim o as (λ _. Bool) [ None ↦ false | Some line ↦ nat_le line.at.0 t && not (is_move_under_way s) ] ≡ true → Goes m s (elim o as (λ _. State) [ None ↦ s | Some line ↦ after_command m t line s ]) 1
+    by_line : (o : Option CommandLine) → slice_get m.work.commands s.next_command ≡ o → elim o as (λ _. Bool) [ None ↦ false | Some line ↦ nat_le line.at.0 t && not (has_move_under_way s) ] ≡ true → Goes m s (elim o as (λ _. State) [ None ↦ s | Some line ↦ after_command m t line s ]) 1
     by_line None is on = absurd (cc)
     by_line (Some line) is on = (
         let same = command_clock m t line s in
@@ -111,14 +111,14 @@ command_goes m s t on = by_line (slice_get m.work.commands s.next_command) refl 
 inside_goes : (m : Machine) (s : State) (action : Action) → Goes m s (after_at_home m.config.granularity s s.now action) 0
 inside_goes m s action = same_left m (after_at_home m.config.granularity s s.now action) s (inside_clock m.config.granularity s.now s action)
 
-moved_goes : (m : Machine) (s : State) (r : ℕ) → Goes m s (after_moved s.now r s) 0
-moved_goes m s r = same_left m (after_moved s.now r s) s (moved_clock s.now r s)
+moved_goes : (m : Machine) (s : State) (r : ℕ) → Goes m s (state_after_moved s.now r s) 0
+moved_goes m s r = same_left m (state_after_moved s.now r s) s (moved_clock s.now r s)
 
 dom_moved_goes : (m : Machine) (s : State) (d : ℕ) → Goes m s (after_dom_moved m.config.granularity s.now d s) 0
 dom_moved_goes m s d = same_left m (after_dom_moved m.config.granularity s.now d s) s (dom_moved_clock m.config.granularity s.now d s)
 
 -- after an event that may come and ends no moment, the moment is the same; and each line takes one of those that are left
-pub event_goes : (m : Machine) (from : Reached) (ev : Event) → IsNextEvent m from.state ev (action_of ev) → (is_end ev ≡ false → (after_event m ev (action_of ev) from).state.now ≡ from.state.now) × (lines_left m (after_event m ev (action_of ev) from).state + one_if (is_line ev) ≤ lines_left m from.state)
+pub event_goes : (m : Machine) (from : Reached) (ev : Event) → IsNextEvent m from.state ev (event_action ev) → (is_end ev ≡ false → (after_event m ev (event_action ev) from).state.now ≡ from.state.now) × (lines_left m (after_event m ev (event_action ev) from).state + one_if (is_line ev) ≤ lines_left m from.state)
 event_goes m from (event.Stall p until) next = (let a = stall_goes m from.state from.state.now next.0 in (λ e. a.0, a.1))
 event_goes m from (event.Xl k answer) next = (let a = command_goes m from.state from.state.now next.0 in (λ e. a.0, a.1))
 event_goes m from (event.Moved r to) next = (let a = moved_goes m from.state r.0 in (λ e. a.0, a.1))

@@ -8,8 +8,8 @@ use Rattle.sched_base.specs.declared.UnitId.{UnitId}
 use Rattle.sched_model.specs.declared.state.Resource.{Resource}
 use Rattle.sched_model.specs.declared.state.Scheduler.{Scheduler}
 use Rattle.sched_model.specs.Places.{at_place}
-use Rattle.sched_model.specs.State.{has_core}
-use Rattle.sched_model.specs.EligibleUnits.{is_allowed, cores_of}
+use Rattle.sched_model.specs.State.{has_core_bit}
+use Rattle.sched_model.specs.EligibleUnits.{is_unit_allowed, unit_cores}
 use Rattle.sched_model.specs.Pool.{cores_from}
 use Rattle.moment_laws.proofs.Tests.{or_later}
 use Rattle.moment_laws.specs.Stretches.{cores}
@@ -36,22 +36,22 @@ one_from k (suc r) c (None ∷ cores) at only =
     omega (arith, rest, p)
 one_from k (suc r) c (Some x ∷ cores) at only = absurd (let e = only zero x refl in omega (arith, e))
 
-no_bit : (k r : ℕ) → has_core k r ≡ false → bit_at k r ≡ 0
+no_bit : (k r : ℕ) → has_core_bit k r ≡ false → bit_at k r ≡ 0
 no_bit k r none = grind arith
 
-has_or_none : (k r : ℕ) → (has_core k r || bit_and k (2 ^ r) == 0) ≡ true
-has_or_none k r = elim (cases_Bool (has_core k r)) [
+has_or_none : (k r : ℕ) → (has_core_bit k r || bit_and k (2 ^ r) == 0) ≡ true
+has_or_none k r = elim (cases_Bool (has_core_bit k r)) [
   | inl has ↦ rw has refl
   | inr none ↦ (
       let a = and_pow k r in
       let b = no_bit k r none in
       let e : bit_and k (2 ^ r) ≡ 0 = a ∙ ap (λ n. n * 2 ^ r) b ∙ grind arith in
-      or_later (has_core k r) (ap (λ n. n == 0) e))
+      or_later (has_core_bit k r) (ap (λ n. n == 0) e))
 ]
 
-pub allowed_alone : (scheduler : Scheduler) (cores : List (Option Resource)) (r : ℕ) (c : Resource) → at_place cores r ≡ Some c → ((q : ℕ) (x : Resource) → at_place cores q ≡ Some x → q ≡ r) → (u : UnitId) → is_allowed scheduler (cores_from 0 cores) r u ≡ true
+pub allowed_alone : (scheduler : Scheduler) (cores : List (Option Resource)) (r : ℕ) (c : Resource) → at_place cores r ≡ Some c → ((q : ℕ) (x : Resource) → at_place cores q ≡ Some x → q ≡ r) → (u : UnitId) → is_unit_allowed scheduler (cores_from 0 cores) r u ≡ true
 allowed_alone scheduler cores r c at only u =
-    let k : ℕ = cores_of scheduler.affinity u in
+    let k : ℕ = unit_cores scheduler.affinity u in
     let zero_r : 0 + r ≡ r = omega arith in
     let home : cores_from 0 cores ≡ 2 ^ r = one_from 0 r c cores at only ∙ ap (λ n. 2 ^ n) zero_r in
-    ap (λ h. has_core k r || bit_and k h == 0) home ∙ has_or_none k r
+    ap (λ h. has_core_bit k r || bit_and k h == 0) home ∙ has_or_none k r

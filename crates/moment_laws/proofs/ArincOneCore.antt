@@ -35,13 +35,13 @@ use Rattle.sched_model.specs.declared.work.StallLine.{StallLine}
 use Rattle.sched_model.specs.declared.action.Action.{Action}
 use Rattle.sched_model.specs.declared.action.Action.TheVariants.{Stall, Xl, Moved, DomMoved}
 use Rattle.sched_model.specs.Places.{at_place, numbered_items}
-use Rattle.sched_model.specs.State.{has_core}
+use Rattle.sched_model.specs.State.{has_core_bit}
 use Rattle.sched_model.specs.CheckedMachine.{IsChecked, IsCheckedPool, PoolParamsPass}
-use Rattle.sched_model.specs.Policy.{kind_of, fresh_records}
-use Rattle.sched_model.specs.Opening.{opening, opening_free, with_domains, with_configured, with_pins, core_count, most_pools, fresh_domain}
-use Rattle.sched_model.specs.Actions.{home_of, home_of_core, home_of_domain}
-use Rattle.sched_model.specs.Commands.{is_kind, cores_in, carried_out, change_home, pool_of_plan}
-use Rattle.sched_model.specs.Machine.{is_enabled, is_move_under_way, after, after_at_home, after_stall, after_command, after_moved, after_dom_moved, verdict, settled_at}
+use Rattle.sched_model.specs.Policy.{records_kind, empty_records}
+use Rattle.sched_model.specs.Opening.{opening, free_core_at_opening, pool_with_domains, pool_with_configured, pool_with_pins, machine_core_count, most_pools, domain_at_opening}
+use Rattle.sched_model.specs.Actions.{home_pool_of_action, home_pool_of_core, home_pool_of_domain}
+use Rattle.sched_model.specs.Commands.{is_same_kind, cores_in, carried_out, change_home, plan_pool}
+use Rattle.sched_model.specs.Machine.{is_action_enabled, has_move_under_way, after, after_at_home, after_stall, after_command, state_after_moved, after_dom_moved, line_verdict, settled_at}
 use Rattle.sched_laws.proofs.Judged.{Passed, verdict_passed}
 use Rattle.sched_laws.proofs.Records.{same_decision}
 use Rattle.sched_laws.specs.EachPlace.{EachAt}
@@ -56,12 +56,12 @@ use Rattle.moment_laws.proofs.CoresByRecords.{IsKeptTest, Counted, Aims, Comes, 
 use Rattle.moment_laws.proofs.ReachedDecisions.{PoolOf}
 
 abbrev is_arinc : Records → Bool
-is_arinc records = is_kind kinds.Arinc653 (kind_of records)
+is_arinc records = is_same_kind kinds.Arinc653 (records_kind records)
 
 arinc_kept : (t : ℕ) → IsKeptTest t is_arinc
 arinc_kept t = record {
-  sees = λ a b alike passes. subst (λ kind. is_kind kinds.Arinc653 kind ≡ true) alike.kind passes;
-  decides = λ ask scheduler now passes. subst (λ kind. is_kind kinds.Arinc653 kind ≡ true) (same_decision kind_of (λ a b. refl) (λ a b. refl) (λ a b. refl) scheduler.records ask scheduler refl) passes;
+  sees = λ a b alike passes. subst (λ kind. is_same_kind kinds.Arinc653 kind ≡ true) alike.kind passes;
+  decides = λ ask scheduler now passes. subst (λ kind. is_same_kind kinds.Arinc653 kind ≡ true) (same_decision records_kind (λ a b. refl) (λ a b. refl) (λ a b. refl) scheduler.records ask scheduler refl) passes;
 }
 
 -- an accepted cpupool-cpu-add: the pool has no core if it is one of ARINC 653
@@ -78,15 +78,15 @@ some_core n (suc r) c (None ∷ cores) at = some_core (suc n) r c cores at
 some_core n (suc r) c (Some x ∷ cores) at = grind arith
 
 -- the pool that a core is added to
-added : (s : State) (i : ℕ) (pool : Pool) → at_place s.pools i ≡ Some pool → not (is_kind kinds.Arinc653 (kind_of pool.scheduler.records) && nat_lt 0 (cores_in pool)) ≡ true → (r : ℕ) → Counted is_arinc s i r → ⊥
+added : (s : State) (i : ℕ) (pool : Pool) → at_place s.pools i ≡ Some pool → not (is_same_kind kinds.Arinc653 (records_kind pool.scheduler.records) && nat_lt 0 (cores_in pool)) ≡ true → (r : ℕ) → Counted is_arinc s i r → ⊥
 added s i pool at passes r counted =
     let now = counted_core is_arinc s i r counted in
     let same : now.0 ≡ pool = (let a = now.2 in cc) in
     let arinc : is_arinc pool.scheduler.records ≡ true = subst (λ (p : Pool). is_arinc p.scheduler.records ≡ true) same now.4 in
     let some = some_core 0 r now.1 pool.resources (subst (λ (p : Pool). at_place p.resources r ≡ Some now.1) same now.3) in
-    clash (is_kind kinds.Arinc653 (kind_of pool.scheduler.records) && nat_lt 0 (cores_in pool)) (and_from _ _ arinc some) (not-true _ passes)
+    clash (is_same_kind kinds.Arinc653 (records_kind pool.scheduler.records) && nat_lt 0 (cores_in pool)) (and_from _ _ arinc some) (not-true _ passes)
 
-verdict_adds : (m : Machine) (s : State) (line : CommandLine) (p : Plan) → verdict m s line ≡ Ok p → Adds s p
+verdict_adds : (m : Machine) (s : State) (line : CommandLine) (p : Plan) → line_verdict m s line ≡ Ok p → Adds s p
 verdict_adds m s line p is = (let passed = verdict_passed m s line p is in by_plan passed.0 p passed.2)
   where
     by_plan : (c : Command) (p : Plan) → Passed m s c p → Adds s p
@@ -99,7 +99,7 @@ module _ (T : ℕ → ℕ → Type 0) where
   Targets s = EachAt (λ r (c : FreeCore). (i : ℕ) → c.target ≡ Some i → T r i) s.free
 
   targets_home : (d : ℕ) (f : Pool → Pool) (s : State) → Targets s → Targets (change_home d f s)
-  targets_home d f s each = by_option Targets (home_of_domain s d) _ _ (λ is. each) (λ i is. each)
+  targets_home d f s each = by_option Targets (home_pool_of_domain s d) _ _ (λ is. each) (λ i is. each)
 
   targets_settled : (t : ℕ) (home : Option ℕ) (s : State) → Targets s → Targets (settled_at t home s)
   targets_settled t None s each = each
@@ -120,24 +120,24 @@ module _ (T : ℕ → ℕ → Type 0) where
   targets_stall : (g t : ℕ) (line : Option StallLine) (s : State) → Targets s → Targets (elim line as (λ _. State) [ None ↦ s | Some l ↦ after_stall g t l s ])
   targets_stall g t None s each = each
   targets_stall g t (Some l) s each =
-      by_option Targets (home_of_core s (l.cpu.0 / g)) _ _ (λ is. EachAt-change_at (λ r (c : FreeCore). (j : ℕ) → c.target ≡ Some j → T r j) (l.cpu.0 / g) _ s.free each (λ c at here. here)) (λ i is. each)
+      by_option Targets (home_pool_of_core s (l.cpu.0 / g)) _ _ (λ is. EachAt-change_at (λ r (c : FreeCore). (j : ℕ) → c.target ≡ Some j → T r j) (l.cpu.0 / g) _ s.free each (λ c at here. here)) (λ i is. each)
 
   targets_at : (g t : ℕ) (action : Action) (s : State) → Targets s → Targets (after_at_home g s t action)
-  targets_at g t action s each = by_option Targets (home_of g s action) _ _ (λ is. each) (λ i is. each)
+  targets_at g t action s each = by_option Targets (home_pool_of_action g s action) _ _ (λ is. each) (λ i is. each)
 
   targets_dom_moved : (g t d : ℕ) (s : State) → Targets s → Targets (after_dom_moved g t d s)
   targets_dom_moved g t d s each =
-      by_option Targets (home_of_domain s d) _ _ (λ is. each)
+      by_option Targets (home_pool_of_domain s d) _ _ (λ is. each)
       (λ i is. by_option Targets (at_place s.pools i) _ _ (λ is2. each)
       (λ pool is2. by_option Targets (at_place pool.domains d) _ _ (λ is3. each) (λ domain is3. by_option Targets domain.moving _ _ (λ is4. each) (λ j is4. each))))
 
 -- the core that moved is no free core with a target any more
-targets_moved : (t q : ℕ) (s : State) → Targets (λ r i. Aims s r i × (r ≢ q)) (after_moved t q s)
+targets_moved : (t q : ℕ) (s : State) → Targets (λ r i. Aims s r i × (r ≢ q)) (state_after_moved t q s)
 targets_moved t q s =
     by_option (Targets (λ r i. Aims s r i × (r ≢ q))) (at_place s.free q) _ _
     (λ is. (
     let stays : Targets (λ r i. Aims s r i × (r ≢ q)) s = λ r c at i target. (record { core = c; at = at; target = target }, λ e. (let a : at_place s.free q ≡ Some c = subst (λ k. at_place s.free k ≡ Some c) e at in absurd (cc))) in
-    by_option (Targets (λ r i. Aims s r i × (r ≢ q))) (home_of_core s q) _ _ (λ is2. stays)
+    by_option (Targets (λ r i. Aims s r i × (r ≢ q))) (home_pool_of_core s q) _ _ (λ is2. stays)
     (λ i is2. by_option (Targets (λ r i. Aims s r i × (r ≢ q))) (at_place s.pools i) _ _ (λ is3. stays)
     (λ pool is3. by_option (Targets (λ r i. Aims s r i × (r ≢ q))) (at_place pool.resources q) _ _ (λ is4. stays)
     (λ c is4. EachAt-put_at (λ r (x : FreeCore). (j : ℕ) → x.target ≡ Some j → Aims s r j × (r ≢ q)) q _ s.free stays (λ j target. absurd (cc)))))))
@@ -166,7 +166,7 @@ one_same s next counted targets one = record {
 }
 
 -- a core moves
-one_moved : (m : Machine) (s : State) (t q : ℕ) → is_enabled m s t (Moved (core_number q)) ≡ true → IsOne s → IsOne (after m s t (Moved (core_number q)))
+one_moved : (m : Machine) (s : State) (t q : ℕ) → is_action_enabled m s t (Moved (core_number q)) ≡ true → IsOne s → IsOne (after m s t (Moved (core_number q)))
 one_moved m s t q on one = record {
   cores = λ i x y a b. elim (was i x a) [
     | inl old ↦ elim (was i y b) [ inl old2 ↦ one.cores i x y old old2 | inr come ↦ absurd (one.free i y x come.aims old) ]
@@ -191,33 +191,33 @@ one_moved m s t q on one = record {
     moved a b e = (let same : core_number a ≡ core_number b = cc in ap (λ (x : ResId). x.0) same)
 
 -- an action that moves no core
-staying : (m : Machine) (s : State) (t : ℕ) (action : Action) → ((q : ℕ) → action ≡ Moved (core_number q) → ⊥) → is_enabled m s t action ≡ true → (i r : ℕ) → Counted is_arinc (after m s t action) i r → Counted is_arinc s i r
+staying : (m : Machine) (s : State) (t : ℕ) (action : Action) → ((q : ℕ) → action ≡ Moved (core_number q) → ⊥) → is_action_enabled m s t action ≡ true → (i r : ℕ) → Counted is_arinc (after m s t action) i r → Counted is_arinc s i r
 staying m s t action other on i r counted = elim (counted_after m t is_arinc (arinc_kept t) s action on i r counted) [ inl old ↦ old | inr come ↦ absurd (other r come.moves) ]
 
 -- a command comes where no core has a target
-no_aim : (m : Machine) (s : State) (t : ℕ) → is_enabled m s t Xl ≡ true → (r i : ℕ) → Aims s r i → ⊥
+no_aim : (m : Machine) (s : State) (t : ℕ) → is_action_enabled m s t Xl ≡ true → (r i : ℕ) → Aims s r i → ⊥
 no_aim m s t on r i aims = by_line (slice_get m.work.commands s.next_command) on
   where
-    by_line : (line : Option CommandLine) → elim line as (λ _. Bool) [ None ↦ false | Some l ↦ nat_le l.at.0 t && not (is_move_under_way s) ] ≡ true → ⊥
+    by_line : (line : Option CommandLine) → elim line as (λ _. Bool) [ None ↦ false | Some l ↦ nat_le l.at.0 t && not (has_move_under_way s) ] ≡ true → ⊥
     by_line None is = absurd (cc)
     by_line (Some l) is =
-        let still : is_move_under_way s ≡ false = not-true _ (and_right (nat_le l.at.0 t) _ is) in
+        let still : has_move_under_way s ≡ false = not-true _ (and_right (nat_le l.at.0 t) _ is) in
         let none = none_passes (λ (e : ℕ × FreeCore). is_some e.1.target) (numbered_items 0 s.free) (or_right _ _ still) in
         let here = at_numbered (λ (c : FreeCore). is_some c.target ≡ false) 0 s.free none r aims.core aims.at in
         clash (is_some aims.core.target) (is_some_at aims.core.target i aims.target) here
 
-one_command : (m : Machine) (s : State) (t : ℕ) → is_enabled m s t Xl ≡ true → IsOne s → IsOne (after m s t Xl)
+one_command : (m : Machine) (s : State) (t : ℕ) → is_action_enabled m s t Xl ≡ true → IsOne s → IsOne (after m s t Xl)
 one_command m s t on one = by_line (slice_get m.work.commands s.next_command) (staying m s t Xl (λ q e. absurd (cc)) on)
   where
     carried : CommandLine → Result Plan Refusal → State
-    carried line v = elim v as (λ _. State) [ Err fault ↦ record s { next_command = suc s.next_command } | Ok p ↦ settled_at t (pool_of_plan s p) (carried_out m t p (record s { next_command = suc s.next_command })) ]
+    carried line v = elim v as (λ _. State) [ Err fault ↦ record s { next_command = suc s.next_command } | Ok p ↦ settled_at t (plan_pool s p) (carried_out m t p (record s { next_command = suc s.next_command })) ]
 
-    by_verdict : (line : CommandLine) (v : Result Plan Refusal) → verdict m s line ≡ v → ((i r : ℕ) → Counted is_arinc (carried line v) i r → Counted is_arinc s i r) → IsOne (carried line v)
+    by_verdict : (line : CommandLine) (v : Result Plan Refusal) → line_verdict m s line ≡ v → ((i r : ℕ) → Counted is_arinc (carried line v) i r → Counted is_arinc s i r) → IsOne (carried line v)
     by_verdict line (Err fault) is was = one_same s (record s { next_command = suc s.next_command }) was (targets_now s) one
     by_verdict line (Ok p) is was =
         let T : ℕ → ℕ → Type 0 = λ r i. (pool : PoolId) × (core : ResId) × (answer : Reply) × (p ≡ plan.CpuAdd pool core answer) × (core.0 ≡ r) × (pool.0 ≡ i) in
         let targets : Targets T (carried line (Ok p)) =
-        targets_settled T t (pool_of_plan s p) (carried_out m t p (record s { next_command = suc s.next_command }))
+        targets_settled T t (plan_pool s p) (carried_out m t p (record s { next_command = suc s.next_command }))
         (targets_carried_out T m t p (record s { next_command = suc s.next_command }) (λ i core answer e. (i, core, answer, e, refl, refl)) (λ r c at i target. absurd (no_aim m s t on r i (record { core = c; at = at; target = target })))) in
         record {
           cores = λ i q r a b. one.cores i q r (was i q a) (was i r b);
@@ -235,14 +235,14 @@ one_command m s t on one = by_line (slice_get m.work.commands s.next_command) (s
 
     by_line : (line : Option CommandLine) → ((i r : ℕ) → Counted is_arinc (elim line as (λ _. State) [ None ↦ s | Some l ↦ after_command m t l s ]) i r → Counted is_arinc s i r) → IsOne (elim line as (λ _. State) [ None ↦ s | Some l ↦ after_command m t l s ])
     by_line None was = one
-    by_line (Some line) was = by_verdict line (verdict m s line) refl was
+    by_line (Some line) was = by_verdict line (line_verdict m s line) refl was
 
 -- each action keeps it
-one_at : (m : Machine) (s : State) (action : Action) → ((q : ℕ) → action ≡ Moved (core_number q) → ⊥) → is_enabled m s s.now action ≡ true → after m s s.now action ≡ after_at_home m.config.granularity s s.now action → IsOne s → IsOne (after m s s.now action)
+one_at : (m : Machine) (s : State) (action : Action) → ((q : ℕ) → action ≡ Moved (core_number q) → ⊥) → is_action_enabled m s s.now action ≡ true → after m s s.now action ≡ after_at_home m.config.granularity s s.now action → IsOne s → IsOne (after m s s.now action)
 one_at m s action other on at one =
     one_same s (after m s s.now action) (staying m s s.now action other on) (subst (Targets (Aims s)) (sym at) (targets_at (Aims s) m.config.granularity s.now action s (targets_now s))) one
 
-one_after : (m : Machine) (s : State) (action : Action) → is_enabled m s s.now action ≡ true → IsOne s → IsOne (after m s s.now action)
+one_after : (m : Machine) (s : State) (action : Action) → is_action_enabled m s s.now action ≡ true → IsOne s → IsOne (after m s s.now action)
 one_after m s (Moved r) on one = one_moved m s s.now r.0 on one
 one_after m s Xl on one = one_command m s s.now on one
 one_after m s Stall on one =
@@ -255,17 +255,17 @@ module _ (g : ℕ) (A : Type 0) where
   abbrev Opens : Pool → Type 0
   Opens pool = is_arinc pool.scheduler.records ≡ true → A
 
-  opens_pins : (d n : ℕ) (pins : List Cores) (pool : Pool) → Opens pool → Opens (with_pins d n pins pool)
+  opens_pins : (d n : ℕ) (pins : List Cores) (pool : Pool) → Opens pool → Opens (pool_with_pins d n pins pool)
   opens_pins d n [] pool here = here
   opens_pins d n (cores ∷ pins) pool here = opens_pins d (suc n) pins _ (gives_params g 0 is_arinc (arinc_kept 0) A (changes.Pin (domain_number d) (Some n) cores) pool here)
 
-  opens_domains : (i d : ℕ) (domains : List DomConfig) (pool : Pool) → Opens pool → Opens (with_domains g i d domains pool)
+  opens_domains : (i d : ℕ) (domains : List DomConfig) (pool : Pool) → Opens pool → Opens (pool_with_domains g i d domains pool)
   opens_domains i d [] pool here = here
   opens_domains i d (joining ∷ domains) pool here =
-      opens_domains i (suc d) domains _ (by_cond Opens (joining.home.0 == i) (with_configured g d joining pool) pool
-      (λ is. opens_pins d 0 joining.pins _ (gives_with_domain g 0 is_arinc (arinc_kept 0) A d (fresh_domain joining) joining.params pool here)) (λ is. here))
+      opens_domains i (suc d) domains _ (by_cond Opens (joining.home.0 == i) (pool_with_configured g d joining pool) pool
+      (λ is. opens_pins d 0 joining.pins _ (gives_with_domain g 0 is_arinc (arinc_kept 0) A d (domain_at_opening joining) joining.params pool here)) (λ is. here))
 
-arinc_opened : (config : Config) (kind : SchedKind) (params : PoolParams) (domains cores : ℕ) → PoolParamsPass config kind params → is_arinc (fresh_records params domains cores) ≡ true → kind ≡ kinds.Arinc653
+arinc_opened : (config : Config) (kind : SchedKind) (params : PoolParams) (domains cores : ℕ) → PoolParamsPass config kind params → is_arinc (empty_records params domains cores) ≡ true → kind ≡ kinds.Arinc653
 arinc_opened config kinds.Arinc653 (pool_params.Arinc653 frame) domains cores pass is = refl
 arinc_opened config other (pool_params.Arinc653 frame) domains cores pass is = absurd pass
 arinc_opened config kind other domains cores pass is = absurd (cc)
@@ -277,26 +277,26 @@ one_opening m checked = record {
       let y = opened i r b in
       let same : x.0 ≡ y.0 = (let e = x.1 in let f = y.1 in cc) in
       let passes : IsCheckedPool m.config x.0 = each_get (IsCheckedPool m.config) m.config.pools i x.0 (recursion_from_All (IsCheckedPool m.config) m.config.pools checked.config.pools) x.1 in
-      passes.one_core (arinc_opened m.config x.0.kind x.0.params (length m.config.domains) (core_count m.config) passes.params x.3) q r x.2 (subst (λ (p : PoolConfig). has_core p.cores r ≡ true) (sym same) y.2));
+      passes.one_core (arinc_opened m.config x.0.kind x.0.params (length m.config.domains) (machine_core_count m.config) passes.params x.3) q r x.2 (subst (λ (p : PoolConfig). has_core_bit p.cores r ≡ true) (sym same) y.2));
   free = λ i q r a b. no_target q a;
   aims = λ i j q r a b. absurd (no_target q a);
 }
   where
-    opened : (i r : ℕ) → Counted is_arinc (opening m) i r → (p : PoolConfig) × (slice_get m.config.pools i ≡ Some p) × (has_core p.cores r ≡ true) × (is_arinc (fresh_records p.params (length m.config.domains) (core_count m.config)) ≡ true)
+    opened : (i r : ℕ) → Counted is_arinc (opening m) i r → (p : PoolConfig) × (slice_get m.config.pools i ≡ Some p) × (has_core_bit p.cores r ≡ true) × (is_arinc (empty_records p.params (length m.config.domains) (machine_core_count m.config)) ≡ true)
     opened i r counted =
         let now = counted_core is_arinc (opening m) i r counted in
         let p = read_pools m.config 0 (most_pools - length m.config.pools) m.config.pools i now.0 now.2 in (
           p.0,
           p.1,
           opened_core m.config (0 + i) p.0 r now.1 (subst (λ (x : Pool). at_place x.resources r ≡ Some now.1) p.2 now.3),
-          opens_domains m.config.granularity (is_arinc (fresh_records p.0.params (length m.config.domains) (core_count m.config)) ≡ true) (0 + i) 0 m.config.domains _ (λ is. is) (subst (λ (x : Pool). is_arinc x.scheduler.records ≡ true) p.2 now.4),
+          opens_domains m.config.granularity (is_arinc (empty_records p.0.params (length m.config.domains) (machine_core_count m.config)) ≡ true) (0 + i) 0 m.config.domains _ (λ is. is) (subst (λ (x : Pool). is_arinc x.scheduler.records ≡ true) p.2 now.4),
         )
 
     no_target : (r : ℕ) {i : ℕ} → Aims (opening m) r i → ⊥
     no_target r {i} a =
         let e : 0 + r ≡ r = omega arith in
-        let made : opening_free m.config r ≡ Some a.core = rw e at (read_map (opening_free m.config) 0 (core_count m.config) r a.core a.at) in
-        by_cond (λ (o : Option FreeCore). o ≡ Some a.core → ⊥) (list_any (λ (pool : PoolConfig). has_core pool.cores r) m.config.pools) None _ (λ is f. absurd (cc))
+        let made : free_core_at_opening m.config r ≡ Some a.core = rw e at (read_map (free_core_at_opening m.config) 0 (machine_core_count m.config) r a.core a.at) in
+        by_cond (λ (o : Option FreeCore). o ≡ Some a.core → ⊥) (list_any (λ (pool : PoolConfig). has_core_bit pool.cores r) m.config.pools) None _ (λ is f. absurd (cc))
         (λ is f. (let none : a.core.target ≡ None = (let same = some_same _ a.core f in subst (λ (c : FreeCore). c.target ≡ None) same refl) in let has = a.target in absurd (cc))) made
       where
         some_same : (x y : FreeCore) → Some x ≡ Some y → x ≡ y

@@ -3,7 +3,7 @@ use Rattle.std.proofs.Common.{◌≡◌, Bool, true, false, List, [], ◌∷◌,
 use Rattle.std.specs.Prelude.{Option, Some, None}
 use Rattle.std.proofs.lemmas.Bool.{or_cases}
 use Rattle.sched_base.specs.declared.UnitId.{UnitId}
-use Rattle.sched_model.specs.Places.{has_unit, same_unit}
+use Rattle.sched_model.specs.Places.{has_listed_unit, same_unit}
 use Rattle.sched_base.proofs.Bools.{or_more}
 use Rattle.sched_laws.proofs.Choices.{same_unit_same}
 use Rattle.sched_laws.proofs.Counts.{same_unit_refl}
@@ -23,8 +23,8 @@ pub record IsScan (better : UnitId → UnitId → Bool) (pick : Option UnitId �
 
 -- what it ends at: one of the units, than which none of them is better
 pub record IsBest (better : UnitId → UnitId → Bool) (best : Option UnitId) (xs : List UnitId) (w : UnitId) : Type 0 where
-  pub source : (best ≡ Some w) ⊎ (has_unit xs w ≡ true)
-  pub none_better : (e : UnitId) → has_unit xs e ≡ true → better e w ≡ false
+  pub source : (best ≡ Some w) ⊎ (has_listed_unit xs w ≡ true)
+  pub none_better : (e : UnitId) → has_listed_unit xs e ≡ true → better e w ≡ false
   pub over : (b : UnitId) → best ≡ Some b → (w ≡ b) ⊎ (better w b ≡ true)
 
 module _ {better : UnitId → UnitId → Bool} {pick : Option UnitId → List UnitId → Option UnitId} (order : IsOrder better) (scan : IsScan better pick) where
@@ -33,8 +33,8 @@ module _ {better : UnitId → UnitId → Bool} {pick : Option UnitId → List Un
   not_better w b (inr above) = order.least w b b above (order.irrefl b)
 
   -- a unit and those behind it
-  with_first : (u : UnitId) (xs : List UnitId) (w : UnitId) → better u w ≡ false → ((e : UnitId) → has_unit xs e ≡ true → better e w ≡ false) → (e : UnitId) → has_unit (u ∷ xs) e ≡ true → better e w ≡ false
-  with_first u xs w first behind e has = elim (or_cases (same_unit e u) (has_unit xs e) has) [ inl same ↦ subst (λ x. better x w ≡ false) (sym (same_unit_same e u same)) first | inr rest ↦ behind e rest ]
+  with_first : (u : UnitId) (xs : List UnitId) (w : UnitId) → better u w ≡ false → ((e : UnitId) → has_listed_unit xs e ≡ true → better e w ≡ false) → (e : UnitId) → has_listed_unit (u ∷ xs) e ≡ true → better e w ≡ false
+  with_first u xs w first behind e has = elim (or_cases (same_unit e u) (has_listed_unit xs e) has) [ inl same ↦ subst (λ x. better x w ≡ false) (sym (same_unit_same e u same)) first | inr rest ↦ behind e rest ]
 
   -- the scan went on with the unit
   from_unit : (best : Option UnitId) (u : UnitId) (xs : List UnitId) (w : UnitId) → IsBest better (Some u) xs w → ((b : UnitId) → best ≡ Some b → better u b ≡ true) → IsBest better best (u ∷ xs) w

@@ -9,9 +9,9 @@ use Rattle.sched_model.specs.declared.state.Domain.{Domain}
 use Rattle.sched_model.specs.declared.state.Resource.{Resource}
 use Rattle.sched_model.specs.declared.state.Scheduler.{Scheduler}
 use Rattle.sched_model.specs.Places.{at_place, change_at}
-use Rattle.sched_model.specs.State.{is_runnable, runnable_among}
-use Rattle.sched_model.specs.EligibleUnits.{is_allowed}
-use Rattle.sched_model.specs.Pool.{home_cores, settled_pool, reconsidered_core}
+use Rattle.sched_model.specs.State.{may_unit_run, runnable_among}
+use Rattle.sched_model.specs.EligibleUnits.{is_unit_allowed}
+use Rattle.sched_model.specs.Pool.{pool_core_set, settled_pool, reconsidered_core}
 use Rattle.sched_model.proofs.PlaceLemmas.{is_some-option_map, cores_from-change_at}
 pub use Rattle.sched_model.proofs.PlaceLemmas.{at_place-change_at_other}
 use Rattle.sched_laws.proofs.EachPlace.{at_place-change_each}
@@ -31,7 +31,7 @@ turns_runs g weight most t home runs runs2 scheduler r c same =
         → elim cur as (λ _. ℕ) [ None ↦ cond (c.leaving && c.pending) (suc most) most | Some u ↦ cond (not c.leaving && is_secure runs2 t home scheduler r u) (ahead scheduler.records u) (suc most) ]
         ≡ elim cur as (λ _. ℕ) [ None ↦ cond (c.leaving && c.pending) (suc most) most | Some u ↦ cond (not c.leaving && is_secure runs t home scheduler r u) (ahead scheduler.records u) (suc most) ]
     by_cur None = refl
-    by_cur (Some u) = ap (λ b. cond (not c.leaving && (b && is_allowed scheduler home r u && keeps scheduler.records scheduler home r t u)) (ahead scheduler.records u) (suc most)) (same u)
+    by_cur (Some u) = ap (λ b. cond (not c.leaving && (b && is_unit_allowed scheduler home r u && keeps scheduler.records scheduler home r t u)) (ahead scheduler.records u) (suc most)) (same u)
 
 -- what is left to the pool's core r falls, and what is left to each other core grows by b at most; the fall pays for all
 pub record Falls (m : Machine) (t : ℕ) (pool next : Pool) (r : ℕ) : Type 0 where
@@ -52,30 +52,30 @@ falls_settled m t pool next r fall = record {
     settled_places : (o : Option Resource) (k : ℕ) → at_place next.resources k ≡ o → is_some (at_place (settled_pool t next).resources k) ≡ is_some (at_place next.resources k)
     settled_places o k is =
         let e : 0 + k ≡ k = omega arith in
-        let a = at_place-change_each 0 k (reconsidered_core t (home_cores next) next.scheduler) next.resources in
-        ap is_some a ∙ is_some-option_map (reconsidered_core t (home_cores next) next.scheduler (0 + k)) (at_place next.resources k)
+        let a = at_place-change_each 0 k (reconsidered_core t (pool_core_set next) next.scheduler) next.resources in
+        ap is_some a ∙ is_some-option_map (reconsidered_core t (pool_core_set next) next.scheduler (0 + k)) (at_place next.resources k)
 
 module _ (m : Machine) (t : ℕ) (pool : Pool) where
   -- what is left to a core of the pool under a scheduler
   abbrev pub under : Scheduler → ℕ → Resource → ℕ
-  under scheduler r c = turns m.config.granularity (weight_of m) (units m) (is_runnable m.config.granularity pool) t (home_cores pool) scheduler r c
+  under scheduler r c = turns m.config.granularity (weight_of m) (units m) (may_unit_run m.config.granularity pool) t (pool_core_set pool) scheduler r c
 
   pub turns_is : (k : ℕ) (x : Resource) → at_place pool.resources k ≡ Some x → turns_in m t pool k ≡ under pool.scheduler k x
   turns_is k x at = ap (λ (o : Option Resource). elim o as (λ _. ℕ) [ None ↦ 0 | Some y ↦ under pool.scheduler k y ]) at
 
   -- one core is changed, and perhaps the scheduler, and what is known of domains in which the same units are runnable
   pub changed : (scheduler : Scheduler) (domains : List (Option Domain)) (r b : ℕ) (h : Resource → Resource) (c : Resource) → at_place pool.resources r ≡ Some c
-      → ((u : UnitId) → runnable_among m.config.granularity domains u ≡ is_runnable m.config.granularity pool u)
+      → ((u : UnitId) → runnable_among m.config.granularity domains u ≡ may_unit_run m.config.granularity pool u)
       → under scheduler r (h c) + (many (cores m) b + 1) ≤ under pool.scheduler r c + b
       → ((k : ℕ) (x : Resource) → k ≢ r → at_place pool.resources k ≡ Some x → under scheduler k x ≤ under pool.scheduler k x + b)
       → Falls m t pool (record { scheduler = scheduler; domains = domains; resources = change_at r h pool.resources }) r
   changed scheduler domains r b h c at same own others =
       let next : Pool = record { scheduler = scheduler; domains = domains; resources = change_at r h pool.resources } in
       let g : ℕ = m.config.granularity in
-      let home : home_cores next ≡ home_cores pool = cores_from-change_at 0 r h pool.resources in
+      let home : pool_core_set next ≡ pool_core_set pool = cores_from-change_at 0 r h pool.resources in
       let to : (k : ℕ) (o : Option Resource) → at_place next.resources k ≡ o → turns_in m t next k ≡ elim o as (λ _. ℕ) [ None ↦ 0 | Some x ↦ under scheduler k x ] = λ k o e.
-      ap (λ (p : Option Resource). elim p as (λ _. ℕ) [ None ↦ 0 | Some x ↦ turns g (weight_of m) (units m) (is_runnable g next) t (home_cores next) scheduler k x ]) e
-      ∙ ap (λ (n : ℕ). elim o as (λ _. ℕ) [ None ↦ 0 | Some x ↦ turns g (weight_of m) (units m) (is_runnable g next) t n scheduler k x ]) home
+      ap (λ (p : Option Resource). elim p as (λ _. ℕ) [ None ↦ 0 | Some x ↦ turns g (weight_of m) (units m) (may_unit_run g next) t (pool_core_set next) scheduler k x ]) e
+      ∙ ap (λ (n : ℕ). elim o as (λ _. ℕ) [ None ↦ 0 | Some x ↦ turns g (weight_of m) (units m) (may_unit_run g next) t n scheduler k x ]) home
       ∙ by_core k o next same in
       record {
         b = b;
@@ -87,10 +87,10 @@ module _ (m : Machine) (t : ℕ) (pool : Pool) where
         others = λ k other. by_other k other (at_place pool.resources k) refl next (to k (at_place pool.resources k) (at_place-change_at_other r k h pool.resources other));
       }
     where
-      by_core : (k : ℕ) (o : Option Resource) (next : Pool) → ((u : UnitId) → is_runnable m.config.granularity next u ≡ is_runnable m.config.granularity pool u)
-          → elim o as (λ _. ℕ) [ None ↦ 0 | Some x ↦ turns m.config.granularity (weight_of m) (units m) (is_runnable m.config.granularity next) t (home_cores pool) scheduler k x ] ≡ elim o as (λ _. ℕ) [ None ↦ 0 | Some x ↦ under scheduler k x ]
+      by_core : (k : ℕ) (o : Option Resource) (next : Pool) → ((u : UnitId) → may_unit_run m.config.granularity next u ≡ may_unit_run m.config.granularity pool u)
+          → elim o as (λ _. ℕ) [ None ↦ 0 | Some x ↦ turns m.config.granularity (weight_of m) (units m) (may_unit_run m.config.granularity next) t (pool_core_set pool) scheduler k x ] ≡ elim o as (λ _. ℕ) [ None ↦ 0 | Some x ↦ under scheduler k x ]
       by_core k None next same = refl
-      by_core k (Some x) next same = turns_runs m.config.granularity (weight_of m) (units m) t (home_cores pool) (is_runnable m.config.granularity pool) (is_runnable m.config.granularity next) scheduler k x same
+      by_core k (Some x) next same = turns_runs m.config.granularity (weight_of m) (units m) t (pool_core_set pool) (may_unit_run m.config.granularity pool) (may_unit_run m.config.granularity next) scheduler k x same
 
       by_other : (k : ℕ) → k ≢ r → (o : Option Resource) → at_place pool.resources k ≡ o → (next : Pool) → turns_in m t next k ≡ elim o as (λ _. ℕ) [ None ↦ 0 | Some x ↦ under scheduler k x ] → turns_in m t next k ≤ turns_in m t pool k + b
       by_other k other None is next e = rw (e) (omega arith)

@@ -5,7 +5,7 @@ use Rattle.std.specs.List.{list_any}
 use Rattle.std.proofs.Math.Decide.{ℕ_discrete}
 use Rattle.std.proofs.lemmas.Bool.{false_from_ne_true, cases_Bool, or_cases, and_from}
 use Rattle.sched_base.specs.Numbers.{domain as domain_number}
-use Rattle.sched_base.specs.Credit2Numbers.{total, quota, take, burned_credit}
+use Rattle.sched_base.specs.Credit2Numbers.{cap_budget, budget_quota, taken_budget, burned_credit}
 use Rattle.sched_base.specs.declared.UnitId.{UnitId}
 use Rattle.sched_base.specs.declared.Cores.{Cores}
 use Rattle.sched_model.specs.declared.machine.Machine.{Machine}
@@ -19,13 +19,13 @@ use Rattle.sched_model.specs.declared.state.Scheduler.{Scheduler}
 use Rattle.sched_model.specs.declared.state.Records.{Records}
 use Rattle.sched_model.specs.declared.state.Records.TheVariants.{Credit2Pool}
 use Rattle.sched_model.specs.declared.ask.Ask.{Ask}
-use Rattle.sched_model.specs.Places.{at_place, change_at, change_item, has_unit}
-use Rattle.sched_model.specs.State.{is_runnable}
-use Rattle.sched_model.specs.EligibleUnits.{is_allowed, is_eligible, passes, eligible_units as eligible, has_budget}
+use Rattle.sched_model.specs.Places.{at_place, change_at, change_item, has_listed_unit}
+use Rattle.sched_model.specs.State.{may_unit_run}
+use Rattle.sched_model.specs.EligibleUnits.{is_unit_allowed, is_unit_eligible, may_have_core, eligible_units as eligible, has_cap_budget}
 use Rattle.sched_model.specs.Credit2 as credit2
-use Rattle.sched_model.specs.Credit2.{burn_unit, change_unit, change_domain, give_back, take_budget, credit_of, domain_has_budget, is_within_limit, greatest_unit, max_weight}
-use Rattle.sched_model.specs.Policy.{is_better, better_waits}
-use Rattle.sched_model.specs.Pool.{home_cores, ask_of}
+use Rattle.sched_model.specs.Credit2.{burned_unit, change_unit, change_domain, domain_after_return, domain_after_take, unit_credit, has_domain_budget, is_rate_limited, richest_unit, most_weight}
+use Rattle.sched_model.specs.Policy.{is_unit_better, has_better_waiting}
+use Rattle.sched_model.specs.Pool.{pool_core_set, core_ask}
 use Rattle.sched_base.proofs.Bools.{and_left, and_right, clash}
 use Rattle.sched_laws.proofs.Choices.{at_unit}
 use Rattle.sched_laws.proofs.EachPlace.{by_option, by_cond}
@@ -60,65 +60,65 @@ module _ (m : Machine) (t : ℕ) (queue : List UnitId) (affinity : List (Option 
   pool = record { scheduler = scheduler; domains = domains; resources = resources }
 
   abbrev home : ℕ
-  home = home_cores pool
+  home = pool_core_set pool
 
   abbrev ask : Ask
-  ask = ask_of m.config.granularity t pool r c
+  ask = core_ask m.config.granularity t pool r c
 
   abbrev runs : UnitId → Bool
-  runs u = is_runnable m.config.granularity pool u
+  runs u = may_unit_run m.config.granularity pool u
 
   abbrev burned : Credit2Records
-  burned = credit2.burn_cur c.cur t records
+  burned = credit2.own_burned_records c.cur t records
 
   abbrev chosen : Option UnitId
-  chosen = credit2.choice ask scheduler burned
+  chosen = credit2.credit2_choice ask scheduler burned
 
   abbrev own : Option UnitId
-  own = credit2.own_candidate ask scheduler burned
+  own = credit2.credit2_candidate ask scheduler burned
 
   abbrev waiting : List UnitId
   waiting = eligible (record scheduler { records = Credit2Pool burned }) home r t
 
   abbrev within : Bool
-  within = is_some own && is_within_limit burned c.since.0 t
+  within = is_some own && is_rate_limited burned c.since.0 t
 
   -- the records after the core's own unit gave back, after the chosen one took, and after the decision
   abbrev given : Option UnitId → Credit2Records
   given cur = elim cur as (λ _. Credit2Records) [ None ↦ records | Some u ↦ change_domain u.dom.0 (gives u.n) records ]
 
   abbrev then : Option UnitId → Credit2Records
-  then choice = elim choice as (λ _. Credit2Records) [ None ↦ credit2.switch_off c.cur (given c.cur) | Some w ↦ credit2.set_running (Some t) w (credit2.switch_off c.cur (change_domain w.dom.0 (take_budget w.n) (given c.cur))) ]
+  then choice = elim choice as (λ _. Credit2Records) [ None ↦ credit2.off_records c.cur (given c.cur) | Some w ↦ credit2.running_records (Some t) w (credit2.off_records c.cur (change_domain w.dom.0 (domain_after_take w.n) (given c.cur))) ]
 
   -- the same, of a core with this unit
   abbrev then_of : Option UnitId → Option UnitId → Credit2Records
-  then_of cur choice = elim choice as (λ _. Credit2Records) [ None ↦ credit2.switch_off cur (given cur) | Some w ↦ credit2.set_running (Some t) w (credit2.switch_off cur (change_domain w.dom.0 (take_budget w.n) (given cur))) ]
+  then_of cur choice = elim choice as (λ _. Credit2Records) [ None ↦ credit2.off_records cur (given cur) | Some w ↦ credit2.running_records (Some t) w (credit2.off_records cur (change_domain w.dom.0 (domain_after_take w.n) (given cur))) ]
 
   module _ (standing : Standing m pool r c) (still : IsStill m t pool records r c) where
     -- charging the core's own unit changes nothing
     burned_is : burned ≡ given c.cur
     burned_is = by_cur c.cur refl
       where
-        by_cur : (cur : Option UnitId) → c.cur ≡ cur → credit2.burn_cur cur t records ≡ given cur
+        by_cur : (cur : Option UnitId) → c.cur ≡ cur → credit2.own_burned_records cur t records ≡ given cur
         by_cur None is = refl
         by_cur (Some u) is =
             ap (λ (rs : Credit2Records). change_domain u.dom.0 (gives u.n) rs)
             (ap (λ (ds : List (Option Credit2Domain)). record records { domains = ds })
-            (change_at_same u.dom.0 (λ d. record d { units = change_item u.n (burn_unit (max_weight records) t d) d.units }) records.domains
-            (λ d at. ap (λ (xs : List Credit2Unit). record d { units = xs }) (change_item_same u.n (burn_unit (max_weight records) t d) d.units (λ x get. (let f = still.fresh u d x is at get in burn_same (max_weight records) t d x f.burned f.residual))))))
+            (change_at_same u.dom.0 (λ d. record d { units = change_item u.n (burned_unit (most_weight records) t d) d.units }) records.domains
+            (λ d at. ap (λ (xs : List Credit2Unit). record d { units = xs }) (change_item_same u.n (burned_unit (most_weight records) t d) d.units (λ x get. (let f = still.fresh u d x is at get in burn_same (most_weight records) t d x f.burned f.residual))))))
 
-    decide_unit : (choice : Option UnitId) → (credit2.decide ask scheduler burned choice).unit ≡ choice
+    decide_unit : (choice : Option UnitId) → (credit2.credit2_decision_for ask scheduler burned choice).unit ≡ choice
     decide_unit None = refl
     decide_unit (Some u) = refl
 
     unit_next : (decision m t pool r c).unit ≡ chosen
     unit_next = decide_unit chosen
 
-    decide_records : (choice : Option UnitId) → (credit2.decide ask scheduler burned choice).reset ≡ 0 → (credit2.decide ask scheduler burned choice).records ≡ Credit2Pool (then choice)
-    decide_records None none = ap (λ (b : Credit2Records). Credit2Pool (credit2.switch_off c.cur b)) burned_is
+    decide_records : (choice : Option UnitId) → (credit2.credit2_decision_for ask scheduler burned choice).reset ≡ 0 → (credit2.credit2_decision_for ask scheduler burned choice).records ≡ Credit2Pool (then choice)
+    decide_records None none = ap (λ (b : Credit2Records). Credit2Pool (credit2.off_records c.cur b)) burned_is
     decide_records (Some w) none =
-        ap (λ k. Credit2Pool (credit2.set_running (Some t) w (credit2.switch_off c.cur (change_domain w.dom.0 (take_budget w.n) (credit2.reset t k burned))))) none
-        ∙ ap (λ (b : Credit2Records). Credit2Pool (credit2.set_running (Some t) w (credit2.switch_off c.cur (change_domain w.dom.0 (take_budget w.n) b)))) burned_is
+        ap (λ k. Credit2Pool (credit2.running_records (Some t) w (credit2.off_records c.cur (change_domain w.dom.0 (domain_after_take w.n) (credit2.reset_records t k burned))))) none
+        ∙ ap (λ (b : Credit2Records). Credit2Pool (credit2.running_records (Some t) w (credit2.off_records c.cur (change_domain w.dom.0 (domain_after_take w.n) b)))) burned_is
 
     records_next : (next m t pool r c).records ≡ Credit2Pool (then chosen)
     records_next = decide_records chosen still.no_reset
@@ -126,13 +126,13 @@ module _ (m : Machine) (t : ℕ) (queue : List UnitId) (affinity : List (Option 
     -- faces stay
     face_gives : (n : ℕ) (d : Credit2Domain) → face (gives n d) ≡ face d
     face_gives n d =
-        by_cond (λ (y : Credit2Domain). face y ≡ face d) (d.cap == 0) d (give_back n d) (λ is. refl)
+        by_cond (λ (y : Credit2Domain). face y ≡ face d) (d.cap == 0) d (domain_after_return n d) (λ is. refl)
         (λ is. by_option (λ (y : Credit2Domain). face y ≡ face d) (slice_get d.units n) d (λ u. record d { budget = d.budget +ℤ u.held; units = change_item n (λ x. record x { held = pos 0 }) d.units })
         (λ none. refl) (λ u some. face_units d (change_item n (λ x. record x { held = pos 0 }) d.units) (credits_change n (λ x. record x { held = pos 0 }) d.units (λ x. refl))))
 
-    face_takes : (n : ℕ) (d : Credit2Domain) → face (take_budget n d) ≡ face d
+    face_takes : (n : ℕ) (d : Credit2Domain) → face (domain_after_take n d) ≡ face d
     face_takes n d =
-        let taken : ℤ = take d.budget (quota (total d.cap) (length d.units)) in
+        let taken : ℤ = taken_budget d.budget (budget_quota (cap_budget d.cap) (length d.units)) in
         by_cond (λ (y : Credit2Domain). face y ≡ face d) (d.cap == 0) d (record d { budget = d.budget -ℤ taken; units = change_item n (λ x. record x { held = taken }) d.units }) (λ is. refl)
         (λ is. face_units d (change_item n (λ x. record x { held = taken }) d.units) (credits_change n (λ x. record x { held = taken }) d.units (λ x. refl)))
 
@@ -143,29 +143,29 @@ module _ (m : Machine) (t : ℕ) (queue : List UnitId) (affinity : List (Option 
     faces_given None = refl
     faces_given (Some u) = faces_change u.dom.0 (gives u.n) records.domains (face_gives u.n)
 
-    faces_off : (cur : Option UnitId) (rs : Credit2Records) → faces (credit2.switch_off cur rs).domains ≡ faces rs.domains
+    faces_off : (cur : Option UnitId) (rs : Credit2Records) → faces (credit2.off_records cur rs).domains ≡ faces rs.domains
     faces_off None rs = refl
     faces_off (Some u) rs = faces_change u.dom.0 (running None u.n) rs.domains (face_runs None u.n)
 
     faces_then : (choice : Option UnitId) → faces (then choice).domains ≡ faces records.domains
     faces_then None = faces_off c.cur (given c.cur) ∙ faces_given c.cur
     faces_then (Some w) =
-        faces_change w.dom.0 (running (Some t) w.n) (credit2.switch_off c.cur (change_domain w.dom.0 (take_budget w.n) (given c.cur))).domains (face_runs (Some t) w.n)
-        ∙ faces_off c.cur (change_domain w.dom.0 (take_budget w.n) (given c.cur)) ∙ faces_change w.dom.0 (take_budget w.n) (given c.cur).domains (face_takes w.n) ∙ faces_given c.cur
+        faces_change w.dom.0 (running (Some t) w.n) (credit2.off_records c.cur (change_domain w.dom.0 (domain_after_take w.n) (given c.cur))).domains (face_runs (Some t) w.n)
+        ∙ faces_off c.cur (change_domain w.dom.0 (domain_after_take w.n) (given c.cur)) ∙ faces_change w.dom.0 (domain_after_take w.n) (given c.cur).domains (face_takes w.n) ∙ faces_given c.cur
 
     limit_given : (cur : Option UnitId) → (given cur).limit ≡ records.limit
     limit_given None = refl
     limit_given (Some u) = refl
 
-    limit_off : (cur : Option UnitId) (rs : Credit2Records) → (credit2.switch_off cur rs).limit ≡ rs.limit
+    limit_off : (cur : Option UnitId) (rs : Credit2Records) → (credit2.off_records cur rs).limit ≡ rs.limit
     limit_off None rs = refl
     limit_off (Some u) rs = refl
 
     limit_then : (choice : Option UnitId) → (then choice).limit ≡ records.limit
     limit_then None = limit_off c.cur (given c.cur) ∙ limit_given c.cur
-    limit_then (Some w) = limit_off c.cur (change_domain w.dom.0 (take_budget w.n) (given c.cur)) ∙ limit_given c.cur
+    limit_then (Some w) = limit_off c.cur (change_domain w.dom.0 (domain_after_take w.n) (given c.cur)) ∙ limit_given c.cur
 
-    credit_same : (a b : Credit2Records) → faces a.domains ≡ faces b.domains → (u : UnitId) → credit_of a u ≡ credit_of b u
+    credit_same : (a b : Credit2Records) → faces a.domains ≡ faces b.domains → (u : UnitId) → unit_credit a u ≡ unit_credit b u
     credit_same a b same u = credit_is a u ∙ ap (λ fs. credit_at fs u) same ∙ sym (credit_is b u)
 
     faces_burned : faces burned.domains ≡ faces records.domains
@@ -174,35 +174,35 @@ module _ (m : Machine) (t : ℕ) (queue : List UnitId) (affinity : List (Option 
     ahead_next : (u : UnitId) → ahead (next m t pool r c).records u ≡ ahead (Credit2Pool records) u
     ahead_next u = ap (λ (y : Records). ahead y u) records_next ∙ ahead_is (then chosen) u ∙ ap (λ fs. above (credit_at fs u) fs) (faces_then chosen) ∙ sym (ahead_is records u)
 
-    within_same : (since : ℕ) (rs : Credit2Records) → rs.limit ≡ records.limit → is_within_limit rs since t ≡ is_within_limit records since t
-    within_same since rs same = ap (λ l. credit2.is_within_limit (record records { limit = l }) since t) same
+    within_same : (since : ℕ) (rs : Credit2Records) → rs.limit ≡ records.limit → is_rate_limited rs since t ≡ is_rate_limited records since t
+    within_same since rs same = ap (λ l. credit2.is_rate_limited (record records { limit = l }) since t) same
 
     -- the choice, and the units that may be chosen
-    chosen_is : c.leaving ≡ false → chosen ≡ cond within own (greatest_unit burned own waiting)
-    chosen_is stays = ap (λ b. cond b None (cond within own (greatest_unit burned own waiting))) stays
+    chosen_is : c.leaving ≡ false → chosen ≡ cond within own (richest_unit burned own waiting)
+    chosen_is stays = ap (λ b. cond b None (cond within own (richest_unit burned own waiting))) stays
 
     record May (w : UnitId) : Type 0 where
-      pub runs : is_runnable m.config.granularity pool w ≡ true
-      pub allowed : is_allowed scheduler home r w ≡ true
-      pub budget : domain_has_budget burned w ≡ true
+      pub runs : may_unit_run m.config.granularity pool w ≡ true
+      pub allowed : is_unit_allowed scheduler home r w ≡ true
+      pub budget : has_domain_budget burned w ≡ true
       pub has : HasUnit records w
       pub one : 1 ≤ units m
-      pub from : (c.cur ≡ Some w) ⊎ (has_unit queue w ≡ true)
+      pub from : (c.cur ≡ Some w) ⊎ (has_listed_unit queue w ≡ true)
 
     own_may : (w : UnitId) → own ≡ Some w → May w
     own_may w is = by_cur c.cur refl is
       where
-        by_cur : (cur : Option UnitId) → c.cur ≡ cur → elim cur as (λ _. Option UnitId) [ None ↦ None | Some u ↦ cond (ask.runnable && is_allowed scheduler home r u && domain_has_budget burned u) (Some u) None ] ≡ Some w → May w
+        by_cur : (cur : Option UnitId) → c.cur ≡ cur → elim cur as (λ _. Option UnitId) [ None ↦ None | Some u ↦ cond (ask.runnable && is_unit_allowed scheduler home r u && has_domain_budget burned u) (Some u) None ] ≡ Some w → May w
         by_cur None cur e = absurd (cc)
         by_cur (Some u) cur e =
-            elim (ask.runnable && is_allowed scheduler home r u && domain_has_budget burned u) as (λ b. (ask.runnable && is_allowed scheduler home r u && domain_has_budget burned u) ≡ b → cond b (Some u) None ≡ Some w → May w) [
+            elim (ask.runnable && is_unit_allowed scheduler home r u && has_domain_budget burned u) as (λ b. (ask.runnable && is_unit_allowed scheduler home r u && has_domain_budget burned u) ≡ b → cond b (Some u) None ≡ Some w → May w) [
               | true ↦ λ all h. (
                   let same : u ≡ w = cc in
-                  let two = and_left (ask.runnable && is_allowed scheduler home r u) _ all in
+                  let two = and_left (ask.runnable && is_unit_allowed scheduler home r u) _ all in
                   subst May same (record {
-                    runs = sym (ap (λ (o : Option UnitId). elim o as (λ _. Bool) [ None ↦ false | Some x ↦ is_runnable m.config.granularity pool x ]) cur) ∙ and_left ask.runnable _ two;
+                    runs = sym (ap (λ (o : Option UnitId). elim o as (λ _. Bool) [ None ↦ false | Some x ↦ may_unit_run m.config.granularity pool x ]) cur) ∙ and_left ask.runnable _ two;
                     allowed = and_right ask.runnable _ two;
-                    budget = and_right (ask.runnable && is_allowed scheduler home r u) _ all;
+                    budget = and_right (ask.runnable && is_unit_allowed scheduler home r u) _ all;
                     has = still.own_has u cur;
                     one = (standing.own u cur).1;
                     from = inl cur;
@@ -210,13 +210,13 @@ module _ (m : Machine) (t : ℕ) (queue : List UnitId) (affinity : List (Option 
               | false ↦ λ none h. absurd (cc)
             ] refl e
 
-    waiting_may : (w : UnitId) → has_unit waiting w ≡ true → May w
+    waiting_may : (w : UnitId) → has_listed_unit waiting w ≡ true → May w
     waiting_may w has =
-        let h = has_filter (is_eligible (record scheduler { records = Credit2Pool burned }) home r t) queue w has in
+        let h = has_filter (is_unit_eligible (record scheduler { records = Credit2Pool burned }) home r t) queue w has in
         record {
           runs = at_unit (λ u. runs u ≡ true) w queue h.0 standing.waits;
-          allowed = and_left (is_allowed scheduler home r w) _ h.1;
-          budget = and_right (is_allowed scheduler home r w) _ h.1;
+          allowed = and_left (is_unit_allowed scheduler home r w) _ h.1;
+          budget = and_right (is_unit_allowed scheduler home r w) _ h.1;
           has = still.waiting_has w h.0;
           one = standing.counted w h.0;
           from = inr h.0;
@@ -224,11 +224,11 @@ module _ (m : Machine) (t : ℕ) (queue : List UnitId) (affinity : List (Option 
 
     chosen_may : (w : UnitId) → chosen ≡ Some w → May w
     chosen_may w is = elim (cases_Bool c.leaving) [
-      | inl goes ↦ absurd (let e : None ≡ Some w = sym (ap (λ b. cond b None (cond within own (greatest_unit burned own waiting))) goes) ∙ is in cc)
+      | inl goes ↦ absurd (let e : None ≡ Some w = sym (ap (λ b. cond b None (cond within own (richest_unit burned own waiting))) goes) ∙ is in cc)
       | inr stays ↦ by_within within (sym (chosen_is stays) ∙ is)
     ]
       where
-        by_within : (b : Bool) → cond b own (greatest_unit burned own waiting) ≡ Some w → May w
+        by_within : (b : Bool) → cond b own (richest_unit burned own waiting) ≡ Some w → May w
         by_within true e = own_may w e
         by_within false e = elim (is_best (credit_order burned) (greatest_scan burned) own waiting w e).source [ inl o ↦ own_may w o | inr has ↦ waiting_may w has ]
 
@@ -236,11 +236,11 @@ module _ (m : Machine) (t : ℕ) (queue : List UnitId) (affinity : List (Option 
     Funded : ℕ → Credit2Domain → Type 0
     Funded n d = is_funded d n ≡ true
 
-    off_has : (cur : Option UnitId) (rs : Credit2Records) (d n : ℕ) → Has (λ (x : Credit2Domain). is_funded x n ≡ true) rs.domains d → Has (λ (x : Credit2Domain). is_funded x n ≡ true) (credit2.switch_off cur rs).domains d
+    off_has : (cur : Option UnitId) (rs : Credit2Records) (d n : ℕ) → Has (λ (x : Credit2Domain). is_funded x n ≡ true) rs.domains d → Has (λ (x : Credit2Domain). is_funded x n ≡ true) (credit2.off_records cur rs).domains d
     off_has None rs d n has = has
     off_has (Some u) rs d n has = has_change _ (λ (x : Credit2Domain). is_funded x n ≡ true) d u.dom.0 (running None u.n) rs.domains has (λ same x at f. funded_runs u.n n None x ∙ f) (λ ne x f. f)
 
-    on_has : (w : UnitId) (rs : Credit2Records) (d n : ℕ) → Has (λ (x : Credit2Domain). is_funded x n ≡ true) rs.domains d → Has (λ (x : Credit2Domain). is_funded x n ≡ true) (credit2.set_running (Some t) w rs).domains d
+    on_has : (w : UnitId) (rs : Credit2Records) (d n : ℕ) → Has (λ (x : Credit2Domain). is_funded x n ≡ true) rs.domains d → Has (λ (x : Credit2Domain). is_funded x n ≡ true) (credit2.running_records (Some t) w rs).domains d
     on_has w rs d n has = has_change _ (λ (x : Credit2Domain). is_funded x n ≡ true) d w.dom.0 (running (Some t) w.n) rs.domains has (λ same x at f. funded_runs w.n n (Some t) x ∙ f) (λ ne x f. f)
 
     funded_keeps : (rs : Credit2Records) (u : UnitId) → Has (λ (x : Credit2Domain). is_funded x u.n ≡ true) rs.domains u.dom.0 → elim (at_place rs.domains u.dom.0) as (λ _. Bool) [ None ↦ false | Some d ↦ is_funded d u.n ] ≡ true
@@ -249,11 +249,11 @@ module _ (m : Machine) (t : ℕ) (queue : List UnitId) (affinity : List (Option 
     keeps_funded : (rs : Credit2Records) (u : UnitId) → elim (at_place rs.domains u.dom.0) as (λ _. Bool) [ None ↦ false | Some d ↦ is_funded d u.n ] ≡ true → Has (λ (x : Credit2Domain). is_funded x u.n ≡ true) rs.domains u.dom.0
     keeps_funded rs u is = by_option (λ (b : Bool). b ≡ true → Has (λ (x : Credit2Domain). is_funded x u.n ≡ true) rs.domains u.dom.0) (at_place rs.domains u.dom.0) false (λ d. is_funded d u.n) (λ none e. absurd (cc)) (λ d at e. record { domain = d; at = at; fact = e }) is
 
-    budget_at : (w : UnitId) (d : Credit2Domain) → domain_has_budget burned w ≡ true → at_place (given c.cur).domains w.dom.0 ≡ Some d → has_budget d ≡ true
-    budget_at w d has at = sym (ap (λ (b : Credit2Records). domain_has_budget b w) burned_is ∙ ap (λ (o : Option Credit2Domain). elim o as (λ _. Bool) [ None ↦ false | Some x ↦ has_budget x ]) at) ∙ has
+    budget_at : (w : UnitId) (d : Credit2Domain) → has_domain_budget burned w ≡ true → at_place (given c.cur).domains w.dom.0 ≡ Some d → has_cap_budget d ≡ true
+    budget_at w d has at = sym (ap (λ (b : Credit2Records). has_domain_budget b w) burned_is ∙ ap (λ (o : Option Credit2Domain). elim o as (λ _. Bool) [ None ↦ false | Some x ↦ has_cap_budget x ]) at) ∙ has
 
-    secure_then : (k : ℕ) (u : UnitId) → runs u ≡ true → is_allowed scheduler home k u ≡ true → Has (λ (x : Credit2Domain). is_funded x u.n ≡ true) (then chosen).domains u.dom.0 → SecureThen m t pool r c k u
-    secure_then k u run allowed has = and_from (runs u && is_allowed scheduler home k u) _ (and_from (runs u) _ run allowed) (ap (λ (y : Records). turns.keeps y (next m t pool r c) home k t u) records_next ∙ funded_keeps (then chosen) u has)
+    secure_then : (k : ℕ) (u : UnitId) → runs u ≡ true → is_unit_allowed scheduler home k u ≡ true → Has (λ (x : Credit2Domain). is_funded x u.n ≡ true) (then chosen).domains u.dom.0 → SecureThen m t pool r c k u
+    secure_then k u run allowed has = and_from (runs u && is_unit_allowed scheduler home k u) _ (and_from (runs u) _ run allowed) (ap (λ (y : Records). turns.keeps y (next m t pool r c) home k t u) records_next ∙ funded_keeps (then chosen) u has)
 
     there_gives : (i n : ℕ) (d : Credit2Domain) → is_some (slice_get d.units n) ≡ true → is_some (slice_get (gives i d).units n) ≡ true
     there_gives i n d there =
@@ -273,9 +273,9 @@ module _ (m : Machine) (t : ℕ) (queue : List UnitId) (affinity : List (Option 
     chosen_funded w is may =
         let there : Has (λ (x : Credit2Domain). is_some (slice_get x.units w.n) ≡ true) records.domains w.dom.0 = record { domain = may.has.domain; at = may.has.at; fact = ap is_some may.has.get } in
         let got : Has (λ (x : Credit2Domain). is_some (slice_get x.units w.n) ≡ true) (given c.cur).domains w.dom.0 = by_cur c.cur there in
-        let funded : Has (λ (x : Credit2Domain). is_funded x w.n ≡ true) (change_at w.dom.0 (take_budget w.n) (given c.cur).domains) w.dom.0 =
-        has_change (λ (x : Credit2Domain). is_some (slice_get x.units w.n) ≡ true) (λ (x : Credit2Domain). is_funded x w.n ≡ true) w.dom.0 w.dom.0 (take_budget w.n) (given c.cur).domains got (λ same x at f. takes_funded w.n x (budget_at w x may.budget at) f) (λ ne x f. absurd (ne refl)) in
-        subst (λ (o : Option UnitId). Has (λ (x : Credit2Domain). is_funded x w.n ≡ true) (then o).domains w.dom.0) (sym is) (on_has w (credit2.switch_off c.cur (change_domain w.dom.0 (take_budget w.n) (given c.cur))) w.dom.0 w.n (off_has c.cur (change_domain w.dom.0 (take_budget w.n) (given c.cur)) w.dom.0 w.n funded))
+        let funded : Has (λ (x : Credit2Domain). is_funded x w.n ≡ true) (change_at w.dom.0 (domain_after_take w.n) (given c.cur).domains) w.dom.0 =
+        has_change (λ (x : Credit2Domain). is_some (slice_get x.units w.n) ≡ true) (λ (x : Credit2Domain). is_funded x w.n ≡ true) w.dom.0 w.dom.0 (domain_after_take w.n) (given c.cur).domains got (λ same x at f. takes_funded w.n x (budget_at w x may.budget at) f) (λ ne x f. absurd (ne refl)) in
+        subst (λ (o : Option UnitId). Has (λ (x : Credit2Domain). is_funded x w.n ≡ true) (then o).domains w.dom.0) (sym is) (on_has w (credit2.off_records c.cur (change_domain w.dom.0 (domain_after_take w.n) (given c.cur))) w.dom.0 w.n (off_has c.cur (change_domain w.dom.0 (domain_after_take w.n) (given c.cur)) w.dom.0 w.n funded))
       where
         by_cur : (cur : Option UnitId) → Has (λ (x : Credit2Domain). is_some (slice_get x.units w.n) ≡ true) records.domains w.dom.0 → Has (λ (x : Credit2Domain). is_some (slice_get x.units w.n) ≡ true) (given cur).domains w.dom.0
         by_cur None has = has
@@ -288,7 +288,7 @@ module _ (m : Machine) (t : ℕ) (queue : List UnitId) (affinity : List (Option 
     apart_chosen : (k : ℕ) (x : Resource) (u w : UnitId) → k ≢ r → at_place resources k ≡ Some x → x.cur ≡ Some u → May w → u ≡ w → ⊥
     apart_chosen k x u w other at cur may same = elim may.from [
       | inl own ↦ apart_own k x u w other at cur own same
-      | inr waits ↦ clash (has_unit queue w) waits (subst (λ y. has_unit queue y ≡ false) same (standing.others k x u other at cur).0)
+      | inr waits ↦ clash (has_listed_unit queue w) waits (subst (λ y. has_listed_unit queue y ≡ false) same (standing.others k x u other at cur).0)
     ]
 
     other_funded : (k : ℕ) (x : Resource) (u : UnitId) → k ≢ r → at_place resources k ≡ Some x → x.cur ≡ Some u → Has (λ (y : Credit2Domain). is_funded y u.n ≡ true) records.domains u.dom.0 → Has (λ (y : Credit2Domain). is_funded y u.n ≡ true) (then chosen).domains u.dom.0
@@ -303,10 +303,10 @@ module _ (m : Machine) (t : ℕ) (queue : List UnitId) (affinity : List (Option 
         by_choice None is = off_has c.cur (given c.cur) u.dom.0 u.n (got c.cur refl)
         by_choice (Some w) is =
             let may = chosen_may w is in
-            let taken : Has (λ (y : Credit2Domain). is_funded y u.n ≡ true) (change_domain w.dom.0 (take_budget w.n) (given c.cur)).domains u.dom.0 =
-            has_change (λ (y : Credit2Domain). is_funded y u.n ≡ true) (λ (y : Credit2Domain). is_funded y u.n ≡ true) u.dom.0 w.dom.0 (take_budget w.n) (given c.cur).domains (got c.cur refl)
+            let taken : Has (λ (y : Credit2Domain). is_funded y u.n ≡ true) (change_domain w.dom.0 (domain_after_take w.n) (given c.cur)).domains u.dom.0 =
+            has_change (λ (y : Credit2Domain). is_funded y u.n ≡ true) (λ (y : Credit2Domain). is_funded y u.n ≡ true) u.dom.0 w.dom.0 (domain_after_take w.n) (given c.cur).domains (got c.cur refl)
             (λ same d at_d f. funded_takes w.n u.n d (other_index u w (apart_chosen k x u w other at cur may) same) (budget_at w d may.budget at_d) f) (λ ne y f. f) in
-            on_has w (credit2.switch_off c.cur (change_domain w.dom.0 (take_budget w.n) (given c.cur))) u.dom.0 u.n (off_has c.cur (change_domain w.dom.0 (take_budget w.n) (given c.cur)) u.dom.0 u.n taken)
+            on_has w (credit2.off_records c.cur (change_domain w.dom.0 (domain_after_take w.n) (given c.cur))) u.dom.0 u.n (off_has c.cur (change_domain w.dom.0 (domain_after_take w.n) (given c.cur)) u.dom.0 u.n taken)
 
     -- another core's own unit has the same weight and record
     abbrev SameUnit : (u : UnitId) → HasUnit records u → Credit2Domain → Type 0
@@ -326,7 +326,7 @@ module _ (m : Machine) (t : ℕ) (queue : List UnitId) (affinity : List (Option 
         got (Some v) is = has_change (SameUnit u h) (SameUnit u h) u.dom.0 v.dom.0 (gives v.n) records.domains start
             (λ same d at_d f. leaves v.n d (gives v.n d) (gives_leaves v.n d) (other_index u v (apart_own k x u v other at cur is) same) f) (λ ne y f. f)
 
-        off : (o : Option UnitId) → c.cur ≡ o → (rs : Credit2Records) → Has (SameUnit u h) rs.domains u.dom.0 → Has (SameUnit u h) (credit2.switch_off o rs).domains u.dom.0
+        off : (o : Option UnitId) → c.cur ≡ o → (rs : Credit2Records) → Has (SameUnit u h) rs.domains u.dom.0 → Has (SameUnit u h) (credit2.off_records o rs).domains u.dom.0
         off None is rs has = has
         off (Some v) is rs has = has_change (SameUnit u h) (SameUnit u h) u.dom.0 v.dom.0 (running None v.n) rs.domains has
             (λ same d at_d f. leaves v.n d (running None v.n d) (runs_leaves v.n None d) (other_index u v (apart_own k x u v other at cur is) same) f) (λ ne y f. f)
@@ -335,34 +335,34 @@ module _ (m : Machine) (t : ℕ) (queue : List UnitId) (affinity : List (Option 
         by_choice None is = off c.cur refl (given c.cur) (got c.cur refl)
         by_choice (Some w) is =
             let may = chosen_may w is in
-            let taken : Has (SameUnit u h) (change_domain w.dom.0 (take_budget w.n) (given c.cur)).domains u.dom.0 =
-            has_change (SameUnit u h) (SameUnit u h) u.dom.0 w.dom.0 (take_budget w.n) (given c.cur).domains (got c.cur refl)
-            (λ same d at_d f. leaves w.n d (take_budget w.n d) (takes_leaves w.n d) (other_index u w (apart_chosen k x u w other at cur may) same) f) (λ ne y f. f) in
-            has_change (SameUnit u h) (SameUnit u h) u.dom.0 w.dom.0 (running (Some t) w.n) (credit2.switch_off c.cur (change_domain w.dom.0 (take_budget w.n) (given c.cur))).domains
-            (off c.cur refl (change_domain w.dom.0 (take_budget w.n) (given c.cur)) taken)
+            let taken : Has (SameUnit u h) (change_domain w.dom.0 (domain_after_take w.n) (given c.cur)).domains u.dom.0 =
+            has_change (SameUnit u h) (SameUnit u h) u.dom.0 w.dom.0 (domain_after_take w.n) (given c.cur).domains (got c.cur refl)
+            (λ same d at_d f. leaves w.n d (domain_after_take w.n d) (takes_leaves w.n d) (other_index u w (apart_chosen k x u w other at cur may) same) f) (λ ne y f. f) in
+            has_change (SameUnit u h) (SameUnit u h) u.dom.0 w.dom.0 (running (Some t) w.n) (credit2.off_records c.cur (change_domain w.dom.0 (domain_after_take w.n) (given c.cur))).domains
+            (off c.cur refl (change_domain w.dom.0 (domain_after_take w.n) (given c.cur)) taken)
             (λ same d at_d f. leaves w.n d (running (Some t) w.n d) (runs_leaves w.n (Some t) d) (other_index u w (apart_chosen k x u w other at cur may) same) f) (λ ne y f. f)
 
-    most_same : max_weight (then chosen) ≡ max_weight records
+    most_same : most_weight (then chosen) ≡ most_weight records
     most_same = same_most (then chosen).domains records.domains (faces_then chosen)
 
     -- the credit that another core's own unit has now is as it was
-    other_credit : (k : ℕ) (x : Resource) (u : UnitId) → k ≢ r → at_place resources k ≡ Some x → x.cur ≡ Some u → credit_of (change_unit u (burn_unit (max_weight (then chosen)) t) (then chosen)) u ≡ credit_of (change_unit u (burn_unit (max_weight records) t) records) u
+    other_credit : (k : ℕ) (x : Resource) (u : UnitId) → k ≢ r → at_place resources k ≡ Some x → x.cur ≡ Some u → unit_credit (change_unit u (burned_unit (most_weight (then chosen)) t) (then chosen)) u ≡ unit_credit (change_unit u (burned_unit (most_weight records) t) records) u
     other_credit k x u other at cur =
         let h = still.other_has k x u other at cur in
         let s = other_same k x u h other at cur in
-        let now = credit_then (then chosen) u (burn_unit (max_weight (then chosen)) t) s.domain h.record_of s.at s.fact.1 in
-        let was = credit_then records u (burn_unit (max_weight records) t) h.domain h.record_of h.at h.get in
-        now ∙ burn_credit (max_weight (then chosen)) t s.domain h.record_of
-        ∙ ap (λ (w : ℕ). elim h.record_of.burned as (λ _. ℤ) [ None ↦ h.record_of.credit | Some from ↦ burned_credit h.record_of.credit h.record_of.residual w (max_weight (then chosen)) (t - from) ]) s.fact.0
+        let now = credit_then (then chosen) u (burned_unit (most_weight (then chosen)) t) s.domain h.record_of s.at s.fact.1 in
+        let was = credit_then records u (burned_unit (most_weight records) t) h.domain h.record_of h.at h.get in
+        now ∙ burn_credit (most_weight (then chosen)) t s.domain h.record_of
+        ∙ ap (λ (w : ℕ). elim h.record_of.burned as (λ _. ℤ) [ None ↦ h.record_of.credit | Some from ↦ burned_credit h.record_of.credit h.record_of.residual w (most_weight (then chosen)) (t - from) ]) s.fact.0
         ∙ ap (λ (w : ℕ). elim h.record_of.burned as (λ _. ℤ) [ None ↦ h.record_of.credit | Some from ↦ burned_credit h.record_of.credit h.record_of.residual h.domain.weight w (t - from) ]) most_same
-        ∙ sym (burn_credit (max_weight records) t h.domain h.record_of) ∙ sym was
+        ∙ sym (burn_credit (most_weight records) t h.domain h.record_of) ∙ sym was
 
-    better_other : (k : ℕ) (x : Resource) (u e : UnitId) → k ≢ r → at_place resources k ≡ Some x → x.cur ≡ Some u → is_better (next m t pool r c).records u x.since.0 t e ≡ is_better (Credit2Pool records) u x.since.0 t e
+    better_other : (k : ℕ) (x : Resource) (u e : UnitId) → k ≢ r → at_place resources k ≡ Some x → x.cur ≡ Some u → is_unit_better (next m t pool r c).records u x.since.0 t e ≡ is_unit_better (Credit2Pool records) u x.since.0 t e
     better_other k x u e other at cur =
-        ap (λ (y : Records). is_better y u x.since.0 t e) records_next
-        ∙ ap (λ b. not b && int_lt (credit_of (change_unit u (burn_unit (max_weight (then chosen)) t) (then chosen)) u) (credit_of (then chosen) e)) (within_same x.since.0 (then chosen) (limit_then chosen))
-        ∙ ap (λ z. not (is_within_limit records x.since.0 t) && int_lt z (credit_of (then chosen) e)) (other_credit k x u other at cur)
-        ∙ ap (λ z. not (is_within_limit records x.since.0 t) && int_lt (credit_of (change_unit u (burn_unit (max_weight records) t) records) u) z) (credit_same (then chosen) records (faces_then chosen) e)
+        ap (λ (y : Records). is_unit_better y u x.since.0 t e) records_next
+        ∙ ap (λ b. not b && int_lt (unit_credit (change_unit u (burned_unit (most_weight (then chosen)) t) (then chosen)) u) (unit_credit (then chosen) e)) (within_same x.since.0 (then chosen) (limit_then chosen))
+        ∙ ap (λ z. not (is_rate_limited records x.since.0 t) && int_lt z (unit_credit (then chosen) e)) (other_credit k x u other at cur)
+        ∙ ap (λ z. not (is_rate_limited records x.since.0 t) && int_lt (unit_credit (change_unit u (burned_unit (most_weight records) t) records) u) z) (credit_same (then chosen) records (faces_then chosen) e)
 
     -- the core's own unit is chosen again
     module _ (u : UnitId) (cur : c.cur ≡ Some u) (again : chosen ≡ Some u) where
@@ -373,64 +373,64 @@ module _ (m : Machine) (t : ℕ) (queue : List UnitId) (affinity : List (Option 
       burned_again = burned_is ∙ ap given cur
 
       abbrev second : Credit2Domain → Credit2Domain
-      second d = take_budget u.n (gives u.n d)
+      second d = domain_after_take u.n (gives u.n d)
 
       abbrev last : Credit2Domain → Credit2Domain
-      last d = running (Some t) u.n (running None u.n (take_budget u.n (gives u.n d)))
+      last d = running (Some t) u.n (running None u.n (domain_after_take u.n (gives u.n d)))
 
       at_last : (d : Credit2Domain) → at_place records.domains u.dom.0 ≡ Some d → at_place (then_of (Some u) (Some u)).domains u.dom.0 ≡ Some (last d)
       at_last d at =
           let e : ℕ = u.dom.0 in
           let a : at_place (change_at e (gives u.n) records.domains) e ≡ Some (gives u.n d) = at_place-change_at e (gives u.n) records.domains ∙ ap (option_map (gives u.n)) at in
-          let b : at_place (change_at e (take_budget u.n) (change_at e (gives u.n) records.domains)) e ≡ Some (second d) = at_place-change_at e (take_budget u.n) (change_at e (gives u.n) records.domains) ∙ ap (option_map (take_budget u.n)) a in
-          let f : at_place (change_at e (running None u.n) (change_at e (take_budget u.n) (change_at e (gives u.n) records.domains))) e ≡ Some (running None u.n (second d)) =
-          at_place-change_at e (running None u.n) (change_at e (take_budget u.n) (change_at e (gives u.n) records.domains)) ∙ ap (option_map (running None u.n)) b in
-          at_place-change_at e (running (Some t) u.n) (change_at e (running None u.n) (change_at e (take_budget u.n) (change_at e (gives u.n) records.domains))) ∙ ap (option_map (running (Some t) u.n)) f
+          let b : at_place (change_at e (domain_after_take u.n) (change_at e (gives u.n) records.domains)) e ≡ Some (second d) = at_place-change_at e (domain_after_take u.n) (change_at e (gives u.n) records.domains) ∙ ap (option_map (domain_after_take u.n)) a in
+          let f : at_place (change_at e (running None u.n) (change_at e (domain_after_take u.n) (change_at e (gives u.n) records.domains))) e ≡ Some (running None u.n (second d)) =
+          at_place-change_at e (running None u.n) (change_at e (domain_after_take u.n) (change_at e (gives u.n) records.domains)) ∙ ap (option_map (running None u.n)) b in
+          at_place-change_at e (running (Some t) u.n) (change_at e (running None u.n) (change_at e (domain_after_take u.n) (change_at e (gives u.n) records.domains))) ∙ ap (option_map (running (Some t) u.n)) f
 
       at_other : (k : ℕ) → k ≢ u.dom.0 → at_place (then_of (Some u) (Some u)).domains k ≡ at_place records.domains k
       at_other k ne =
           let e : ℕ = u.dom.0 in
-          at_place-change_at_other e k (running (Some t) u.n) (change_at e (running None u.n) (change_at e (take_budget u.n) (change_at e (gives u.n) records.domains))) ne
-          ∙ at_place-change_at_other e k (running None u.n) (change_at e (take_budget u.n) (change_at e (gives u.n) records.domains)) ne
-          ∙ at_place-change_at_other e k (take_budget u.n) (change_at e (gives u.n) records.domains) ne ∙ at_place-change_at_other e k (gives u.n) records.domains ne
+          at_place-change_at_other e k (running (Some t) u.n) (change_at e (running None u.n) (change_at e (domain_after_take u.n) (change_at e (gives u.n) records.domains))) ne
+          ∙ at_place-change_at_other e k (running None u.n) (change_at e (domain_after_take u.n) (change_at e (gives u.n) records.domains)) ne
+          ∙ at_place-change_at_other e k (domain_after_take u.n) (change_at e (gives u.n) records.domains) ne ∙ at_place-change_at_other e k (gives u.n) records.domains ne
 
       abbrev passes_at : Option Credit2Domain → Bool
-      passes_at o = elim o as (λ _. Bool) [ None ↦ false | Some d ↦ has_budget d ]
+      passes_at o = elim o as (λ _. Bool) [ None ↦ false | Some d ↦ has_cap_budget d ]
 
       -- no domain's units may run that could not before
-      budget_less : (e : UnitId) → domain_has_budget (then_of (Some u) (Some u)) e ≡ true → (domain_has_budget records e ≡ true) × (domain_has_budget burned e ≡ true)
+      budget_less : (e : UnitId) → has_domain_budget (then_of (Some u) (Some u)) e ≡ true → (has_domain_budget records e ≡ true) × (has_domain_budget burned e ≡ true)
       budget_less e has = elim (ℕ_discrete e.dom.0 u.dom.0) [
         | no ne ↦ (
-            let now : domain_has_budget records e ≡ true = sym (ap passes_at (at_other e.dom.0 ne)) ∙ has in
-            (now, ap (λ (b : Credit2Records). domain_has_budget b e) burned_again ∙ ap passes_at (at_place-change_at_other u.dom.0 e.dom.0 (gives u.n) records.domains ne) ∙ now))
+            let now : has_domain_budget records e ≡ true = sym (ap passes_at (at_other e.dom.0 ne)) ∙ has in
+            (now, ap (λ (b : Credit2Records). has_domain_budget b e) burned_again ∙ ap passes_at (at_place-change_at_other u.dom.0 e.dom.0 (gives u.n) records.domains ne) ∙ now))
         | yes same ↦ (
             let h = still.own_has u cur in
             let f = still.fresh u h.domain h.record_of cur h.at h.get in
-            let has2 : has_budget (second h.domain) ≡ true = sym (ap (λ k. passes_at (at_place (then_of (Some u) (Some u)).domains k)) same ∙ ap passes_at (at_last h.domain h.at)) ∙ has in
-            let now : has_budget h.domain ≡ true = again_no_more u.n h.domain h.record_of h.get f.most has2 in
-            let mid : has_budget (gives u.n h.domain) ≡ true = takes_less u.n (gives u.n h.domain) has2 in
+            let has2 : has_cap_budget (second h.domain) ≡ true = sym (ap (λ k. passes_at (at_place (then_of (Some u) (Some u)).domains k)) same ∙ ap passes_at (at_last h.domain h.at)) ∙ has in
+            let now : has_cap_budget h.domain ≡ true = again_no_more u.n h.domain h.record_of h.get f.most has2 in
+            let mid : has_cap_budget (gives u.n h.domain) ≡ true = takes_less u.n (gives u.n h.domain) has2 in
             let at_mid : at_place (given (Some u)).domains u.dom.0 ≡ Some (gives u.n h.domain) = at_place-change_at u.dom.0 (gives u.n) records.domains ∙ ap (option_map (gives u.n)) h.at in (
               ap (λ k. passes_at (at_place records.domains k)) same ∙ ap passes_at h.at ∙ now,
-              ap (λ (b : Credit2Records). domain_has_budget b e) burned_again ∙ ap (λ k. passes_at (at_place (given (Some u)).domains k)) same ∙ ap passes_at at_mid ∙ mid,
+              ap (λ (b : Credit2Records). has_domain_budget b e) burned_again ∙ ap (λ k. passes_at (at_place (given (Some u)).domains k)) same ∙ ap passes_at at_mid ∙ mid,
             ))
       ]
 
       records_again : (next m t pool r c).records ≡ Credit2Pool (then_of (Some u) (Some u))
       records_again = records_next ∙ ap Credit2Pool again_is
 
-      eligible_less : (k : ℕ) (e : UnitId) → is_eligible (next m t pool r c) home k t e ≡ true → (is_eligible scheduler home k t e ≡ true) × (is_eligible (record scheduler { records = Credit2Pool burned }) home k t e ≡ true)
+      eligible_less : (k : ℕ) (e : UnitId) → is_unit_eligible (next m t pool r c) home k t e ≡ true → (is_unit_eligible scheduler home k t e ≡ true) × (is_unit_eligible (record scheduler { records = Credit2Pool burned }) home k t e ≡ true)
       eligible_less k e is =
-          let is2 : (is_allowed scheduler home k e && domain_has_budget (then_of (Some u) (Some u)) e) ≡ true = sym (ap (λ (y : Records). is_allowed scheduler home k e && passes y (next m t pool r c) home k t e) records_again) ∙ is in
-          let allowed = and_left (is_allowed scheduler home k e) _ is2 in
-          let less = budget_less e (and_right (is_allowed scheduler home k e) _ is2) in
-          (and_from (is_allowed scheduler home k e) _ allowed less.0, and_from (is_allowed scheduler home k e) _ allowed less.1)
+          let is2 : (is_unit_allowed scheduler home k e && has_domain_budget (then_of (Some u) (Some u)) e) ≡ true = sym (ap (λ (y : Records). is_unit_allowed scheduler home k e && may_have_core y (next m t pool r c) home k t e) records_again) ∙ is in
+          let allowed = and_left (is_unit_allowed scheduler home k e) _ is2 in
+          let less = budget_less e (and_right (is_unit_allowed scheduler home k e) _ is2) in
+          (and_from (is_unit_allowed scheduler home k e) _ allowed less.0, and_from (is_unit_allowed scheduler home k e) _ allowed less.1)
 
       -- its credit charged to now is its credit
-      own_credit : credit_of (change_unit u (burn_unit (max_weight (then_of (Some u) (Some u))) t) (then_of (Some u) (Some u))) u ≡ credit_of records u
+      own_credit : unit_credit (change_unit u (burned_unit (most_weight (then_of (Some u) (Some u))) t) (then_of (Some u) (Some u))) u ≡ unit_credit records u
       own_credit =
           let h = still.own_has u cur in
           let f = still.fresh u h.domain h.record_of cur h.at h.get in
-          let most : ℕ = max_weight (then_of (Some u) (Some u)) in
+          let most : ℕ = most_weight (then_of (Some u) (Some u)) in
           let o1 = (gives_leaves u.n h.domain).own h.record_of h.get in
           let o2 = (takes_leaves u.n (gives u.n h.domain)).own o1.0 o1.1 in
           let o3 = (runs_leaves u.n None (second h.domain)).own o2.0 o2.1 in
@@ -440,37 +440,37 @@ module _ (m : Machine) (t : ℕ) (queue : List UnitId) (affinity : List (Option 
           let residual : o3.0.residual ≡ h.record_of.residual = o3.3 ∙ o2.3 ∙ o1.3 in
           let credit : o3.0.credit ≡ h.record_of.credit = o3.2 ∙ o2.2 ∙ o1.2 in
           let low : o3.0.residual < (last h.domain).weight = (let l = f.residual in omega (arith, l, weight, residual)) in
-          let now : credit_of records u ≡ h.record_of.credit = credit_is records u ∙ (face_of_unit records.domains u h.domain h.record_of h.at h.get).2 in
-          credit_then (then_of (Some u) (Some u)) u (burn_unit most t) (last h.domain) y (at_last h.domain h.at) get
+          let now : unit_credit records u ≡ h.record_of.credit = credit_is records u ∙ (face_of_unit records.domains u h.domain h.record_of h.at h.get).2 in
+          credit_then (then_of (Some u) (Some u)) u (burned_unit most t) (last h.domain) y (at_last h.domain h.at) get
           ∙ burn_credit most t (last h.domain) y ∙ credit_kept t most o3.0.residual (last h.domain).weight o3.0.credit low ∙ credit ∙ sym now
 
       faces_again : faces (then_of (Some u) (Some u)).domains ≡ faces records.domains
       faces_again = ap (λ (b : Credit2Records). faces b.domains) (sym again_is) ∙ faces_then chosen
 
-      better_own : (e : UnitId) → is_better (next m t pool r c).records u c.since.0 t e ≡ (not (is_within_limit records c.since.0 t) && int_lt (credit_of records u) (credit_of records e))
+      better_own : (e : UnitId) → is_unit_better (next m t pool r c).records u c.since.0 t e ≡ (not (is_rate_limited records c.since.0 t) && int_lt (unit_credit records u) (unit_credit records e))
       better_own e =
-          ap (λ (y : Records). is_better y u c.since.0 t e) records_again
-          ∙ ap (λ z. not (is_within_limit (then_of (Some u) (Some u)) c.since.0 t) && int_lt z (credit_of (then_of (Some u) (Some u)) e)) own_credit
-          ∙ ap (λ z. not (is_within_limit (then_of (Some u) (Some u)) c.since.0 t) && int_lt (credit_of records u) z) (credit_same (then_of (Some u) (Some u)) records faces_again e)
-          ∙ ap (λ b. not b && int_lt (credit_of records u) (credit_of records e)) (within_same c.since.0 (then_of (Some u) (Some u)) refl)
+          ap (λ (y : Records). is_unit_better y u c.since.0 t e) records_again
+          ∙ ap (λ z. not (is_rate_limited (then_of (Some u) (Some u)) c.since.0 t) && int_lt z (unit_credit (then_of (Some u) (Some u)) e)) own_credit
+          ∙ ap (λ z. not (is_rate_limited (then_of (Some u) (Some u)) c.since.0 t) && int_lt (unit_credit records u) z) (credit_same (then_of (Some u) (Some u)) records faces_again e)
+          ∙ ap (λ b. not b && int_lt (unit_credit records u) (unit_credit records e)) (within_same c.since.0 (then_of (Some u) (Some u)) refl)
 
-      again_stirs_none : is_allowed scheduler home r u ≡ true → (is_within_limit records c.since.0 t ≡ true) ⊎ ((e : UnitId) → has_unit waiting e ≡ true → int_lt (credit_of burned u) (credit_of burned e) ≡ false) → StirsNone m t pool r c
+      again_stirs_none : is_unit_allowed scheduler home r u ≡ true → (is_rate_limited records c.since.0 t ≡ true) ⊎ ((e : UnitId) → has_listed_unit waiting e ≡ true → int_lt (unit_credit burned u) (unit_credit burned e) ≡ false) → StirsNone m t pool r c
       again_stirs_none allowed why = record {
         own = false_from_ne_true _ (λ stirred. (
-            let test : UnitId → Bool = λ e. is_eligible (next m t pool r c) home r t e && is_better (next m t pool r c).records u c.since.0 t e in
-            let h : (not (is_allowed scheduler home r u) || list_any test (next m t pool r c).queue) ≡ true = sym (ap (λ (o : Option UnitId). better_waits o c.since.0 t r home (next m t pool r c)) cur) ∙ stirred in
-            elim (or_cases (not (is_allowed scheduler home r u)) (list_any test (next m t pool r c).queue) h) [
-              | inl barred ↦ clash (not (is_allowed scheduler home r u)) barred (ap not allowed)
+            let test : UnitId → Bool = λ e. is_unit_eligible (next m t pool r c) home r t e && is_unit_better (next m t pool r c).records u c.since.0 t e in
+            let h : (not (is_unit_allowed scheduler home r u) || list_any test (next m t pool r c).queue) ≡ true = sym (ap (λ (o : Option UnitId). has_better_waiting o c.since.0 t r home (next m t pool r c)) cur) ∙ stirred in
+            elim (or_cases (not (is_unit_allowed scheduler home r u)) (list_any test (next m t pool r c).queue) h) [
+              | inl barred ↦ clash (not (is_unit_allowed scheduler home r u)) barred (ap not allowed)
               | inr some ↦ (
                   let e = any_has test queue (any_after test (decision m t pool r c).unit queue some) in
-                  let el = eligible_less r e.0 (and_left (is_eligible (next m t pool r c) home r t e.0) _ e.2) in
-                  let b : (not (is_within_limit records c.since.0 t) && int_lt (credit_of records u) (credit_of records e.0)) ≡ true = sym (better_own e.0) ∙ and_right (is_eligible (next m t pool r c) home r t e.0) _ e.2 in
+                  let el = eligible_less r e.0 (and_left (is_unit_eligible (next m t pool r c) home r t e.0) _ e.2) in
+                  let b : (not (is_rate_limited records c.since.0 t) && int_lt (unit_credit records u) (unit_credit records e.0)) ≡ true = sym (better_own e.0) ∙ and_right (is_unit_eligible (next m t pool r c) home r t e.0) _ e.2 in
                   elim why [
-                    | inl soon ↦ clash (not (is_within_limit records c.since.0 t)) (and_left (not (is_within_limit records c.since.0 t)) _ b) (ap not soon)
+                    | inl soon ↦ clash (not (is_rate_limited records c.since.0 t)) (and_left (not (is_rate_limited records c.since.0 t)) _ b) (ap not soon)
                     | inr least ↦ (
-                        let waits = filter_has (is_eligible (record scheduler { records = Credit2Pool burned }) home r t) queue e.0 e.1 el.1 in
-                        let no : int_lt (credit_of records u) (credit_of records e.0) ≡ false = sym (ap (λ z. int_lt z (credit_of burned e.0)) (credit_same burned records faces_burned u) ∙ ap (λ z. int_lt (credit_of records u) z) (credit_same burned records faces_burned e.0)) ∙ least e.0 waits in
-                        clash (int_lt (credit_of records u) (credit_of records e.0)) (and_right (not (is_within_limit records c.since.0 t)) _ b) no)
+                        let waits = filter_has (is_unit_eligible (record scheduler { records = Credit2Pool burned }) home r t) queue e.0 e.1 el.1 in
+                        let no : int_lt (unit_credit records u) (unit_credit records e.0) ≡ false = sym (ap (λ z. int_lt z (unit_credit burned e.0)) (credit_same burned records faces_burned u) ∙ ap (λ z. int_lt (unit_credit records u) z) (credit_same burned records faces_burned e.0)) ∙ least e.0 waits in
+                        clash (int_lt (unit_credit records u) (unit_credit records e.0)) (and_right (not (is_rate_limited records c.since.0 t)) _ b) no)
                   ])
             ]));
         others = λ k x other at stirred. less_waits t k home x.since.0 x.cur scheduler (next m t pool r c) (λ w. refl) (λ w e. (eligible_less k w e).0) (λ w e own h. sym (better_other k x w e other at own) ∙ h)
@@ -479,14 +479,14 @@ module _ (m : Machine) (t : ℕ) (queue : List UnitId) (affinity : List (Option 
 
     own_secure : (u : UnitId) → c.cur ≡ Some u → Secure m t pool r c r u → own ≡ Some u
     own_secure u cur secure =
-        let two = and_left (runs u && is_allowed scheduler home r u) _ secure in
-        let run : ask.runnable ≡ true = ap (λ (o : Option UnitId). elim o as (λ _. Bool) [ None ↦ false | Some x ↦ is_runnable m.config.granularity pool x ]) cur ∙ and_left (runs u) _ two in
-        let has = keeps_funded records u (and_right (runs u && is_allowed scheduler home r u) _ secure) in
-        let got : Has (λ (y : Credit2Domain). has_budget y ≡ true) (given (Some u)).domains u.dom.0 =
-        has_change (λ (y : Credit2Domain). is_funded y u.n ≡ true) (λ (y : Credit2Domain). has_budget y ≡ true) u.dom.0 u.dom.0 (gives u.n) records.domains has (λ same d at f. gives_budget u.n d f) (λ ne y f. absurd (ne refl)) in
-        let budget : domain_has_budget burned u ≡ true = ap (λ (b : Credit2Records). domain_has_budget b u) (burned_is ∙ ap given cur) ∙ ap (λ (o : Option Credit2Domain). elim o as (λ _. Bool) [ None ↦ false | Some d ↦ has_budget d ]) got.at ∙ got.fact in
-        let goes_on : (ask.runnable && is_allowed scheduler home r u && domain_has_budget burned u) ≡ true = and_from (ask.runnable && is_allowed scheduler home r u) _ (and_from ask.runnable _ run (and_right (runs u) _ two)) budget in
-        ap (λ (o : Option UnitId). elim o as (λ _. Option UnitId) [ None ↦ None | Some w ↦ cond (ask.runnable && is_allowed scheduler home r w && domain_has_budget burned w) (Some w) None ]) cur ∙ ap (λ b. cond b (Some u) None) goes_on
+        let two = and_left (runs u && is_unit_allowed scheduler home r u) _ secure in
+        let run : ask.runnable ≡ true = ap (λ (o : Option UnitId). elim o as (λ _. Bool) [ None ↦ false | Some x ↦ may_unit_run m.config.granularity pool x ]) cur ∙ and_left (runs u) _ two in
+        let has = keeps_funded records u (and_right (runs u && is_unit_allowed scheduler home r u) _ secure) in
+        let got : Has (λ (y : Credit2Domain). has_cap_budget y ≡ true) (given (Some u)).domains u.dom.0 =
+        has_change (λ (y : Credit2Domain). is_funded y u.n ≡ true) (λ (y : Credit2Domain). has_cap_budget y ≡ true) u.dom.0 u.dom.0 (gives u.n) records.domains has (λ same d at f. gives_budget u.n d f) (λ ne y f. absurd (ne refl)) in
+        let budget : has_domain_budget burned u ≡ true = ap (λ (b : Credit2Records). has_domain_budget b u) (burned_is ∙ ap given cur) ∙ ap (λ (o : Option Credit2Domain). elim o as (λ _. Bool) [ None ↦ false | Some d ↦ has_cap_budget d ]) got.at ∙ got.fact in
+        let goes_on : (ask.runnable && is_unit_allowed scheduler home r u && has_domain_budget burned u) ≡ true = and_from (ask.runnable && is_unit_allowed scheduler home r u) _ (and_from ask.runnable _ run (and_right (runs u) _ two)) budget in
+        ap (λ (o : Option UnitId). elim o as (λ _. Option UnitId) [ None ↦ None | Some w ↦ cond (ask.runnable && is_unit_allowed scheduler home r w && has_domain_budget burned w) (Some w) None ]) cur ∙ ap (λ b. cond b (Some u) None) goes_on
 
     limit_burned : burned.limit ≡ records.limit
     limit_burned = ap (λ (b : Credit2Records). b.limit) burned_is ∙ limit_given c.cur
@@ -494,21 +494,21 @@ module _ (m : Machine) (t : ℕ) (queue : List UnitId) (affinity : List (Option 
     abbrev Kept : UnitId → Type 0
     Kept u = (w : UnitId) × ((decision m t pool r c).unit ≡ Some w) × (((w ≡ u) × (ahead (next m t pool r c).records u ≤ ahead (Credit2Pool records) u) × StirsNone m t pool r c) ⊎ (ahead (next m t pool r c).records w + 1 ≤ ahead (Credit2Pool records) u))
 
-    stays_on : (u : UnitId) → c.cur ≡ Some u → is_allowed scheduler home r u ≡ true → chosen ≡ Some u → (is_within_limit records c.since.0 t ≡ true) ⊎ ((e : UnitId) → has_unit waiting e ≡ true → int_lt (credit_of burned u) (credit_of burned e) ≡ false) → Kept u
+    stays_on : (u : UnitId) → c.cur ≡ Some u → is_unit_allowed scheduler home r u ≡ true → chosen ≡ Some u → (is_rate_limited records c.since.0 t ≡ true) ⊎ ((e : UnitId) → has_listed_unit waiting e ≡ true → int_lt (unit_credit burned u) (unit_credit burned e) ≡ false) → Kept u
     stays_on u cur allowed again why = (u, unit_next ∙ again, inl (refl, (let a = ahead_next u in omega (arith, a)), again_stirs_none u cur again allowed why))
 
-    kept_by : (u : UnitId) → c.leaving ≡ false → c.cur ≡ Some u → Secure m t pool r c r u → (b : Bool) → within ≡ b → (o : Option UnitId) → greatest_unit burned own waiting ≡ o → Kept u
+    kept_by : (u : UnitId) → c.leaving ≡ false → c.cur ≡ Some u → Secure m t pool r c r u → (b : Bool) → within ≡ b → (o : Option UnitId) → richest_unit burned own waiting ≡ o → Kept u
     kept_by u stays cur secure true is o best =
         let o_is = own_secure u cur secure in
-        let allowed = and_right (runs u) _ (and_left (runs u && is_allowed scheduler home r u) _ secure) in
-        stays_on u cur allowed (chosen_is stays ∙ ap (λ b. cond b own (greatest_unit burned own waiting)) is ∙ o_is) (inl (sym (within_same c.since.0 burned limit_burned) ∙ and_right (is_some own) _ is))
+        let allowed = and_right (runs u) _ (and_left (runs u && is_unit_allowed scheduler home r u) _ secure) in
+        stays_on u cur allowed (chosen_is stays ∙ ap (λ b. cond b own (richest_unit burned own waiting)) is ∙ o_is) (inl (sym (within_same c.since.0 burned limit_burned) ∙ and_right (is_some own) _ is))
     kept_by u stays cur secure false is None best = absurd (let e : Some u ≡ None = sym (own_secure u cur secure) ∙ (none_best (credit_order burned) (greatest_scan burned) own waiting best).0 in cc)
     kept_by u stays cur secure false is (Some w) best =
         let g = is_best (credit_order burned) (greatest_scan burned) own waiting w best in
-        let allowed = and_right (runs u) _ (and_left (runs u && is_allowed scheduler home r u) _ secure) in
-        let chose : chosen ≡ Some w = chosen_is stays ∙ ap (λ b. cond b own (greatest_unit burned own waiting)) is ∙ best in
+        let allowed = and_right (runs u) _ (and_left (runs u && is_unit_allowed scheduler home r u) _ secure) in
+        let chose : chosen ≡ Some w = chosen_is stays ∙ ap (λ b. cond b own (richest_unit burned own waiting)) is ∙ best in
         elim (g.over u (own_secure u cur secure)) [
-          | inl same ↦ stays_on u cur allowed (chose ∙ ap (λ x. Some x) same) (inr (λ e has. subst (λ x. int_lt (credit_of burned x) (credit_of burned e) ≡ false) same (g.none_better e has)))
+          | inl same ↦ stays_on u cur allowed (chose ∙ ap (λ x. Some x) same) (inr (λ e has. subst (λ x. int_lt (unit_credit burned x) (unit_credit burned e) ≡ false) same (g.none_better e has)))
           | inr greater ↦ (
             w,
             unit_next ∙ chose,
@@ -516,7 +516,7 @@ module _ (m : Machine) (t : ℕ) (queue : List UnitId) (affinity : List (Option 
                 let may = chosen_may w chose in
                 let fw = face_of_unit records.domains w may.has.domain may.has.record_of may.has.at may.has.get in
                 let lt : int_lt (credit_at (faces records.domains) u) may.has.record_of.credit ≡ true =
-                ap (λ z. int_lt z may.has.record_of.credit) (sym (credit_is records u)) ∙ ap (λ z. int_lt (credit_of records u) z) (sym (credit_is records w ∙ fw.2)) ∙ ap (λ z. int_lt z (credit_of records w)) (credit_same records burned (sym faces_burned) u) ∙ ap (λ z. int_lt (credit_of burned u) z) (credit_same records burned (sym faces_burned) w) ∙ greater in
+                ap (λ z. int_lt z may.has.record_of.credit) (sym (credit_is records u)) ∙ ap (λ z. int_lt (unit_credit records u) z) (sym (credit_is records w ∙ fw.2)) ∙ ap (λ z. int_lt z (unit_credit records w)) (credit_same records burned (sym faces_burned) u) ∙ ap (λ z. int_lt (unit_credit burned u) z) (credit_same records burned (sym faces_burned) w) ∙ greater in
                 let fewer = fewer_above (faces records.domains) (credit_at (faces records.domains) u) w (face may.has.domain) may.has.record_of.credit fw.0 fw.1 lt in
                 let a = ahead_next w in
                 let b = ahead_is records w in
@@ -531,26 +531,26 @@ module _ (m : Machine) (t : ℕ) (queue : List UnitId) (affinity : List (Option 
     idle_by stays cur none =
         let same : then chosen ≡ records = ap (λ o. then_of o chosen) cur ∙ ap (λ o. then_of None o) none in
         let records_same : (next m t pool r c).records ≡ Credit2Pool records = records_next ∙ ap Credit2Pool same in
-        let fewer : (k : ℕ) (x : Resource) → better_waits x.cur x.since.0 t k home (next m t pool r c) ≡ true → better_waits x.cur x.since.0 t k home scheduler ≡ true = λ k x stirred.
-        less_waits t k home x.since.0 x.cur scheduler (next m t pool r c) (λ w. refl) (λ w e. sym (ap (λ (y : Records). is_allowed scheduler home k w && passes y (next m t pool r c) home k t w) records_same) ∙ e)
-        (λ w e o h. sym (ap (λ (y : Records). is_better y w x.since.0 t e) records_same) ∙ h) (λ test e. any_after test (decision m t pool r c).unit queue e) stirred in
-        let own_none : own ≡ None = ap (λ (o : Option UnitId). elim o as (λ _. Option UnitId) [ None ↦ None | Some w ↦ cond (ask.runnable && is_allowed scheduler home r w && domain_has_budget burned w) (Some w) None ]) cur in
-        let not_within : within ≡ false = ap (λ o. is_some o && is_within_limit burned c.since.0 t) own_none in
-        let best : greatest_unit burned own waiting ≡ None = sym (ap (λ b. cond b own (greatest_unit burned own waiting)) not_within) ∙ sym (chosen_is stays) ∙ none in
+        let fewer : (k : ℕ) (x : Resource) → has_better_waiting x.cur x.since.0 t k home (next m t pool r c) ≡ true → has_better_waiting x.cur x.since.0 t k home scheduler ≡ true = λ k x stirred.
+        less_waits t k home x.since.0 x.cur scheduler (next m t pool r c) (λ w. refl) (λ w e. sym (ap (λ (y : Records). is_unit_allowed scheduler home k w && may_have_core y (next m t pool r c) home k t w) records_same) ∙ e)
+        (λ w e o h. sym (ap (λ (y : Records). is_unit_better y w x.since.0 t e) records_same) ∙ h) (λ test e. any_after test (decision m t pool r c).unit queue e) stirred in
+        let own_none : own ≡ None = ap (λ (o : Option UnitId). elim o as (λ _. Option UnitId) [ None ↦ None | Some w ↦ cond (ask.runnable && is_unit_allowed scheduler home r w && has_domain_budget burned w) (Some w) None ]) cur in
+        let not_within : within ≡ false = ap (λ o. is_some o && is_rate_limited burned c.since.0 t) own_none in
+        let best : richest_unit burned own waiting ≡ None = sym (ap (λ b. cond b own (richest_unit burned own waiting)) not_within) ∙ sym (chosen_is stays) ∙ none in
         let empty : waiting ≡ [] = (none_best (credit_order burned) (greatest_scan burned) own waiting best).1 in
         let burned_same : burned ≡ records = burned_is ∙ ap given cur in
         record {
           own = false_from_ne_true _ (λ stirred. (
-              let h : list_any (is_eligible scheduler home r t) queue ≡ true = sym (ap (λ (o : Option UnitId). better_waits o c.since.0 t r home scheduler) cur) ∙ fewer r c stirred in
-              let w = any_has (is_eligible scheduler home r t) queue h in
-              let waits = filter_has (is_eligible (record scheduler { records = Credit2Pool burned }) home r t) queue w.0 w.1 (ap (λ (b : Credit2Records). is_allowed scheduler home r w.0 && domain_has_budget b w.0) burned_same ∙ w.2) in
-              clash (has_unit waiting w.0) waits (ap (λ l. has_unit l w.0) empty)));
+              let h : list_any (is_unit_eligible scheduler home r t) queue ≡ true = sym (ap (λ (o : Option UnitId). has_better_waiting o c.since.0 t r home scheduler) cur) ∙ fewer r c stirred in
+              let w = any_has (is_unit_eligible scheduler home r t) queue h in
+              let waits = filter_has (is_unit_eligible (record scheduler { records = Credit2Pool burned }) home r t) queue w.0 w.1 (ap (λ (b : Credit2Records). is_unit_allowed scheduler home r w.0 && has_domain_budget b w.0) burned_same ∙ w.2) in
+              clash (has_listed_unit waiting w.0) waits (ap (λ l. has_listed_unit l w.0) empty)));
           others = λ k x other at stirred. fewer k x stirred;
         }
 
     pub credit2_well : DecidesWell m t pool r c
     credit2_well = record {
-      leaves = λ goes. unit_next ∙ ap (λ b. cond b None (cond within own (greatest_unit burned own waiting))) goes;
+      leaves = λ goes. unit_next ∙ ap (λ b. cond b None (cond within own (richest_unit burned own waiting))) goes;
       chosen = λ stays w is. (
           let chose : chosen ≡ Some w = sym unit_next ∙ is in
           let may = chosen_may w chose in
@@ -561,13 +561,13 @@ module _ (m : Machine) (t : ℕ) (queue : List UnitId) (affinity : List (Option 
           let d = some_behind (faces records.domains) w (face may.has.domain) may.has.record_of.credit fw.0 fw.1 in
           let most = still.count in
           (secure_then r w may.runs may.allowed (chosen_funded w chose may), omega (arith, a, b, b2, d, most)));
-      kept = λ stays u cur secure. kept_by u stays cur secure within refl (greatest_unit burned own waiting) refl;
+      kept = λ stays u cur secure. kept_by u stays cur secure within refl (richest_unit burned own waiting) refl;
       idle = λ stays cur none. idle_by stays cur (sym unit_next ∙ none);
       few = λ u. (let a = ahead_next u in let b = ahead_is records u in let d = above_most (credit_at (faces records.domains) u) (faces records.domains) in let most = still.count in omega (arith, a, b, d, most));
       others = λ k x u other at cur secure. (
-          let two = and_left (runs u && is_allowed scheduler home k u) _ secure in
+          let two = and_left (runs u && is_unit_allowed scheduler home k u) _ secure in
           let a = ahead_next u in
-          (secure_then k u (and_left (runs u) _ two) (and_right (runs u) _ two) (other_funded k x u other at cur (keeps_funded records u (and_right (runs u && is_allowed scheduler home k u) _ secure))), omega (arith, a)));
+          (secure_then k u (and_left (runs u) _ two) (and_right (runs u) _ two) (other_funded k x u other at cur (keeps_funded records u (and_right (runs u && is_unit_allowed scheduler home k u) _ secure))), omega (arith, a)));
     }
 
 -- the same, of any pool with such records

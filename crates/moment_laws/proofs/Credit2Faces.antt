@@ -7,7 +7,7 @@ use Rattle.sched_model.specs.declared.state.Credit2Domain.{Credit2Domain}
 use Rattle.sched_model.specs.declared.state.Credit2Unit.{Credit2Unit}
 use Rattle.sched_model.specs.declared.state.Records.TheVariants.{Credit2Pool}
 use Rattle.sched_model.specs.Places.{at_place, change_at, change_item, numbered_items}
-use Rattle.sched_model.specs.Credit2.{credit_of, greatest_unit}
+use Rattle.sched_model.specs.Credit2.{unit_credit, richest_unit}
 use Rattle.sched_laws.specs.Counts.{total}
 use Rattle.moment_laws.proofs.BestUnits.{IsOrder, IsScan}
 use Rattle.moment_laws.specs.Turns.{how_many, ahead}
@@ -34,7 +34,7 @@ at_faces [] (suc d) = refl
 at_faces (x ∷ domains) zero = refl
 at_faces (x ∷ domains) (suc d) = at_faces domains d
 
-pub credit_is : (records : Credit2Records) (u : UnitId) → credit_of records u ≡ credit_at (faces records.domains) u
+pub credit_is : (records : Credit2Records) (u : UnitId) → unit_credit records u ≡ credit_at (faces records.domains) u
 credit_is records u = by_domain (at_place records.domains u.dom.0) ∙ ap (λ (o : Option Face). elim o as (λ _. ℤ) [ None ↦ pos 0 | Some f ↦ credit_in f.2 u.n ]) (sym (at_faces records.domains u.dom.0))
   where
     by_domain : (o : Option Credit2Domain) → elim o as (λ _. ℤ) [ None ↦ pos 0 | Some d ↦ elim (slice_get d.units u.n) as (λ _. ℤ) [ None ↦ pos 0 | Some x ↦ x.credit ] ] ≡ elim (option_map face o) as (λ _. ℤ) [ None ↦ pos 0 | Some f ↦ credit_in f.2 u.n ]
@@ -55,7 +55,7 @@ above_faces z (None ∷ domains) = above_faces z domains
 above_faces z (Some d ∷ domains) = ap (λ n. n + total (λ (d : Credit2Domain). how_many (λ (x : Credit2Unit). int_lt z x.credit) d.units) domains) (above_credits z d.units) ∙ ap (λ n. how_many (λ c. int_lt z c) (credits d.units) + n) (above_faces z domains)
 
 pub ahead_is : (records : Credit2Records) (u : UnitId) → ahead (Credit2Pool records) u ≡ above (credit_at (faces records.domains) u) (faces records.domains)
-ahead_is records u = above_faces (credit_of records u) records.domains ∙ ap (λ z. above z (faces records.domains)) (credit_is records u)
+ahead_is records u = above_faces (unit_credit records u) records.domains ∙ ap (λ z. above z (faces records.domains)) (credit_is records u)
 
 -- a change that keeps a face
 pub credits_change : (n : ℕ) (f : Credit2Unit → Credit2Unit) (units : List Credit2Unit) → ((x : Credit2Unit) → (f x).credit ≡ x.credit) → credits (change_item n f units) ≡ credits units
@@ -111,14 +111,14 @@ face_of_unit domains u d x at get =
 
 -- which of two units has more credit is an order, and the unit of greatest credit is the best one by it
 abbrev pub has_more : Credit2Records → UnitId → UnitId → Bool
-has_more records u b = int_lt (credit_of records b) (credit_of records u)
+has_more records u b = int_lt (unit_credit records b) (unit_credit records u)
 
 pub credit_order : (records : Credit2Records) → IsOrder (has_more records)
 credit_order records = record {
-  irrefl = λ u. lt_irrefl (credit_of records u);
-  trans = λ a b e x y. lt_trans (credit_of records e) (credit_of records b) (credit_of records a) y x;
-  least = λ a b e x y. lt_least (credit_of records a) (credit_of records b) (credit_of records e) x y;
+  irrefl = λ u. lt_irrefl (unit_credit records u);
+  trans = λ a b e x y. lt_trans (unit_credit records e) (unit_credit records b) (unit_credit records a) y x;
+  least = λ a b e x y. lt_least (unit_credit records a) (unit_credit records b) (unit_credit records e) x y;
 }
 
-pub greatest_scan : (records : Credit2Records) → IsScan (has_more records) (greatest_unit records)
+pub greatest_scan : (records : Credit2Records) → IsScan (has_more records) (richest_unit records)
 greatest_scan records = record { ends = λ best. refl; starts = λ u xs. refl; goes_on = λ b u xs. refl }

@@ -4,13 +4,13 @@ use Rattle.std.specs.Prelude.{Option, Some, None, is_some, ℤ, pos, int_lt, ◌
 use Rattle.std.proofs.Math.Decide.{ℕ_discrete}
 use Rattle.std.proofs.lemmas.Bool.{not-true, and_from}
 use Rattle.sched_base.specs.declared.UnitId.{UnitId}
-use Rattle.sched_base.specs.Credit2Numbers.{charge, burned_credit, burned_residual, total, quota, take}
+use Rattle.sched_base.specs.Credit2Numbers.{undivided_charge, burned_credit, burned_residual, cap_budget, budget_quota, taken_budget}
 use Rattle.sched_model.specs.declared.state.Credit2Records.{Credit2Records}
 use Rattle.sched_model.specs.declared.state.Credit2Domain.{Credit2Domain}
 use Rattle.sched_model.specs.declared.state.Credit2Unit.{Credit2Unit}
 use Rattle.sched_model.specs.Places.{at_place, change_at, change_item}
-use Rattle.sched_model.specs.EligibleUnits.{has_budget}
-use Rattle.sched_model.specs.Credit2.{burn_unit, change_unit, give_back, take_budget, credit_of}
+use Rattle.sched_model.specs.EligibleUnits.{has_cap_budget}
+use Rattle.sched_model.specs.Credit2.{burned_unit, change_unit, domain_after_return, domain_after_take, unit_credit}
 use Rattle.sched_base.proofs.Bools.{and_left, and_right, or_more}
 use Rattle.sched_laws.proofs.EachPlace.{by_option, by_cond}
 use Rattle.sched_laws.proofs.Lists.{length_change_item, slice_get-change_item}
@@ -62,8 +62,8 @@ div_none residual weight low = grind (arith, low)
 mod_none : (residual weight : ℕ) → residual < weight → residual % weight ≡ residual
 mod_none residual weight low = grind (arith, low)
 
-pub charged_none : (t residual most : ℕ) → charge residual most (t - t) ≡ residual
-charged_none t residual most = (let e : t - t ≡ 0 = omega arith in ap (charge residual most) e ∙ omega arith)
+pub charged_none : (t residual most : ℕ) → undivided_charge residual most (t - t) ≡ residual
+charged_none t residual most = (let e : t - t ≡ 0 = omega arith in ap (undivided_charge residual most) e ∙ omega arith)
 
 pub credit_kept : (t most residual weight : ℕ) (credit : ℤ) → residual < weight → burned_credit credit residual weight most (t - t) ≡ credit
 credit_kept t most residual weight credit low =
@@ -76,7 +76,7 @@ held_kept : (t : ℕ) (b : Bool) (held : ℤ) → cond b held (held -ℤ pos (t 
 held_kept t true held = refl
 held_kept t false held = (let e : t - t ≡ 0 = omega arith in ap (λ k. held -ℤ pos k) e ∙ minus_none held)
 
-pub burn_same : (most t : ℕ) (d : Credit2Domain) (x : Credit2Unit) → x.burned ≡ Some t → x.residual < d.weight → burn_unit most t d x ≡ x
+pub burn_same : (most t : ℕ) (d : Credit2Domain) (x : Credit2Unit) → x.burned ≡ Some t → x.residual < d.weight → burned_unit most t d x ≡ x
 burn_same most t d x now low =
     ap (λ (o : Option ℕ). elim o as (λ _. Credit2Unit) [
       | None ↦ x
@@ -93,7 +93,7 @@ burn_same most t d x now low =
     ∙ ap (λ (o : Option ℕ). record x { burned = o }) (sym now)
 
 -- the credit of a unit charged to now
-pub burn_credit : (most t : ℕ) (d : Credit2Domain) (x : Credit2Unit) → (burn_unit most t d x).credit ≡ elim x.burned as (λ _. ℤ) [ None ↦ x.credit | Some from ↦ burned_credit x.credit x.residual d.weight most (t - from) ]
+pub burn_credit : (most t : ℕ) (d : Credit2Domain) (x : Credit2Unit) → (burned_unit most t d x).credit ≡ elim x.burned as (λ _. ℤ) [ None ↦ x.credit | Some from ↦ burned_credit x.credit x.residual d.weight most (t - from) ]
 burn_credit most t d x =
     by_burned x.burned
   where
@@ -109,7 +109,7 @@ burn_credit most t d x =
     by_burned None = refl
     by_burned (Some from) = refl
 
-pub credit_then : (records : Credit2Records) (u : UnitId) (f : Credit2Domain → Credit2Unit → Credit2Unit) (d : Credit2Domain) (x : Credit2Unit) → at_place records.domains u.dom.0 ≡ Some d → slice_get d.units u.n ≡ Some x → credit_of (change_unit u f records) u ≡ (f d x).credit
+pub credit_then : (records : Credit2Records) (u : UnitId) (f : Credit2Domain → Credit2Unit → Credit2Unit) (d : Credit2Domain) (x : Credit2Unit) → at_place records.domains u.dom.0 ≡ Some d → slice_get d.units u.n ≡ Some x → unit_credit (change_unit u f records) u ≡ (f d x).credit
 credit_then records u f d x at get =
     let h : Credit2Domain → Credit2Domain = λ y. record y { units = change_item u.n (f y) y.units } in
     let a : at_place (change_at u.dom.0 h records.domains) u.dom.0 ≡ Some (h d) = at_place-change_at u.dom.0 h records.domains ∙ ap (option_map h) at in
@@ -119,7 +119,7 @@ credit_then records u f d x at get =
 
 -- the core's own unit gives its budget back, where its domain is capped
 abbrev pub gives : ℕ → Credit2Domain → Credit2Domain
-gives n d = cond (d.cap == 0) d (give_back n d)
+gives n d = cond (d.cap == 0) d (domain_after_return n d)
 
 abbrev pub held_above : Credit2Domain → ℕ → Bool
 held_above d n = elim (slice_get d.units n) as (λ _. Bool) [ None ↦ false | Some x ↦ int_lt (pos 0) x.held ]
@@ -136,7 +136,7 @@ funded_of d n owes holds = or_later (d.cap == 0) (and_from (not (int_lt d.budget
 -- another unit of the domain stays funded while the core's own gives back, or a chosen one takes, or one goes on or off
 pub funded_gives : (i n : ℕ) (d : Credit2Domain) → n ≢ i → ((x : Credit2Unit) → slice_get d.units i ≡ Some x → int_lt x.held (pos 0) ≡ false) → is_funded d n ≡ true → is_funded (gives i d) n ≡ true
 funded_gives i n d other low funded =
-    by_cond (λ (y : Credit2Domain). is_funded y n ≡ true) (d.cap == 0) d (give_back i d) (λ is. funded)
+    by_cond (λ (y : Credit2Domain). is_funded y n ≡ true) (d.cap == 0) d (domain_after_return i d) (λ is. funded)
     (λ capped. by_option (λ (y : Credit2Domain). is_funded y n ≡ true) (slice_get d.units i) d (λ u. record d { budget = d.budget +ℤ u.held; units = change_item i (λ x. record x { held = pos 0 }) d.units })
     (λ none. funded)
     (λ x is. (
@@ -144,21 +144,21 @@ funded_gives i n d other low funded =
     funded_of (record d { budget = d.budget +ℤ x.held; units = change_item i (λ y. record y { held = pos 0 }) d.units }) n (sum_least d.budget x.held parts.0 (low x is))
     (ap (λ (o : Option Credit2Unit). elim o as (λ _. Bool) [ None ↦ false | Some y ↦ int_lt (pos 0) y.held ]) (get_change_other i n (λ y. record y { held = pos 0 }) d.units other) ∙ parts.1))))
 
-pub funded_takes : (i n : ℕ) (d : Credit2Domain) → n ≢ i → has_budget d ≡ true → is_funded d n ≡ true → is_funded (take_budget i d) n ≡ true
+pub funded_takes : (i n : ℕ) (d : Credit2Domain) → n ≢ i → has_cap_budget d ≡ true → is_funded d n ≡ true → is_funded (domain_after_take i d) n ≡ true
 funded_takes i n d other has funded =
-    let taken : ℤ = take d.budget (quota (total d.cap) (length d.units)) in
+    let taken : ℤ = taken_budget d.budget (budget_quota (cap_budget d.cap) (length d.units)) in
     by_cond (λ (y : Credit2Domain). is_funded y n ≡ true) (d.cap == 0) d (record d { budget = d.budget -ℤ taken; units = change_item i (λ x. record x { held = taken }) d.units }) (λ is. funded)
     (λ capped. (
     let parts = funded_parts d n capped funded in
     let some : int_lt (pos 0) d.budget ≡ true = sym (ap (λ b. b || int_lt (pos 0) d.budget) capped) ∙ has in
-    funded_of (record d { budget = d.budget -ℤ taken; units = change_item i (λ x. record x { held = taken }) d.units }) n (rest_least d.budget (quota (total d.cap) (length d.units)) some)
+    funded_of (record d { budget = d.budget -ℤ taken; units = change_item i (λ x. record x { held = taken }) d.units }) n (rest_least d.budget (budget_quota (cap_budget d.cap) (length d.units)) some)
     (ap (λ (o : Option Credit2Unit). elim o as (λ _. Bool) [ None ↦ false | Some y ↦ int_lt (pos 0) y.held ]) (get_change_other i n (λ x. record x { held = taken }) d.units other) ∙ parts.1)))
 
 -- a unit that takes is funded
-pub takes_funded : (n : ℕ) (d : Credit2Domain) → has_budget d ≡ true → is_some (slice_get d.units n) ≡ true → is_funded (take_budget n d) n ≡ true
+pub takes_funded : (n : ℕ) (d : Credit2Domain) → has_cap_budget d ≡ true → is_some (slice_get d.units n) ≡ true → is_funded (domain_after_take n d) n ≡ true
 takes_funded n d has there =
-    let most : ℕ = quota (total d.cap) (length d.units) in
-    let taken : ℤ = take d.budget most in
+    let most : ℕ = budget_quota (cap_budget d.cap) (length d.units) in
+    let taken : ℤ = taken_budget d.budget most in
     by_cond (λ (y : Credit2Domain). is_funded y n ≡ true) (d.cap == 0) d (record d { budget = d.budget -ℤ taken; units = change_item n (λ x. record x { held = taken }) d.units })
     (λ is. or_more (d.cap == 0) _ is)
     (λ capped. (
@@ -182,47 +182,47 @@ funded_runs i n b d = ap (λ h. d.cap == 0 || (not (int_lt d.budget (pos 0)) && 
     held_same (suc i) (suc n) (x ∷ xs) = held_same i n xs
 
 -- a funded unit may go on once it has given back
-pub gives_budget : (n : ℕ) (d : Credit2Domain) → is_funded d n ≡ true → has_budget (gives n d) ≡ true
+pub gives_budget : (n : ℕ) (d : Credit2Domain) → is_funded d n ≡ true → has_cap_budget (gives n d) ≡ true
 gives_budget n d funded =
-    by_cond (λ (y : Credit2Domain). has_budget y ≡ true) (d.cap == 0) d (give_back n d) (λ is. or_more (d.cap == 0) _ is)
+    by_cond (λ (y : Credit2Domain). has_cap_budget y ≡ true) (d.cap == 0) d (domain_after_return n d) (λ is. or_more (d.cap == 0) _ is)
     (λ capped. (let parts = funded_parts d n capped funded in by_unit (slice_get d.units n) refl parts.0 parts.1))
   where
     by_unit : (o : Option Credit2Unit) → slice_get d.units n ≡ o → int_lt d.budget (pos 0) ≡ false → elim o as (λ _. Bool) [ None ↦ false | Some x ↦ int_lt (pos 0) x.held ] ≡ true
-        → has_budget (elim o as (λ _. Credit2Domain) [ None ↦ d | Some u ↦ record d { budget = d.budget +ℤ u.held; units = change_item n (λ x. record x { held = pos 0 }) d.units } ]) ≡ true
+        → has_cap_budget (elim o as (λ _. Credit2Domain) [ None ↦ d | Some u ↦ record d { budget = d.budget +ℤ u.held; units = change_item n (λ x. record x { held = pos 0 }) d.units } ]) ≡ true
     by_unit None is low holds = absurd (cc)
     by_unit (Some x) is low holds = or_later (d.cap == 0) (sum_above d.budget x.held low holds)
 
 -- giving back and taking again leaves no budget where there was none
-pub again_no_more : (n : ℕ) (d : Credit2Domain) (x : Credit2Unit) → slice_get d.units n ≡ Some x → int_lt (pos (quota (total d.cap) (length d.units))) x.held ≡ false → has_budget (take_budget n (gives n d)) ≡ true → has_budget d ≡ true
+pub again_no_more : (n : ℕ) (d : Credit2Domain) (x : Credit2Unit) → slice_get d.units n ≡ Some x → int_lt (pos (budget_quota (cap_budget d.cap) (length d.units))) x.held ≡ false → has_cap_budget (domain_after_take n (gives n d)) ≡ true → has_cap_budget d ≡ true
 again_no_more n d x at low has = by_cap (d.cap == 0) refl
   where
     given : Credit2Domain
     given = record d { budget = d.budget +ℤ x.held; units = change_item n (λ y. record y { held = pos 0 }) d.units }
 
-    by_cap : (b : Bool) → (d.cap == 0) ≡ b → has_budget d ≡ true
+    by_cap : (b : Bool) → (d.cap == 0) ≡ b → has_cap_budget d ≡ true
     by_cap true is = or_more (d.cap == 0) _ is
     by_cap false is =
-        let e : gives n d ≡ given = ap (λ b. cond b d (give_back n d)) is ∙ ap (λ (o : Option Credit2Unit). elim o as (λ _. Credit2Domain) [ None ↦ d | Some u ↦ record d { budget = d.budget +ℤ u.held; units = change_item n (λ y. record y { held = pos 0 }) d.units } ]) at in
-        let has2 : has_budget (take_budget n given) ≡ true = subst (λ y. has_budget (take_budget n y) ≡ true) e has in
-        let taken : ℤ = take given.budget (quota (total given.cap) (length given.units)) in
+        let e : gives n d ≡ given = ap (λ b. cond b d (domain_after_return n d)) is ∙ ap (λ (o : Option Credit2Unit). elim o as (λ _. Credit2Domain) [ None ↦ d | Some u ↦ record d { budget = d.budget +ℤ u.held; units = change_item n (λ y. record y { held = pos 0 }) d.units } ]) at in
+        let has2 : has_cap_budget (domain_after_take n given) ≡ true = subst (λ y. has_cap_budget (domain_after_take n y) ≡ true) e has in
+        let taken : ℤ = taken_budget given.budget (budget_quota (cap_budget given.cap) (length given.units)) in
         let rest : Credit2Domain = record given { budget = given.budget -ℤ taken; units = change_item n (λ y. record y { held = taken }) given.units } in
-        let has3 : has_budget rest ≡ true = sym (ap (λ b. has_budget (cond b given rest)) is) ∙ has2 in
+        let has3 : has_cap_budget rest ≡ true = sym (ap (λ b. has_cap_budget (cond b given rest)) is) ∙ has2 in
         let above : int_lt (pos 0) rest.budget ≡ true = sym (ap (λ b. b || int_lt (pos 0) rest.budget) is) ∙ has3 in
-        let above2 : int_lt (pos 0) ((d.budget +ℤ x.held) -ℤ take (d.budget +ℤ x.held) (quota (total d.cap) (length d.units))) ≡ true =
-        subst (λ k. int_lt (pos 0) ((d.budget +ℤ x.held) -ℤ take (d.budget +ℤ x.held) (quota (total d.cap) k)) ≡ true) (length_change_item n (λ y. record y { held = pos 0 }) d.units) above in
-        or_later (d.cap == 0) (rest_kept d.budget x.held (quota (total d.cap) (length d.units)) low above2)
+        let above2 : int_lt (pos 0) ((d.budget +ℤ x.held) -ℤ taken_budget (d.budget +ℤ x.held) (budget_quota (cap_budget d.cap) (length d.units))) ≡ true =
+        subst (λ k. int_lt (pos 0) ((d.budget +ℤ x.held) -ℤ taken_budget (d.budget +ℤ x.held) (budget_quota (cap_budget d.cap) k)) ≡ true) (length_change_item n (λ y. record y { held = pos 0 }) d.units) above in
+        or_later (d.cap == 0) (rest_kept d.budget x.held (budget_quota (cap_budget d.cap) (length d.units)) low above2)
 
-pub takes_less : (n : ℕ) (d : Credit2Domain) → has_budget (take_budget n d) ≡ true → has_budget d ≡ true
+pub takes_less : (n : ℕ) (d : Credit2Domain) → has_cap_budget (domain_after_take n d) ≡ true → has_cap_budget d ≡ true
 takes_less n d has = by_cap (d.cap == 0) refl
   where
-    by_cap : (b : Bool) → (d.cap == 0) ≡ b → has_budget d ≡ true
+    by_cap : (b : Bool) → (d.cap == 0) ≡ b → has_cap_budget d ≡ true
     by_cap true is = or_more (d.cap == 0) _ is
     by_cap false is =
-        let taken : ℤ = take d.budget (quota (total d.cap) (length d.units)) in
+        let taken : ℤ = taken_budget d.budget (budget_quota (cap_budget d.cap) (length d.units)) in
         let rest : Credit2Domain = record d { budget = d.budget -ℤ taken; units = change_item n (λ y. record y { held = taken }) d.units } in
-        let has3 : has_budget rest ≡ true = sym (ap (λ b. has_budget (cond b d rest)) is) ∙ has in
+        let has3 : has_cap_budget rest ≡ true = sym (ap (λ b. has_cap_budget (cond b d rest)) is) ∙ has in
         let above : int_lt (pos 0) rest.budget ≡ true = sym (ap (λ b. b || int_lt (pos 0) rest.budget) is) ∙ has3 in
-        or_later (d.cap == 0) (rest_less d.budget (quota (total d.cap) (length d.units)) (grind arith) above)
+        or_later (d.cap == 0) (rest_less d.budget (budget_quota (cap_budget d.cap) (length d.units)) (grind arith) above)
 
 -- what the parts leave of a domain: its weight, and the units but one
 pub record LeavesOthers (i : ℕ) (d e : Credit2Domain) : Type 0 where
@@ -242,13 +242,13 @@ leaves_itself i d = record { weight = refl; units = λ n other. refl; own = λ x
 
 pub gives_leaves : (i : ℕ) (d : Credit2Domain) → LeavesOthers i d (gives i d)
 gives_leaves i d =
-    by_cond (LeavesOthers i d) (d.cap == 0) d (give_back i d) (λ is. leaves_itself i d)
+    by_cond (LeavesOthers i d) (d.cap == 0) d (domain_after_return i d) (λ is. leaves_itself i d)
     (λ is. by_option (LeavesOthers i d) (slice_get d.units i) d (λ u. record d { budget = d.budget +ℤ u.held; units = change_item i (λ x. record x { held = pos 0 }) d.units })
     (λ none. leaves_itself i d) (λ u some. changes_own i (λ x. record x { held = pos 0 }) d (d.budget +ℤ u.held) (λ x. (refl, refl))))
 
-pub takes_leaves : (i : ℕ) (d : Credit2Domain) → LeavesOthers i d (take_budget i d)
+pub takes_leaves : (i : ℕ) (d : Credit2Domain) → LeavesOthers i d (domain_after_take i d)
 takes_leaves i d =
-    let taken : ℤ = take d.budget (quota (total d.cap) (length d.units)) in
+    let taken : ℤ = taken_budget d.budget (budget_quota (cap_budget d.cap) (length d.units)) in
     by_cond (LeavesOthers i d) (d.cap == 0) d (record d { budget = d.budget -ℤ taken; units = change_item i (λ x. record x { held = taken }) d.units }) (λ is. leaves_itself i d)
     (λ is. changes_own i (λ x. record x { held = taken }) d (d.budget -ℤ taken) (λ x. (refl, refl)))
 

@@ -2,7 +2,7 @@
 use Rattle.std.proofs.Common.{◌≡◌, ◌≤◌, ◌+◌, ◌-◌, ℕ, zero, suc, Bool, true, false, not, List, [], ◌∷◌, refl, arith, ap, subst, sym, ◌∙◌}
 use Rattle.std.specs.Prelude.{Option, Some, None, nat_le, slice_get, option_map, ◌==◌, ◌&&◌, ◌||◌, ◌/◌}
 use Rattle.std.proofs.lemmas.Bool.{and_from}
-use Rattle.sched_base.specs.Numbers.{moment, span, has_come, one_if}
+use Rattle.sched_base.specs.Numbers.{moment, span, has_moment_come, one_if}
 use Rattle.sched_base.specs.declared.Moment.{Moment}
 use Rattle.sched_base.specs.declared.Span.{Span}
 use Rattle.sched_base.specs.declared.VcpuId.{VcpuId}
@@ -26,7 +26,7 @@ use Rattle.moment_laws.specs.Stretches.{units}
 
 -- the core is not pending, and its due has come
 abbrev pub is_overdue : ℕ → Resource → Bool
-is_overdue t c = has_come t c.due && not c.pending
+is_overdue t c = has_moment_come t c.due && not c.pending
 
 -- the work that is left is none, or is done by then
 abbrev pub ends_by : ℕ → Option Moment → Option Span → Bool
@@ -106,7 +106,7 @@ total-change_each_less {X} f h places less =
 
 -- a pending core has no due to come
 pub pending_none : (t : ℕ) (c : Resource) → c.pending ≡ true → is_overdue t c ≡ false
-pending_none t c is = ap (λ b. has_come t c.due && not b) is ∙ none (has_come t c.due)
+pending_none t c is = ap (λ b. has_moment_come t c.due && not b) is ∙ none (has_moment_come t c.due)
   where
     none : (b : Bool) → (b && false) ≡ false
     none true = refl
@@ -182,7 +182,7 @@ module _ (t : ℕ) where
 
   -- what commands do to the marks, the queue and the paused domains
   marked_calms : (c d : Resource) → IsMarked c d → Calms c d
-  marked_calms c d marked e = and_from (has_come t c.due) (not c.pending) (subst (λ (o : Option Moment). has_come t o ≡ true) marked.keeps.due (and_left (has_come t d.due) _ e)) (still c.pending refl)
+  marked_calms c d marked e = and_from (has_moment_come t c.due) (not c.pending) (subst (λ (o : Option Moment). has_moment_come t o ≡ true) marked.keeps.due (and_left (has_moment_come t d.due) _ e)) (still c.pending refl)
     where
       still : (b : Bool) → c.pending ≡ b → not b ≡ true
       still true is = absurd (clash _ e (pending_none t d (marked.keeps.pending is)))

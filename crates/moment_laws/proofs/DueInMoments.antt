@@ -18,9 +18,9 @@ use Rattle.sched_model.specs.declared.state.Pool.{Pool}
 use Rattle.sched_model.specs.declared.state.Records.TheVariants.{Credit2Pool, ArincPool}
 use Rattle.sched_model.specs.declared.state.Resource.{Resource}
 use Rattle.sched_model.specs.declared.state.State.{State}
-use Rattle.sched_model.specs.Places.{at_place, has_unit}
-use Rattle.sched_model.specs.Machine.{is_enabled, after, after_at_home, enabled_at_home}
-use Rattle.sched_model.specs.Runs.{Reached, IsRun, IsNextEvent, action_of, run_start, after_entry, after_event, after_entries}
+use Rattle.sched_model.specs.Places.{at_place, has_listed_unit}
+use Rattle.sched_model.specs.Machine.{is_action_enabled, after, after_at_home, enabled_at_home}
+use Rattle.sched_model.specs.Runs.{Reached, IsRun, IsNextEvent, event_action, run_start, after_entry, after_event, after_entries}
 use Rattle.sched_model.specs.CheckedMachine.{IsChecked}
 use Rattle.sched_model.proofs.RunLemmas.{after_entries-append}
 use Rattle.sched_laws.specs.EachPlace.{EachPlace}
@@ -62,7 +62,7 @@ module _ (m : Machine) (checked : IsChecked m) (before : List Entry) (run : IsRu
   in_domain : (rs : Credit2Records) (u : UnitId) → HasUnit rs u → Has (λ d. is_some (slice_get d.units u.n) ≡ true) rs.domains u.dom.0
   in_domain rs u has = record { domain = has.domain; at = has.at; fact = is_some_at (slice_get has.domain.units u.n) has.record_of has.get }
 
-  has_units : (rs : Credit2Records) → pool.scheduler.records ≡ Credit2Pool rs → (r : ℕ) (c : Resource) → at_place pool.resources r ≡ Some c → (w : UnitId) → (c.cur ≡ Some w) ⊎ (has_unit pool.scheduler.queue w ≡ true) → Has (λ d. is_some (slice_get d.units w.n) ≡ true) rs.domains w.dom.0
+  has_units : (rs : Credit2Records) → pool.scheduler.records ≡ Credit2Pool rs → (r : ℕ) (c : Resource) → at_place pool.resources r ≡ Some c → (w : UnitId) → (c.cur ≡ Some w) ⊎ (has_listed_unit pool.scheduler.queue w ≡ true) → Has (λ d. is_some (slice_get d.units w.n) ≡ true) rs.domains w.dom.0
   has_units rs is r c at_r w (inl cur) = in_domain rs w (has_record m checked before pool of rs is w (cur_unit m checked before pool of r c w at_r cur) (cur_there m checked before pool of r c w at_r cur))
   has_units rs is r c at_r w (inr waits) = in_domain rs w (has_record m checked before pool of rs is w (waiting_unit m checked before pool of w waits) (waiting_there m checked before pool of w waits))
 
@@ -104,19 +104,19 @@ module _ (m : Machine) (checked : IsChecked m) (s : State) (apart : IsApart s) (
       let b : in_all (after m s s.now Xl) ≤ 1 + in_all s = by_option (λ (x : State). in_all x ≤ 1 + in_all s) (slice_get m.work.commands s.next_command) _ _ (λ is. omega arith) (λ l is. adds_line m s.now l s) in
       omega (arith, a, b)
 
-  core_moves : (r : ℕ) → is_enabled m s s.now (Moved (core r)) ≡ true → 1 + to_come s.now (after m s s.now (Moved (core r))) ≤ to_come s.now s
+  core_moves : (r : ℕ) → is_action_enabled m s s.now (Moved (core r)) ≡ true → 1 + to_come s.now (after m s s.now (Moved (core r))) ≤ to_come s.now s
   core_moves r on =
       let a = moved_less m s.now r s in
       let b = moved_ends m s s.now r apart on in
       omega (arith, a, b)
 
-  domain_moves : (d : ℕ) → is_enabled m s s.now (DomMoved (domain_number d)) ≡ true → 1 + to_come s.now (after m s s.now (DomMoved (domain_number d))) ≤ to_come s.now s
+  domain_moves : (d : ℕ) → is_action_enabled m s s.now (DomMoved (domain_number d)) ≡ true → 1 + to_come s.now (after m s s.now (DomMoved (domain_number d))) ≤ to_come s.now s
   domain_moves d on =
       let a = dom_moved_less m s.now d s in
       let b = dom_moved_ends m s s.now d on in
       omega (arith, a, b)
 
-  event_lowers : (e : Event) (over : Bool) → IsNextEvent m s e (action_of e) → one_if (is_cause e) + to_come s.now (after_event m e (action_of e) (record { state = s; over = over })).state ≤ 2 * one_if (is_line e) + to_come s.now s
+  event_lowers : (e : Event) (over : Bool) → IsNextEvent m s e (event_action e) → one_if (is_cause e) + to_come s.now (after_event m e (event_action e) (record { state = s; over = over })).state ≤ 2 * one_if (is_line e) + to_come s.now s
   event_lowers (event.Stall p until) over next = (let a = stalls in omega (arith, a))
   event_lowers (event.Xl k answer) over next = (let a = commands in omega (arith, a))
   event_lowers (event.Moved r to) over next = (let a = core_moves r.0 next.0 in omega (arith, a))

@@ -7,7 +7,7 @@ use Rattle.std.proofs.lemmas.Nat.{div-add-mod'}
 use Rattle.std.proofs.lemmas.Option.{slice_get_cases, slice_get_within}
 use Rattle.std.proofs.lemmas.Bool.{and_from}
 use Rattle.sched_base.specs.Credit2Numbers.{refill_span}
-use Rattle.sched_base.specs.Numbers.{moment, span, core, processor, has_come, one_if}
+use Rattle.sched_base.specs.Numbers.{moment, span, core, processor, has_moment_come, one_if}
 use Rattle.sched_base.specs.declared.Moment.{Moment}
 use Rattle.sched_base.specs.declared.Span.{Span}
 use Rattle.sched_base.specs.declared.UnitId.{UnitId}
@@ -25,16 +25,16 @@ use Rattle.sched_model.specs.declared.state.Resource.{Resource}
 use Rattle.sched_model.specs.declared.state.RtdsUnit.{RtdsUnit}
 use Rattle.sched_model.specs.declared.state.Vcpu.{Vcpu}
 use Rattle.sched_model.specs.CheckedMachine.{IsChecked, IsCheckedDomain, IsCheckedScript, IsWithin, most_span}
-use Rattle.sched_model.specs.Places.{at_place, change_item, has_unit}
-use Rattle.sched_model.specs.State.{is_runnable}
-use Rattle.sched_model.specs.Opening.{core_count}
-use Rattle.sched_model.specs.EligibleUnits.{Decision, rtds_unit}
+use Rattle.sched_model.specs.Places.{at_place, change_item, has_listed_unit}
+use Rattle.sched_model.specs.State.{may_unit_run}
+use Rattle.sched_model.specs.Opening.{machine_core_count}
+use Rattle.sched_model.specs.EligibleUnits.{Decision, rtds_unit_at}
 use Rattle.sched_model.specs.Credit2 as credit2
 use Rattle.sched_model.specs.Rtds as rtds
 use Rattle.sched_model.specs.Policy as policy
-use Rattle.sched_model.specs.Policy.{decision_of, rtds_record}
+use Rattle.sched_model.specs.Policy.{decision_of, unit_rtds_record}
 use Rattle.sched_model.specs.Pool as pools
-use Rattle.sched_model.specs.Pool.{enabled_in, after_in, settled_pool, change_core, change_processor, change_vcpu, with_doing, first_up, vcpu_of, guest_of, processor_of, done_at, ask_of, decided_core, same_choice}
+use Rattle.sched_model.specs.Pool.{enabled_in, after_in, settled_pool, change_core, change_processor, change_vcpu, with_doing, is_first_processor_up, pool_vcpu, running_guest, pool_processor, done_moment, core_ask, decided_core, same_choice}
 use Rattle.sched_laws.proofs.Events.{kept_opened}
 use Rattle.sched_base.proofs.Bools.{and_left, and_right, clash}
 use Rattle.sched_base.proofs.Lists.{each_get}
@@ -71,7 +71,7 @@ pub record Scripted (t : ℕ) (pool : Pool) (v : VcpuId) (x : Vcpu) : Type 0 whe
   fits : VcpuFits t script x
 
 module _ (m : Machine) (checked : IsChecked m) (t : ℕ) (pool : Pool) (fits : PoolFits m t pool) where
-  scripted : (v : VcpuId) (x : Vcpu) → vcpu_of pool v ≡ Some x → Scripted t pool v x
+  scripted : (v : VcpuId) (x : Vcpu) → pool_vcpu pool v ≡ Some x → Scripted t pool v x
   scripted v x = by_option (λ (o : Option Vcpu). o ≡ Some x → Scripted t pool v x) (at_place pool.domains v.dom.0) _ _ (λ none e. absurd (cc))
       (λ d at get. (
       let here : DomFits m t v.dom.0 d = fits.domains v.dom.0 d at in
@@ -115,7 +115,7 @@ module _ (m : Machine) (checked : IsChecked m) (t : ℕ) (pool : Pool) (fits : P
       of_spans (x ∷ xs) (suc n) low each = of_spans xs n (omega (arith, low)) each.1
 
   -- a sleeper that wakes, and a vCPU that falls asleep
-  wakes_ripe : (v : VcpuId) (x : Vcpu) → Scripted t pool v x → has_come t x.asleep_until ≡ true → (is_ripe t x ≡ true) × (is_ripe t (pools.woken_vcpu x) ≡ false)
+  wakes_ripe : (v : VcpuId) (x : Vcpu) → Scripted t pool v x → has_moment_come t x.asleep_until ≡ true → (is_ripe t x ≡ true) × (is_ripe t (pools.woken_vcpu x) ≡ false)
   wakes_ripe v x s come = by_sleep x.asleep_until refl
     where
       not_ripe : (o : Option Span) → ((w : Span) → o ≡ Some w → 1 ≤ w.0) → ends_by t None o ≡ false
@@ -123,28 +123,28 @@ module _ (m : Machine) (checked : IsChecked m) (t : ℕ) (pool : Pool) (fits : P
       not_ripe (Some w) some = (let a = some w refl in grind (arith, a))
 
       by_sleep : (o : Option Moment) → x.asleep_until ≡ o → (is_ripe t x ≡ true) × (is_ripe t (pools.woken_vcpu x) ≡ false)
-      by_sleep None is = absurd (let e : has_come t None ≡ true = subst (λ (o : Option Moment). has_come t o ≡ true) is come in cc)
+      by_sleep None is = absurd (let e : has_moment_come t None ≡ true = subst (λ (o : Option Moment). has_moment_come t o ≡ true) is come in cc)
       by_sleep (Some until) is = (
-        ap (λ (o : Option Moment). elim o as (λ _. Bool) [ None ↦ ends_by t x.started x.work_left | Some k ↦ nat_le k.0 t ]) is ∙ sym (ap (has_come t) is) ∙ come,
+        ap (λ (o : Option Moment). elim o as (λ _. Bool) [ None ↦ ends_by t x.started x.work_left | Some k ↦ nat_le k.0 t ]) is ∙ sym (ap (has_moment_come t) is) ∙ come,
         ap (λ (o : Option Moment). ends_by t o (slice_get x.script ((x.place + 1) % length x.script))) (s.fits.still until is)
             ∙ not_ripe (slice_get x.script ((x.place + 1) % length x.script)) (λ w get. span_some s.script s.is_checked ((x.place + 1) % length x.script) w (subst (λ (xs : List Span). slice_get xs ((x.place + 1) % length x.script) ≡ Some w) s.fits.follows get)),
       )
 
-  sleeps_ripe : (v : VcpuId) (x : Vcpu) → Scripted t pool v x → has_come t (done_at x) ≡ true → (is_ripe t x ≡ true) × (is_ripe t (pools.put_to_sleep t x) ≡ false)
+  sleeps_ripe : (v : VcpuId) (x : Vcpu) → Scripted t pool v x → has_moment_come t (done_moment x) ≡ true → (is_ripe t x ≡ true) × (is_ripe t (pools.put_to_sleep t x) ≡ false)
   sleeps_ripe v x s come = by_start x.started refl x.work_left refl x.asleep_until refl
     where
       Goal : Type 0
       Goal = (is_ripe t x ≡ true) × (is_ripe t (pools.put_to_sleep t x) ≡ false)
 
       by_start : (from : Option Moment) → x.started ≡ from → (work : Option Span) → x.work_left ≡ work → (sleep : Option Moment) → x.asleep_until ≡ sleep → Goal
-      by_start None is work is2 sleep is3 = absurd (let e : has_come t (done_at x) ≡ false = ap (λ (o : Option Moment). has_come t (elim o as (λ _. Option Moment) [ None ↦ None | Some from ↦ elim x.work_left as (λ _. Option Moment) [ None ↦ None | Some w ↦ Some (moment (from.0 + w.0)) ] ])) is in cc)
+      by_start None is work is2 sleep is3 = absurd (let e : has_moment_come t (done_moment x) ≡ false = ap (λ (o : Option Moment). has_moment_come t (elim o as (λ _. Option Moment) [ None ↦ None | Some from ↦ elim x.work_left as (λ _. Option Moment) [ None ↦ None | Some w ↦ Some (moment (from.0 + w.0)) ] ])) is in cc)
       by_start (Some from) is None is2 sleep is3 = absurd (
-          let e : has_come t (done_at x) ≡ false = ap (λ (o : Option Moment). has_come t (elim o as (λ _. Option Moment) [ None ↦ None | Some from ↦ elim x.work_left as (λ _. Option Moment) [ None ↦ None | Some w ↦ Some (moment (from.0 + w.0)) ] ])) is
-          ∙ ap (λ (o : Option Span). has_come t (elim o as (λ _. Option Moment) [ None ↦ None | Some w ↦ Some (moment (from.0 + w.0)) ])) is2 in cc)
+          let e : has_moment_come t (done_moment x) ≡ false = ap (λ (o : Option Moment). has_moment_come t (elim o as (λ _. Option Moment) [ None ↦ None | Some from ↦ elim x.work_left as (λ _. Option Moment) [ None ↦ None | Some w ↦ Some (moment (from.0 + w.0)) ] ])) is
+          ∙ ap (λ (o : Option Span). has_moment_come t (elim o as (λ _. Option Moment) [ None ↦ None | Some w ↦ Some (moment (from.0 + w.0)) ])) is2 in cc)
       by_start (Some from) is (Some work) is2 (Some until) is3 = absurd (let e : None ≡ Some from = sym (s.fits.still until is3) ∙ is in cc)
       by_start (Some from) is (Some work) is2 None is3 = (
-          let done : has_come t (done_at x) ≡ nat_le (from.0 + work.0) t = ap (λ (o : Option Moment). has_come t (elim o as (λ _. Option Moment) [ None ↦ None | Some from ↦ elim x.work_left as (λ _. Option Moment) [ None ↦ None | Some w ↦ Some (moment (from.0 + w.0)) ] ])) is
-          ∙ ap (λ (o : Option Span). has_come t (elim o as (λ _. Option Moment) [ None ↦ None | Some w ↦ Some (moment (from.0 + w.0)) ])) is2 in
+          let done : has_moment_come t (done_moment x) ≡ nat_le (from.0 + work.0) t = ap (λ (o : Option Moment). has_moment_come t (elim o as (λ _. Option Moment) [ None ↦ None | Some from ↦ elim x.work_left as (λ _. Option Moment) [ None ↦ None | Some w ↦ Some (moment (from.0 + w.0)) ] ])) is
+          ∙ ap (λ (o : Option Span). has_moment_come t (elim o as (λ _. Option Moment) [ None ↦ None | Some w ↦ Some (moment (from.0 + w.0)) ])) is2 in
           let ripe : is_ripe t x ≡ (work.0 == 0 || nat_le (from.0 + work.0) t) = ap (λ (o : Option Moment). elim o as (λ _. Bool) [ None ↦ ends_by t x.started x.work_left | Some k ↦ nat_le k.0 t ]) is3 ∙ ap (λ (o : Option Moment). ends_by t o x.work_left) is ∙ ap (ends_by t (Some from)) is2 in
           let some = s.fits.worth work is2 in
           let place : (x.place % 2 ≡ 0) × (x.place < length s.script) = elim (s.fits.awake is3) [ inl none ↦ (let z = none.0 in absurd (omega (arith, z, some))) | inr even ↦ even ] in
@@ -164,25 +164,25 @@ module _ (m : Machine) (checked : IsChecked m) (t : ℕ) (pool : Pool) (fits : P
   less_siblings : (v : VcpuId) (old : Pool) → of_pool t (pools.joined_siblings g t v old) ≤ of_pool t old
   less_siblings v old =
       let Q : Pool → Type 0 = λ next. of_pool t next ≤ of_pool t old in
-      by_option Q (pools.core_of old (pools.unit_of g v)) _ _ (λ is. omega arith)
-      (λ r is. by_option Q (processor_of g old (r * g + v.n % g)) _ _ (λ is2. omega arith)
-      (λ q is2. by_cond Q (pools.is_idle q) _ _ (λ idle. less_started_on t g (r * g + v.n % g) v old) (λ idle. omega arith)))
+      by_option Q (pools.unit_core old (pools.vcpu_unit g v)) _ _ (λ is. omega arith)
+      (λ r is. by_option Q (pool_processor g old (r * g + v.n % g)) _ _ (λ is2. omega arith)
+      (λ q is2. by_cond Q (pools.is_idling q) _ _ (λ idle. less_started_on t g (r * g + v.n % g) v old) (λ idle. omega arith)))
 
   wakes : (v : VcpuId) → enabled_in g t pool (Wake v) ≡ true → of_pool t (pools.after_wake g t v pool) + 1 ≤ of_pool t pool
-  wakes v = by_option (λ (b : Bool). b ≡ true → of_pool t (pools.after_wake g t v pool) + 1 ≤ of_pool t pool) (vcpu_of pool v) _ _ (λ none e. absurd (cc))
+  wakes v = by_option (λ (b : Bool). b ≡ true → of_pool t (pools.after_wake g t v pool) + 1 ≤ of_pool t pool) (pool_vcpu pool v) _ _ (λ none e. absurd (cc))
       (λ x at come. (
       let s = scripted v x at in
       let r = wakes_ripe v x s come in
       let next : Pool = change_vcpu v pools.woken_vcpu pool in
       let here : of_pool t next + 1 ≤ of_pool t pool = lower_vcpu v pools.woken_vcpu x s r.0 r.1 in
       let Q : Pool → Type 0 = λ (p : Pool). of_pool t p + 1 ≤ of_pool t pool in
-      by_test Q (is_runnable g next (pools.unit_of g v)) _ _
-      (λ runs. by_cond Q (pools.is_off next (pools.unit_of g v)) _ _ (λ off. here) (λ off. (let a = less_siblings v next in omega (arith, a, here)))) (λ runs. here)))
+      by_test Q (may_unit_run g next (pools.vcpu_unit g v)) _ _
+      (λ runs. by_cond Q (pools.is_unit_off next (pools.vcpu_unit g v)) _ _ (λ off. here) (λ off. (let a = less_siblings v next in omega (arith, a, here)))) (λ runs. here)))
 
   blocks : (p : ℕ) → enabled_in g t pool (Block (processor p)) ≡ true → of_pool t (after_in g t pool (Block (processor p))) + 1 ≤ of_pool t pool
-  blocks p on = by_guest (guest_of g pool p) refl (and_left (elim (guest_of g pool p) as (λ _. Bool) [ None ↦ false | Some v ↦ elim (vcpu_of pool v) as (λ _. Bool) [ None ↦ false | Some x ↦ has_come t (done_at x) ] ]) _ on)
+  blocks p on = by_guest (running_guest g pool p) refl (and_left (elim (running_guest g pool p) as (λ _. Bool) [ None ↦ false | Some v ↦ elim (pool_vcpu pool v) as (λ _. Bool) [ None ↦ false | Some x ↦ has_moment_come t (done_moment x) ] ]) _ on)
     where
-      with_guest : (v : VcpuId) (o : Option Vcpu) → vcpu_of pool v ≡ o → elim o as (λ _. Bool) [ None ↦ false | Some x ↦ has_come t (done_at x) ] ≡ true → of_pool t (pools.after_block g t p v pool) + 1 ≤ of_pool t pool
+      with_guest : (v : VcpuId) (o : Option Vcpu) → pool_vcpu pool v ≡ o → elim o as (λ _. Bool) [ None ↦ false | Some x ↦ has_moment_come t (done_moment x) ] ≡ true → of_pool t (pools.after_block g t p v pool) + 1 ≤ of_pool t pool
       with_guest v None at e = absurd (cc)
       with_guest v (Some x) at come =
           let s = scripted v x at in
@@ -191,21 +191,21 @@ module _ (m : Machine) (checked : IsChecked m) (t : ℕ) (pool : Pool) (fits : P
           let next : Pool = change_processor g p (with_doing Idle) slept in
           let here = lower_vcpu v (pools.put_to_sleep t) x s r.0 r.1 in
           let idle = less_processor t g p (with_doing Idle) slept in
-          by_cond (λ (q : Pool). of_pool t q + 1 ≤ of_pool t pool) (is_runnable g next (pools.unit_of g v)) next _ (λ runs. omega (arith, here, idle))
+          by_cond (λ (q : Pool). of_pool t q + 1 ≤ of_pool t pool) (may_unit_run g next (pools.vcpu_unit g v)) next _ (λ runs. omega (arith, here, idle))
           (λ runs. (let marked = less_core t (p / g) (λ c. record c { pending = true }) next (λ c e. absurd (clash _ e (pending_none t (record c { pending = true }) refl))) in omega (arith, here, idle, marked)))
 
-      by_guest : (o : Option VcpuId) → guest_of g pool p ≡ o → elim o as (λ _. Bool) [ None ↦ false | Some v ↦ elim (vcpu_of pool v) as (λ _. Bool) [ None ↦ false | Some x ↦ has_come t (done_at x) ] ] ≡ true
+      by_guest : (o : Option VcpuId) → running_guest g pool p ≡ o → elim o as (λ _. Bool) [ None ↦ false | Some v ↦ elim (pool_vcpu pool v) as (λ _. Bool) [ None ↦ false | Some x ↦ has_moment_come t (done_moment x) ] ] ≡ true
           → of_pool t (elim o as (λ _. Pool) [ None ↦ pool | Some v ↦ pools.after_block g t p v pool ]) + 1 ≤ of_pool t pool
       by_guest None is e = absurd (cc)
-      by_guest (Some v) is e = with_guest v (vcpu_of pool v) refl e
+      by_guest (Some v) is e = with_guest v (pool_vcpu pool v) refl e
 
   slices : (r : ℕ) → enabled_in g t pool (Slice (core r)) ≡ true → of_pool t (after_in g t pool (Slice (core r))) + 1 ≤ of_pool t pool
   slices r on =
-      let found = some-test_at pool.resources r (λ c. has_come t c.due && not c.pending && first_up t c) on in
+      let found = some-test_at pool.resources r (λ c. has_moment_come t c.due && not c.pending && is_first_processor_up t c) on in
       let c : Resource = found.0 in
       let f : Resource → Resource = λ x. record x { pending = true } in
       let a = total-change_at (of_core t) r f pool.resources c found.1 in
-      let before = ap one_if (and_left (is_overdue t c) (first_up t c) found.2) in
+      let before = ap one_if (and_left (is_overdue t c) (is_first_processor_up t c) found.2) in
       let after = ap one_if (pending_none t (f c) refl) in
       omega (arith, a, before, after)
 
@@ -218,40 +218,40 @@ module _ (m : Machine) (checked : IsChecked m) (t : ℕ) (pool : Pool) (fits : P
       let e : period * (q + 1) ≡ q * period + period = grind arith in
       omega (arith, d, low, e)
 
-  burned_next : (x : RtdsUnit) → (rtds.burn_to t x).next_period ≡ x.next_period
+  burned_next : (x : RtdsUnit) → (rtds.unit_burned_to t x).next_period ≡ x.next_period
   burned_next x = by_option (λ (y : RtdsUnit). y.next_period ≡ x.next_period) x.burned _ _ (λ is. refl) (λ from is. refl)
 
-  renewed_later : (x : RtdsUnit) → RtdsFits t x → is_deadline_due t (rtds.replenish t x) ≡ false
+  renewed_later : (x : RtdsUnit) → RtdsFits t x → is_deadline_due t (rtds.unit_after_replenish t x) ≡ false
   renewed_later x fit =
       let least = fit.next_period.least in
       let later : t < x.deadline + x.next_period * ((t - x.deadline) / x.next_period + 1) = next_later x.deadline x.next_period (omega (arith, least)) in
-      let same : (rtds.replenish t x).deadline ≡ x.deadline + x.next_period * ((t - x.deadline) / x.next_period + 1) =
-      ap (λ (n : ℕ). n + (rtds.burn_to t x).next_period * ((t - n) / (rtds.burn_to t x).next_period + 1)) (burned_deadline t x) ∙ ap (λ (n : ℕ). x.deadline + n * ((t - x.deadline) / n + 1)) (burned_next x) in
+      let same : (rtds.unit_after_replenish t x).deadline ≡ x.deadline + x.next_period * ((t - x.deadline) / x.next_period + 1) =
+      ap (λ (n : ℕ). n + (rtds.unit_burned_to t x).next_period * ((t - n) / (rtds.unit_burned_to t x).next_period + 1)) (burned_deadline t x) ∙ ap (λ (n : ℕ). x.deadline + n * ((t - x.deadline) / n + 1)) (burned_next x) in
       ap (λ n. nat_le n t) same ∙ not_yet _ later
     where
       not_yet : (n : ℕ) → t < n → nat_le n t ≡ false
       not_yet n low = grind arith
 
-  renews : (xs : List (Option (List RtdsUnit))) → pool.scheduler.records ≡ RtdsPool xs → (u : UnitId) (o : Option RtdsUnit) → rtds_unit xs u ≡ o → elim o as (λ _. Bool) [ None ↦ false | Some x ↦ nat_le x.deadline t ] ≡ true
-      → total (of_rtds t) (rtds.change_unit u (rtds.replenish t) xs) + 1 ≤ total (of_rtds t) xs
+  renews : (xs : List (Option (List RtdsUnit))) → pool.scheduler.records ≡ RtdsPool xs → (u : UnitId) (o : Option RtdsUnit) → rtds_unit_at xs u ≡ o → elim o as (λ _. Bool) [ None ↦ false | Some x ↦ nat_le x.deadline t ] ≡ true
+      → total (of_rtds t) (rtds.change_unit u (rtds.unit_after_replenish t) xs) + 1 ≤ total (of_rtds t) xs
   renews xs is u None at due = absurd (cc)
   renews xs is u (Some x) at due =
-      let records : RecordsFit (length m.config.domains) (core_count m.config) t (RtdsPool xs) = subst (RecordsFit (length m.config.domains) (core_count m.config) t) is fits.records in
+      let records : RecordsFit (length m.config.domains) (machine_core_count m.config) t (RtdsPool xs) = subst (RecordsFit (length m.config.domains) (machine_core_count m.config) t) is fits.records in
       let fit : RtdsFits t x = fit_unit t xs u x at records.units in
-      by_option (λ (o : Option RtdsUnit). o ≡ Some x → total (of_rtds t) (rtds.change_unit u (rtds.replenish t) xs) + 1 ≤ total (of_rtds t) xs) (at_place xs u.dom.0) _ _ (λ none e. absurd (cc))
+      by_option (λ (o : Option RtdsUnit). o ≡ Some x → total (of_rtds t) (rtds.change_unit u (rtds.unit_after_replenish t) xs) + 1 ≤ total (of_rtds t) xs) (at_place xs u.dom.0) _ _ (λ none e. absurd (cc))
       (λ units at2 get. (
-      let a = total-change_at (of_rtds t) u.dom.0 (change_item u.n (rtds.replenish t)) xs units at2 in
-      let b = how_many_changed (is_deadline_due t) u.n (rtds.replenish t) units x get in
+      let a = total-change_at (of_rtds t) u.dom.0 (change_item u.n (rtds.unit_after_replenish t)) xs units at2 in
+      let b = how_many_changed (is_deadline_due t) u.n (rtds.unit_after_replenish t) units x get in
       let before = ap one_if due in
       let after = ap one_if (renewed_later x fit) in
       omega (arith, a, b, before, after))) at
 
-  replenishes : (u : UnitId) (records : Records) → pool.scheduler.records ≡ records → policy.replenish_due records t u ≡ true → of_records t (policy.replenish records t u) + 1 ≤ of_records t records
-  replenishes u (RtdsPool xs) is due = renews xs is u (rtds_unit xs u) refl due
+  replenishes : (u : UnitId) (records : Records) → pool.scheduler.records ≡ records → policy.is_replenish_due records t u ≡ true → of_records t (policy.records_after_replenish records t u) + 1 ≤ of_records t records
+  replenishes u (RtdsPool xs) is due = renews xs is u (rtds_unit_at xs u) refl due
   replenishes u records is due = absurd (cc)
 
   -- the budget of a record
-  budget_some : (u : UnitId) (x : RtdsUnit) (records : Records) → RecordsFit (length m.config.domains) (core_count m.config) t records → rtds_record records u ≡ Some x → 0 < x.budget
+  budget_some : (u : UnitId) (x : RtdsUnit) (records : Records) → RecordsFit (length m.config.domains) (machine_core_count m.config) t records → unit_rtds_record records u ≡ Some x → 0 < x.budget
   budget_some u x (RtdsPool xs) fit is = (let a = (fit_unit t xs u x is fit.units).budget.least in omega (arith, a))
   budget_some u x records fit is = absurd (cc)
 
@@ -261,25 +261,25 @@ module _ (m : Machine) (checked : IsChecked m) (t : ℕ) (pool : Pool) (fits : P
       sooner : (due : ℕ) → nat_le (min (t + budget) due) t ≡ true → nat_le due t ≡ true
       sooner due is = grind (arith, some, is)
 
-      by_due : (o : Option Moment) → (has_come t (option_map (λ (due : Moment). moment (min (t + budget) due.0)) o) && not c.pending) ≡ true → (has_come t o && not c.pending) ≡ true
+      by_due : (o : Option Moment) → (has_moment_come t (option_map (λ (due : Moment). moment (min (t + budget) due.0)) o) && not c.pending) ≡ true → (has_moment_come t o && not c.pending) ≡ true
       by_due None is = is
       by_due (Some due) is = and_from (nat_le due.0 t) (not c.pending) (sooner due.0 (and_left (nat_le (min (t + budget) due.0) t) _ is)) (and_right (nat_le (min (t + budget) due.0) t) _ is)
 
   repls : (u : UnitId) → enabled_in g t pool (Repl u) ≡ true → of_pool t (pools.after_replenish t u pool) + 1 ≤ of_pool t pool
   repls u on =
-      let due : policy.replenish_due pool.scheduler.records t u ≡ true = and_right (has_unit pool.scheduler.queue u || is_some (pools.core_of pool u)) _ (and_left ((has_unit pool.scheduler.queue u || is_some (pools.core_of pool u)) && policy.replenish_due pool.scheduler.records t u) _ on) in
-      let records : Records = policy.replenish pool.scheduler.records t u in
+      let due : policy.is_replenish_due pool.scheduler.records t u ≡ true = and_right (has_listed_unit pool.scheduler.queue u || is_some (pools.unit_core pool u)) _ (and_left ((has_listed_unit pool.scheduler.queue u || is_some (pools.unit_core pool u)) && policy.is_replenish_due pool.scheduler.records t u) _ on) in
+      let records : Records = policy.records_after_replenish pool.scheduler.records t u in
       let next : Pool = pools.with_records records pool in
       let a = replenishes u pool.scheduler.records refl due in
       let here : of_pool t next + 1 ≤ of_pool t pool = omega (arith, a) in
-      let fit : RecordsFit (length m.config.domains) (core_count m.config) t records = replenish_fits (length m.config.domains) (core_count m.config) t pool.scheduler.records u due fits.records in
+      let fit : RecordsFit (length m.config.domains) (machine_core_count m.config) t records = replenish_fits (length m.config.domains) (machine_core_count m.config) t pool.scheduler.records u due fits.records in
       let Q : Pool → Type 0 = λ (p : Pool). of_pool t p + 1 ≤ of_pool t pool in
-      by_option Q (pools.core_of pool u) _ _ (λ is. here)
-      (λ r is. by_option Q (rtds_record records u) _ _ (λ is2. here)
+      by_option Q (pools.unit_core pool u) _ _ (λ is. here)
+      (λ r is. by_option Q (unit_rtds_record records u) _ _ (λ is2. here)
       (λ x is2. (let b = less_core t r (pools.due_within t x.budget) next (λ c e. within_overdue x.budget c (budget_some u x records fit is2) e) in omega (arith, here, b))))
 
   -- a refill
-  refilled_later : (most : ℕ) (d : Credit2Domain) (o : Option ℕ) → d.refill ≡ o → has_come t (option_map moment o) ≡ true → (is_refill_due t d.refill ≡ true) × (is_refill_due t (credit2.refill_domain most t d).refill ≡ false)
+  refilled_later : (most : ℕ) (d : Credit2Domain) (o : Option ℕ) → d.refill ≡ o → has_moment_come t (option_map moment o) ≡ true → (is_refill_due t d.refill ≡ true) × (is_refill_due t (credit2.domain_after_refill most t d).refill ≡ false)
   refilled_later most d None is come = absurd (cc)
   refilled_later most d (Some due) is come = (
     ap (is_refill_due t) is ∙ come,
@@ -297,12 +297,12 @@ module _ (m : Machine) (checked : IsChecked m) (t : ℕ) (pool : Pool) (fits : P
           is_later : (n : ℕ) → t < n → nat_le n t ≡ false
           is_later n low = grind arith
 
-  refills_by : (d : ℕ) (records : Records) → has_come t (policy.next_refill records d) ≡ true → of_records t (policy.refill records t d) + 1 ≤ of_records t records
+  refills_by : (d : ℕ) (records : Records) → has_moment_come t (policy.next_refill_moment records d) ≡ true → of_records t (policy.records_after_refill records t d) + 1 ≤ of_records t records
   refills_by d (Credit2Pool rs) come =
-      by_option (λ (o : Option Moment). has_come t o ≡ true → of_records t (policy.refill (Credit2Pool rs) t d) + 1 ≤ of_records t (Credit2Pool rs)) (at_place rs.domains d) _ _ (λ none e. absurd (cc))
+      by_option (λ (o : Option Moment). has_moment_come t o ≡ true → of_records t (policy.records_after_refill (Credit2Pool rs) t d) + 1 ≤ of_records t (Credit2Pool rs)) (at_place rs.domains d) _ _ (λ none e. absurd (cc))
       (λ x at e. (
-      let r = refilled_later (credit2.max_weight rs) x x.refill refl e in
-      let a = total-change_at (of_credit2 t) d (credit2.refill_domain (credit2.max_weight rs) t) rs.domains x at in
+      let r = refilled_later (credit2.most_weight rs) x x.refill refl e in
+      let a = total-change_at (of_credit2 t) d (credit2.domain_after_refill (credit2.most_weight rs) t) rs.domains x at in
       let before = ap one_if r.0 in
       let after = ap one_if r.1 in
       omega (arith, a, before, after))) come
@@ -311,14 +311,14 @@ module _ (m : Machine) (checked : IsChecked m) (t : ℕ) (pool : Pool) (fits : P
   -- the other events
   arrives : (p : ℕ) → of_pool t (pools.after_arrive g t p pool) ≤ of_pool t pool
   arrives p =
-      by_option (λ (next : Pool). of_pool t (change_processor g p (with_doing Held) next) ≤ of_pool t pool) (guest_of g pool p) _ _
+      by_option (λ (next : Pool). of_pool t (change_processor g p (with_doing Held) next) ≤ of_pool t pool) (running_guest g pool p) _ _
       (λ is. less_processor t g p (with_doing Held) pool)
       (λ v is. (let a = less_stopped t v pool in let b = less_processor t g p (with_doing Held) (change_vcpu v (pools.stopped_vcpu t) pool) in omega (arith, a, b)))
 
   leaves : (p : ℕ) (c : Resource) → of_pool t (pools.after_leave g t p c pool) ≤ of_pool t pool
   leaves p c =
-      let opened : (old : Pool) → of_pool t (change_core (p / g) pools.open_if_left old) ≤ of_pool t old = λ old. kept_opened (less_commands t g (of_pool t old)) (p / g) old (omega arith) in
-      by_option (λ (next : Pool). of_pool t (change_core (p / g) pools.open_if_left next) ≤ of_pool t pool) (pools.vcpu_for g pool c (p % g)) _ _
+      let opened : (old : Pool) → of_pool t (change_core (p / g) pools.reopened_core old) ≤ of_pool t old = λ old. kept_opened (less_commands t g (of_pool t old)) (p / g) old (omega arith) in
+      by_option (λ (next : Pool). of_pool t (change_core (p / g) pools.reopened_core next) ≤ of_pool t pool) (pools.vcpu_to_run g pool c (p % g)) _ _
       (λ is. (let next : Pool = change_processor g p (with_doing Idle) pool in let a = less_processor t g p (with_doing Idle) pool in let b = opened next in omega (arith, a, b)))
       (λ v is. (let next : Pool = pools.started_on g t p v pool in let a = less_started_on t g p v pool in let b = opened next in omega (arith, a, b)))
 
@@ -326,12 +326,12 @@ module _ (m : Machine) (checked : IsChecked m) (t : ℕ) (pool : Pool) (fits : P
   saves r u =
       let next : Pool = change_core r pools.saved_core pool in
       let a = less_core t r pools.saved_core pool (λ c e. e) in
-      by_cond (λ (p : Pool). of_pool t p ≤ of_pool t pool) (is_runnable g pool u) (pools.queue_unit u next) next (λ is. omega (arith, a)) (λ is. omega (arith, a))
+      by_cond (λ (p : Pool). of_pool t p ≤ of_pool t pool) (may_unit_run g pool u) (pools.queue_unit u next) next (λ is. omega (arith, a)) (λ is. omega (arith, a))
 
-  decides : (r : ℕ) (c : Resource) → at_place pool.resources r ≡ Some c → IsReady (ask_of g t pool r c) pool.scheduler.queue pool.scheduler.records → of_pool t (pools.after_decide g t r c pool) ≤ of_pool t pool
+  decides : (r : ℕ) (c : Resource) → at_place pool.resources r ≡ Some c → IsReady (core_ask g t pool r c) pool.scheduler.queue pool.scheduler.records → of_pool t (pools.after_decide g t r c pool) ≤ of_pool t pool
   decides r c at ready =
-      let decision : Decision = decision_of (ask_of g t pool r c) pool.scheduler in
-      let d : DecidesLater t pool.scheduler.records decision = decides_later (ask_of g t pool r c) pool.scheduler ready in
+      let decision : Decision = decision_of (core_ask g t pool r c) pool.scheduler in
+      let d : DecidesLater t pool.scheduler.records decision = decides_later (core_ask g t pool r c) pool.scheduler ready in
       let next : Resource = decided_core t decision c in
       let none : is_overdue t next ≡ false = by_test (λ (x : Resource). is_overdue t x ≡ false) (same_choice decision.unit c.cur) _ _ (λ is. ap (λ b. b && true) d.due) (λ is. ap (λ b. b && true) d.due) in
       let a = total-put_at (of_core t) r next c pool.resources at in
@@ -340,13 +340,13 @@ module _ (m : Machine) (checked : IsChecked m) (t : ℕ) (pool : Pool) (fits : P
       omega (arith, a, zero_is, records)
 
   -- whatever happens in the pool
-  pub acts : ((r : ℕ) (c : Resource) → at_place pool.resources r ≡ Some c → IsReady (ask_of g t pool r c) pool.scheduler.queue pool.scheduler.records)
+  pub acts : ((r : ℕ) (c : Resource) → at_place pool.resources r ≡ Some c → IsReady (core_ask g t pool r c) pool.scheduler.queue pool.scheduler.records)
       → (action : Action) → enabled_in g t pool action ≡ true → of_pool t (after_in g t pool action) + takes action ≤ of_pool t pool
   acts ready (Wake v) on = wakes v on
   acts ready (Block p) on = blocks p.0 on
   acts ready (Slice r) on = slices r.0 on
   acts ready (Repl u) on = repls u on
-  acts ready (Refill d) on = (let a = refills_by d.0 pool.scheduler.records (and_left (has_come t (policy.next_refill pool.scheduler.records d.0)) _ on) in omega (arith, a))
+  acts ready (Refill d) on = (let a = refills_by d.0 pool.scheduler.records (and_left (has_moment_come t (policy.next_refill_moment pool.scheduler.records d.0)) _ on) in omega (arith, a))
   acts ready (Arrive p) on = (let a = arrives p.0 in omega (arith, a))
   acts ready (Decide r) on = by_option (λ (next : Pool). of_pool t next + 0 ≤ of_pool t pool) (at_place pool.resources r.0) _ _ (λ is. omega arith) (λ c at. (let a = decides r.0 c at (ready r.0 c at) in omega (arith, a)))
   acts ready (Leave p) on = by_option (λ (next : Pool). of_pool t next + 0 ≤ of_pool t pool) (at_place pool.resources (p.0 / g)) _ _ (λ is. omega arith) (λ c at. (let a = leaves p.0 c in omega (arith, a)))
@@ -354,6 +354,6 @@ module _ (m : Machine) (checked : IsChecked m) (t : ℕ) (pool : Pool) (fits : P
       (λ c at. by_option (λ (next : Pool). of_pool t next + 0 ≤ of_pool t pool) c.saving _ _ (λ is. omega arith) (λ u is. (let a = saves r.0 u in omega (arith, a))))
   acts ready action on = omega arith
 
-  pub acts_settled : ((r : ℕ) (c : Resource) → at_place pool.resources r ≡ Some c → IsReady (ask_of g t pool r c) pool.scheduler.queue pool.scheduler.records)
+  pub acts_settled : ((r : ℕ) (c : Resource) → at_place pool.resources r ≡ Some c → IsReady (core_ask g t pool r c) pool.scheduler.queue pool.scheduler.records)
       → (action : Action) → enabled_in g t pool action ≡ true → of_pool t (settled_pool t (after_in g t pool action)) + takes action ≤ of_pool t pool
   acts_settled ready action on = (let a = acts ready action on in let b = less_settled t (after_in g t pool action) in omega (arith, a, b))

@@ -20,7 +20,7 @@ use Rattle.sched_model.specs.declared.state.State.{State}
 use Rattle.sched_model.specs.CheckedMachine.{IsChecked}
 use Rattle.sched_model.specs.Places.{at_place, numbers_from}
 use Rattle.sched_model.specs.Actions.{vcpus_from, units_from}
-use Rattle.sched_model.specs.Pool.{unit_count}
+use Rattle.sched_model.specs.Pool.{domain_unit_count}
 use Rattle.sched_model.specs.Runs.{IsRun, run_start}
 use Rattle.sched_laws.specs.StateLaws.{state_after}
 use Rattle.sched_laws.specs.Counts.{total, over, total_over}
@@ -142,14 +142,14 @@ module _ (m : Machine) (checked : IsChecked m) (before : List Entry) (run : IsRu
         by_place (Some x) at2 = absurd (let own = has_own_rtds m checked before run i pool at xs is d x at2 in cc)
     no_record records is d none = refl
 
-    few_records : (records : Records) → pool.scheduler.records ≡ records → (d : ℕ) (x : Domain) → at_place pool.domains d ≡ Some x → of_record t records d ≤ unit_count m.config.granularity x + 1
+    few_records : (records : Records) → pool.scheduler.records ≡ records → (d : ℕ) (x : Domain) → at_place pool.domains d ≡ Some x → of_record t records d ≤ domain_unit_count m.config.granularity x + 1
     few_records (Credit2Pool rs) is d x has = by_place (at_place rs.domains d)
       where
-        by_place : (o : Option Credit2Domain) → over (of_credit2 t) o ≤ unit_count m.config.granularity x + 1
+        by_place : (o : Option Credit2Domain) → over (of_credit2 t) o ≤ domain_unit_count m.config.granularity x + 1
         by_place None = omega arith
         by_place (Some y) = (let a = one_if_most (is_refill_due t y.refill) in omega (arith, a))
     few_records (RtdsPool xs) is d x has =
-        let recorded : HasRtdsRecords xs d (unit_count m.config.granularity x) = subst (λ (y : Records). IsRecorded y d (unit_count m.config.granularity x)) is ((has_records m checked before run i pool at).recorded d x has) in
+        let recorded : HasRtdsRecords xs d (domain_unit_count m.config.granularity x) = subst (λ (y : Records). IsRecorded y d (domain_unit_count m.config.granularity x)) is ((has_records m checked before run i pool at).recorded d x has) in
         let a = how_many_most (is_deadline_due t) recorded.records in
         let b : over (of_rtds t) (at_place xs d) ≡ of_rtds t recorded.records = ap (over (of_rtds t)) recorded.at in
         let count = recorded.units in
@@ -174,7 +174,7 @@ module _ (m : Machine) (checked : IsChecked m) (before : List Entry) (run : IsRu
           let here : over (of_domain t) (at_place pool.domains d) ≡ of_domain t x.0 = ap (over (of_domain t)) x.1 in
           let records = few_records pool.scheduler.records refl d x.0 x.1 in
           let count = range.count in
-          let same : unit_count m.config.granularity x.0 ≡ configured_units m.config.granularity range.config = ap (λ n. (n + m.config.granularity - 1) / m.config.granularity) count in
+          let same : domain_unit_count m.config.granularity x.0 ≡ configured_units m.config.granularity range.config = ap (λ n. (n + m.config.granularity - 1) / m.config.granularity) count in
           let p = ap (over guests_of) range.at in
           let q = ap (over (configured_units m.config.granularity)) range.at in
           let r = ap (over itself) range.at in

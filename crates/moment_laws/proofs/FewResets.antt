@@ -6,7 +6,7 @@ use Rattle.std.specs.Prelude.{Option, Some, None, is_some, int_lt, pos, cond, �
 use Rattle.std.specs.List.{list_any, list_all}
 use Rattle.std.proofs.Math.Decide.{ℕ_discrete}
 use Rattle.std.proofs.lemmas.Bool.{false_from_ne_true, eqb-true}
-use Rattle.sched_base.specs.Credit2Numbers.{resets as resets_of}
+use Rattle.sched_base.specs.Credit2Numbers.{called_resets}
 use Rattle.sched_base.specs.declared.Cores.{Cores}
 use Rattle.sched_base.specs.declared.UnitId.{UnitId}
 use Rattle.sched_model.specs.declared.ask.Ask.{Ask}
@@ -26,19 +26,19 @@ use Rattle.sched_model.specs.declared.state.State.{State}
 use Rattle.sched_model.specs.declared.action.Action.{Action}
 use Rattle.sched_model.specs.declared.action.Action.TheVariants.{Moved, Decide}
 use Rattle.sched_model.specs.Places.{at_place, clear_at, numbered_items, test_at}
-use Rattle.sched_model.specs.Arinc.{Window, present_window}
+use Rattle.sched_model.specs.Arinc.{Window, current_window}
 use Rattle.sched_model.specs.EligibleUnits.{Decision}
 use Rattle.sched_model.specs.Credit2 as credit2
 use Rattle.sched_model.specs.Rtds as rtds
 use Rattle.sched_model.specs.NullScheduler as null
-use Rattle.sched_model.specs.Opening.{core_count}
-use Rattle.sched_model.specs.Commands.{is_kind}
+use Rattle.sched_model.specs.Opening.{machine_core_count}
+use Rattle.sched_model.specs.Commands.{is_same_kind}
 use Rattle.sched_model.specs.Policy as policy
-use Rattle.sched_model.specs.Policy.{decision_of, kind_of}
-use Rattle.sched_model.specs.Pool.{enabled_in, after_in, after_decide, settled_pool, ask_of, is_held, is_open, first_up}
-use Rattle.sched_model.specs.Actions.{home_of_core, change_pool}
-use Rattle.sched_model.specs.Machine.{is_enabled, after, event_of}
-use Rattle.sched_model.specs.Runs.{Reached, IsRun, IsNextEvent, action_of, run_start, after_entry, after_event, after_entries}
+use Rattle.sched_model.specs.Policy.{decision_of, records_kind}
+use Rattle.sched_model.specs.Pool.{enabled_in, after_in, after_decide, settled_pool, core_ask, is_held_back, is_gathering, is_first_processor_up}
+use Rattle.sched_model.specs.Actions.{home_pool_of_core, change_pool}
+use Rattle.sched_model.specs.Machine.{is_action_enabled, after, event_of}
+use Rattle.sched_model.specs.Runs.{Reached, IsRun, IsNextEvent, event_action, run_start, after_entry, after_event, after_entries}
 use Rattle.sched_model.specs.CheckedMachine.{IsChecked}
 use Rattle.sched_model.proofs.RunLemmas.{after_entries-append}
 use Rattle.sched_laws.specs.StateLaws.{state_after, has_core_at}
@@ -69,17 +69,17 @@ was_at t last = elim last as (λ _. Bool) [ None ↦ false | Some at ↦ at == t
 
 -- a Credit2 pool without a reset at the moment
 abbrev may_reset : ℕ → Records → Bool
-may_reset t records = is_kind kinds.Credit2 (kind_of records) && not (was_at t (last_of records))
+may_reset t records = is_same_kind kinds.Credit2 (records_kind records) && not (was_at t (last_of records))
 
 same_last : (t : ℕ) (a b : Credit2Records) → a.last_reset ≡ b.last_reset → may_reset t (Credit2Pool a) ≡ true → may_reset t (Credit2Pool b) ≡ true
 same_last t a b same passes = sym (ap (λ (o : Option ℕ). not (was_at t o)) same) ∙ passes
 
 -- only a reset changes the moment of the last one
-last_burned : (cur : Option UnitId) (t : ℕ) (records : Credit2Records) → (credit2.burn_cur cur t records).last_reset ≡ records.last_reset
+last_burned : (cur : Option UnitId) (t : ℕ) (records : Credit2Records) → (credit2.own_burned_records cur t records).last_reset ≡ records.last_reset
 last_burned None t records = refl
 last_burned (Some u) t records = refl
 
-last_off : (cur : Option UnitId) (records : Credit2Records) → (credit2.switch_off cur records).last_reset ≡ records.last_reset
+last_off : (cur : Option UnitId) (records : Credit2Records) → (credit2.off_records cur records).last_reset ≡ records.last_reset
 last_off None records = refl
 last_off (Some u) records = refl
 
@@ -88,30 +88,30 @@ record Resets (t : ℕ) (before : Records) (d : Decision) : Type 0 where
   none : d.reset ≡ 0 → may_reset t d.records ≡ true → may_reset t before ≡ true
   some : d.reset ≢ 0 → (may_reset t before ≡ true) × (may_reset t d.records ≡ false)
 
-resets_by_choice : (ask : Ask) (scheduler : Scheduler) (records : Credit2Records) (chosen : Option UnitId) → Resets ask.at.0 (Credit2Pool records) (credit2.decide ask scheduler records chosen)
-resets_by_choice ask scheduler records None = record { none = λ e. same_last ask.at.0 (credit2.switch_off ask.cur records) records (last_off ask.cur records); some = λ other. absurd (other refl) }
-resets_by_choice ask scheduler records (Some u) = by_count (credit2.resets_for ask.at.0 u records) refl
+resets_by_choice : (ask : Ask) (scheduler : Scheduler) (records : Credit2Records) (chosen : Option UnitId) → Resets ask.at.0 (Credit2Pool records) (credit2.credit2_decision_for ask scheduler records chosen)
+resets_by_choice ask scheduler records None = record { none = λ e. same_last ask.at.0 (credit2.off_records ask.cur records) records (last_off ask.cur records); some = λ other. absurd (other refl) }
+resets_by_choice ask scheduler records (Some u) = by_count (credit2.reset_count ask.at.0 u records) refl
   where
     taken : ℕ → Credit2Records
-    taken k = credit2.change_domain u.dom.0 (credit2.take_budget u.n) (credit2.reset ask.at.0 k records)
+    taken k = credit2.change_domain u.dom.0 (credit2.domain_after_take u.n) (credit2.reset_records ask.at.0 k records)
 
-    by_count : (k : ℕ) → credit2.resets_for ask.at.0 u records ≡ k → Resets ask.at.0 (Credit2Pool records) (credit2.decide ask scheduler records (Some u))
+    by_count : (k : ℕ) → credit2.reset_count ask.at.0 u records ≡ k → Resets ask.at.0 (Credit2Pool records) (credit2.credit2_decision_for ask scheduler records (Some u))
     by_count zero is = record {
-      none = λ e. same_last ask.at.0 (credit2.set_running (Some ask.at.0) u (credit2.switch_off ask.cur (taken (credit2.resets_for ask.at.0 u records)))) records (last_off ask.cur (taken (credit2.resets_for ask.at.0 u records)) ∙ ap (λ k. (taken k).last_reset) is);
+      none = λ e. same_last ask.at.0 (credit2.running_records (Some ask.at.0) u (credit2.off_records ask.cur (taken (credit2.reset_count ask.at.0 u records)))) records (last_off ask.cur (taken (credit2.reset_count ask.at.0 u records)) ∙ ap (λ k. (taken k).last_reset) is);
       some = λ other. absurd (other is);
     }
     by_count (suc k) is = record {
       none = λ e. absurd (let a : suc k ≡ 0 = sym is ∙ e in omega (arith, a));
       some = λ other. (
-          let last = last_off ask.cur (taken (credit2.resets_for ask.at.0 u records)) ∙ ap (λ n. (taken n).last_reset) is in
+          let last = last_off ask.cur (taken (credit2.reset_count ask.at.0 u records)) ∙ ap (λ n. (taken n).last_reset) is in
           let now : was_at ask.at.0 (Some ask.at.0) ≡ true = grind arith in
           (ap not (not_yet other), ap (λ (o : Option ℕ). not (was_at ask.at.0 o)) last ∙ ap not now));
     }
       where
-        not_yet : credit2.resets_for ask.at.0 u records ≢ 0 → was_at ask.at.0 records.last_reset ≡ false
+        not_yet : credit2.reset_count ask.at.0 u records ≢ 0 → was_at ask.at.0 records.last_reset ≡ false
         not_yet other =
-            by_cond (λ n. n ≢ 0 → was_at ask.at.0 records.last_reset ≡ false) (int_lt (pos 0) (credit2.credit_of records u) || was_at ask.at.0 records.last_reset) 0 (resets_of (credit2.credit_of records u))
-            (λ is2 none. absurd (none refl)) (λ is2 none. or_right (int_lt (pos 0) (credit2.credit_of records u)) (was_at ask.at.0 records.last_reset) is2) other
+            by_cond (λ n. n ≢ 0 → was_at ask.at.0 records.last_reset ≡ false) (int_lt (pos 0) (credit2.unit_credit records u) || was_at ask.at.0 records.last_reset) 0 (called_resets (credit2.unit_credit records u))
+            (λ is2 none. absurd (none refl)) (λ is2 none. or_right (int_lt (pos 0) (credit2.unit_credit records u)) (was_at ask.at.0 records.last_reset) is2) other
 
 -- where nothing is reset
 no_resets : (t : ℕ) (before : Records) (d : Decision) → d.reset ≡ 0 → may_reset t d.records ≡ false → Resets t before d
@@ -120,25 +120,25 @@ no_resets t before d none never = record { none = λ e passes. absurd (clash _ p
 resets_by : (ask : Ask) (queue : List UnitId) (affinity : List (Option (List Cores))) (records : Records) → Resets ask.at.0 records (decision_of ask (record { queue = queue; affinity = affinity; records = records }))
 resets_by ask queue affinity (Credit2Pool records) =
     let scheduler : Scheduler = record { queue = queue; affinity = affinity; records = Credit2Pool records } in
-    let burned : Credit2Records = credit2.burn_cur ask.cur ask.at.0 records in
-    let r = resets_by_choice ask scheduler burned (credit2.choice ask scheduler burned) in
+    let burned : Credit2Records = credit2.own_burned_records ask.cur ask.at.0 records in
+    let r = resets_by_choice ask scheduler burned (credit2.credit2_choice ask scheduler burned) in
     let back = same_last ask.at.0 burned records (last_burned ask.cur ask.at.0 records) in
     record { none = λ e passes. back (r.none e passes); some = λ other. (let x = r.some other in (back x.0, x.1)) }
-resets_by ask queue affinity (RtdsPool domains) = by_choice (rtds.burn_cur ask.cur ask.at.0 domains) (rtds.choice ask (record { queue = queue; affinity = affinity; records = RtdsPool domains }) (rtds.burn_cur ask.cur ask.at.0 domains))
+resets_by ask queue affinity (RtdsPool domains) = by_choice (rtds.own_burned_domains ask.cur ask.at.0 domains) (rtds.rtds_choice ask (record { queue = queue; affinity = affinity; records = RtdsPool domains }) (rtds.own_burned_domains ask.cur ask.at.0 domains))
   where
-    by_choice : (burned : List (Option (List RtdsUnit))) (chosen : Option UnitId) → Resets ask.at.0 (RtdsPool domains) (rtds.decide ask burned chosen)
+    by_choice : (burned : List (Option (List RtdsUnit))) (chosen : Option UnitId) → Resets ask.at.0 (RtdsPool domains) (rtds.rtds_decision_for ask burned chosen)
     by_choice burned None = no_resets ask.at.0 _ _ refl refl
     by_choice burned (Some u) = no_resets ask.at.0 _ _ refl refl
-resets_by ask queue affinity (ArincPool records) = by_window (cond ask.leaving None (present_window records ask.at.0))
+resets_by ask queue affinity (ArincPool records) = by_window (cond ask.leaving None (current_window records ask.at.0))
   where
     by_window : (window : Option Window) → Resets ask.at.0 (ArincPool records) (policy.arinc_decision ask (record { queue = queue; affinity = affinity; records = ArincPool records }) window)
     by_window None = no_resets ask.at.0 _ _ refl refl
     by_window (Some w) = no_resets ask.at.0 _ _ refl refl
 resets_by ask queue affinity (NullPool kept) =
     let scheduler : Scheduler = record { queue = queue; affinity = affinity; records = NullPool kept } in
-    by_cond (Resets ask.at.0 (NullPool kept)) ask.leaving (null.decide ask.core.0 (clear_at ask.core.0 kept) None) (null.decide ask.core.0 kept (null.choice ask scheduler kept)) (λ is. no_resets ask.at.0 _ _ refl refl) (λ is. by_choice (null.choice ask scheduler kept))
+    by_cond (Resets ask.at.0 (NullPool kept)) ask.leaving (null.null_decision_for ask.core.0 (clear_at ask.core.0 kept) None) (null.null_decision_for ask.core.0 kept (null.null_choice ask scheduler kept)) (λ is. no_resets ask.at.0 _ _ refl refl) (λ is. by_choice (null.null_choice ask scheduler kept))
   where
-    by_choice : (chosen : Option UnitId) → Resets ask.at.0 (NullPool kept) (null.decide ask.core.0 kept chosen)
+    by_choice : (chosen : Option UnitId) → Resets ask.at.0 (NullPool kept) (null.null_decision_for ask.core.0 kept chosen)
     by_choice None = no_resets ask.at.0 _ _ refl refl
     by_choice (Some u) = no_resets ask.at.0 _ _ refl refl
 
@@ -147,7 +147,7 @@ resets_of_scheduler ask scheduler = resets_by ask scheduler.queue scheduler.affi
 
 reset_kept : (t : ℕ) → IsKeptTest t (may_reset t)
 reset_kept t = record {
-  sees = λ a b alike passes. subst (λ (o : Option ℕ). (is_kind kinds.Credit2 (kind_of b) && not (was_at t o)) ≡ true) alike.last (subst (λ kind. (is_kind kinds.Credit2 kind && not (was_at t (last_of a))) ≡ true) alike.kind passes);
+  sees = λ a b alike passes. subst (λ (o : Option ℕ). (is_same_kind kinds.Credit2 (records_kind b) && not (was_at t o)) ≡ true) alike.last (subst (λ kind. (is_same_kind kinds.Credit2 kind && not (was_at t (last_of a))) ≡ true) alike.kind passes);
   decides = λ ask scheduler now passes. (
       let r = resets_of_scheduler ask scheduler in
       let d : Decision = decision_of ask scheduler in
@@ -192,26 +192,26 @@ rises (suc n) i f h own others =
           omega (arith, a, c))
     ]
 
-module _ (m : Machine) (s : State) (apart : IsApart s) (places : (i : ℕ) (pool : Pool) → at_place s.pools i ≡ Some pool → length pool.resources ≡ core_count m.config) where
+module _ (m : Machine) (s : State) (apart : IsApart s) (places : (i : ℕ) (pool : Pool) → at_place s.pools i ≡ Some pool → length pool.resources ≡ machine_core_count m.config) where
   abbrev g : ℕ
   g = m.config.granularity
 
   abbrev left : State → ℕ
   left next = total_over (cores m) (λ r. one_if (waits_for_reset s.now next r))
 
-  was : (action : Action) → is_enabled m s s.now action ≡ true → (r : ℕ) → (action ≡ Moved (core r) → ⊥) → waits_for_reset s.now (after m s s.now action) r ≡ true → waits_for_reset s.now s r ≡ true
+  was : (action : Action) → is_action_enabled m s s.now action ≡ true → (r : ℕ) → (action ≡ Moved (core r) → ⊥) → waits_for_reset s.now (after m s s.now action) r ≡ true → waits_for_reset s.now s r ≡ true
   was action on r other waits =
       let c = waits_counted s.now (after m s s.now action) r waits in
       elim (counted_after m s.now (may_reset s.now) (reset_kept s.now) s action on c.0 r c.1) [ inl old ↦ counted_waits s.now s c.0 r old | inr come ↦ absurd (other come.moves) ]
 
-  no_rise : (action : Action) → is_enabled m s s.now action ≡ true → ((r : ℕ) → action ≡ Moved (core r) → ⊥) → left (after m s s.now action) ≤ left s
+  no_rise : (action : Action) → is_action_enabled m s s.now action ≡ true → ((r : ℕ) → action ≡ Moved (core r) → ⊥) → left (after m s s.now action) ≤ left s
   no_rise action on other =
       let a = grows (cores m) 0 (λ r. one_if (waits_for_reset s.now s r)) (λ r. one_if (waits_for_reset s.now (after m s s.now action) r))
       (λ r low. (let b = one_less (waits_for_reset s.now s r) (waits_for_reset s.now (after m s s.now action) r) (was action on r (other r)) in omega (arith, b))) in
       let none = many_none (cores m) in
       omega (arith, a, none)
 
-  move_rises : (q : ℕ) → is_enabled m s s.now (Moved (core q)) ≡ true → left (after m s s.now (Moved (core q))) ≤ left s + 1
+  move_rises : (q : ℕ) → is_action_enabled m s s.now (Moved (core q)) ≡ true → left (after m s s.now (Moved (core q))) ≤ left s + 1
   move_rises q on =
       rises (cores m) q (λ r. one_if (waits_for_reset s.now s r)) (λ r. one_if (waits_for_reset s.now (after m s s.now (Moved (core q))) r))
       (let a = one_if_most (waits_for_reset s.now (after m s s.now (Moved (core q))) q) in omega (arith, a))
@@ -221,18 +221,18 @@ module _ (m : Machine) (s : State) (apart : IsApart s) (places : (i : ℕ) (pool
       moved a b e = (let same : core b ≡ core a = cc in ap (λ (x : ResId). x.0) same)
 
   -- a reset of the core r: its pool may have no other at this moment
-  reset_lowers : (e : Event) (r : ℕ) → is_enabled m s s.now (Decide (core r)) ≡ true → e ≡ event_of m s s.now (Decide (core r)) → reset_of e ≢ 0 → left (after m s s.now (Decide (core r))) + 1 ≤ left s
-  reset_lowers e r on is some = by_home (home_of_core s r) refl
+  reset_lowers : (e : Event) (r : ℕ) → is_action_enabled m s s.now (Decide (core r)) ≡ true → e ≡ event_of m s s.now (Decide (core r)) → reset_of e ≢ 0 → left (after m s s.now (Decide (core r))) + 1 ≤ left s
+  reset_lowers e r on is some = by_home (home_pool_of_core s r) refl
     where
-      by_home : (home : Option ℕ) → home_of_core s r ≡ home → left (after m s s.now (Decide (core r))) + 1 ≤ left s
-      by_home None home = absurd (let a : is_enabled m s s.now (Decide (core r)) ≡ false = ap (λ (o : Option ℕ). elim o as (λ _. Bool) [ None ↦ false | Some i ↦ test_at s.pools i (λ pool. enabled_in g s.now pool (Decide (core r))) ]) home in cc)
+      by_home : (home : Option ℕ) → home_pool_of_core s r ≡ home → left (after m s s.now (Decide (core r))) + 1 ≤ left s
+      by_home None home = absurd (let a : is_action_enabled m s s.now (Decide (core r)) ≡ false = ap (λ (o : Option ℕ). elim o as (λ _. Bool) [ None ↦ false | Some i ↦ test_at s.pools i (λ pool. enabled_in g s.now pool (Decide (core r))) ]) home in cc)
       by_home (Some i) home =
           let on_i : test_at s.pools i (λ pool. enabled_in g s.now pool (Decide (core r))) ≡ true = sym (ap (λ (o : Option ℕ). elim o as (λ _. Bool) [ None ↦ false | Some j ↦ test_at s.pools j (λ pool. enabled_in g s.now pool (Decide (core r))) ]) home) ∙ on in
           let p = some-test_at s.pools i (λ pool. enabled_in g s.now pool (Decide (core r))) on_i in
           let pool : Pool = p.0 in
-          let c = some-test_at pool.resources r (λ x. list_all is_held x.processors && is_open x && first_up s.now x) p.2 in
+          let c = some-test_at pool.resources r (λ x. list_all is_held_back x.processors && is_gathering x && is_first_processor_up s.now x) p.2 in
           let printed : reset_of e ≡ (decision m s.now pool r c.0).reset = printed_reset m s e i pool r c.0 is home p.1 c.1 in
-          let does = (resets_of_scheduler (ask_of g s.now pool r c.0) pool.scheduler).some (λ none. some (printed ∙ none)) in
+          let does = (resets_of_scheduler (core_ask g s.now pool r c.0) pool.scheduler).some (λ none. some (printed ∙ none)) in
           let f : Pool → Pool = λ x. settled_pool s.now (after_in g s.now x (Decide (core r))) in
           let next : State = change_pool i f s in
           let is_next : after m s s.now (Decide (core r)) ≡ next = ap (λ (o : Option ℕ). elim o as (λ _. State) [ None ↦ s | Some j ↦ change_pool j f s ]) home in
@@ -259,7 +259,7 @@ module _ (m : Machine) (s : State) (apart : IsApart s) (places : (i : ℕ) (pool
           omega (arith, all, none)
 
   -- what is left falls with each reset and rises with causes alone
-  event_lowers : (e : Event) (over : Bool) → IsNextEvent m s e (action_of e) → one_if (is_reset e) + left (after_event m e (action_of e) (record { state = s; over = over })).state ≤ one_if (is_cause e) + left s
+  event_lowers : (e : Event) (over : Bool) → IsNextEvent m s e (event_action e) → one_if (is_reset e) + left (after_event m e (event_action e) (record { state = s; over = over })).state ≤ one_if (is_cause e) + left s
   event_lowers (event.Decide r unit due late reset) over next = by_reset (reset == 0) refl
     where
       by_reset : (b : Bool) → (reset == 0) ≡ b → one_if (not b) + left (after m s s.now (Decide r)) ≤ 0 + left s

@@ -3,7 +3,7 @@ use Rattle.std.proofs.Common.{mod-lt, ◌≡◌, ◌≤◌, ◌<◌, ◌+◌, �
 use Rattle.std.specs.Prelude.{Option, Some, None, is_some, nat_le, nat_lt, slice_get, map, min, max, ℤ, pos, negsuc, int_lt, ◌==◌, ◌&&◌, ◌||◌, ◌%◌, ◌/◌}
 use Rattle.std.proofs.lemmas.Nat.{div-add-mod'}
 use Rattle.std.proofs.lemmas.Bool.{lt-leb}
-use Rattle.sched_base.specs.Credit2Numbers.{above_zero, slice, raise as raised}
+use Rattle.sched_base.specs.Credit2Numbers.{positive_part, slice_length, raised_credit}
 use Rattle.sched_base.specs.declared.Cores.{Cores}
 use Rattle.sched_base.specs.declared.UnitId.{UnitId}
 use Rattle.sched_model.specs.declared.ask.Ask.{Ask}
@@ -17,10 +17,10 @@ use Rattle.sched_model.specs.declared.state.Records.{Records}
 use Rattle.sched_model.specs.declared.state.Records.TheVariants.{Credit2Pool, RtdsPool, ArincPool, NullPool}
 use Rattle.sched_model.specs.declared.state.RtdsUnit.{RtdsUnit}
 use Rattle.sched_model.specs.declared.state.Scheduler.{Scheduler}
-use Rattle.sched_model.specs.Places.{at_place, change_at, change_each, change_item, has_unit}
-use Rattle.sched_base.specs.Numbers.{has_come}
-use Rattle.sched_model.specs.Arinc.{Window, window_from, window_at, present_window}
-use Rattle.sched_model.specs.EligibleUnits.{Decision, is_allowed, is_eligible, eligible_units, has_budget}
+use Rattle.sched_model.specs.Places.{at_place, change_at, change_each, change_item, has_listed_unit}
+use Rattle.sched_base.specs.Numbers.{has_moment_come}
+use Rattle.sched_model.specs.Arinc.{Window, window_among, frame_window, current_window}
+use Rattle.sched_model.specs.EligibleUnits.{Decision, is_unit_allowed, is_unit_eligible, eligible_units, has_cap_budget}
 use Rattle.sched_model.specs.Credit2 as credit2
 use Rattle.sched_model.specs.Rtds as rtds
 use Rattle.sched_model.specs.NullScheduler as null
@@ -39,48 +39,48 @@ use Rattle.moment_laws.proofs.DueEvents.{of_credit2, of_rtds, of_records, is_dea
 
 -- what is promised of a decision at the moment t
 pub record DecidesLater (t : ℕ) (before : Records) (d : Decision) : Type 0 where
-  pub due : has_come t d.due ≡ false
+  pub due : has_moment_come t d.due ≡ false
   pub records : of_records t d.records ≤ of_records t before
 
 -- ARINC 653: the window ends later
-until_later : (start ahead last : ℕ) (entries : List FrameEntry) → start + ahead < last → start + ahead < (window_from start ahead last entries).until
+until_later : (start ahead last : ℕ) (entries : List FrameEntry) → start + ahead < last → start + ahead < (window_among start ahead last entries).until
 until_later start ahead last [] low = low
 until_later start ahead last (e ∷ entries) low =
-    elim (nat_lt ahead e.run.0) as (λ b. nat_lt ahead e.run.0 ≡ b → start + ahead < (elim b as (λ _. Window) [ true ↦ record { unit = Some (record { dom = e.dom; n = e.unit }); until = start + e.run.0 } | false ↦ window_from (start + e.run.0) (ahead - e.run.0) last entries ]).until) [
+    elim (nat_lt ahead e.run.0) as (λ b. nat_lt ahead e.run.0 ≡ b → start + ahead < (elim b as (λ _. Window) [ true ↦ record { unit = Some (record { dom = e.dom; n = e.unit }); until = start + e.run.0 } | false ↦ window_among (start + e.run.0) (ahead - e.run.0) last entries ]).until) [
       | true ↦ λ is. (let a : ahead < e.run.0 = grind (arith, is) in omega (arith, a))
       | false ↦ λ is. (
           let a : e.run.0 ≤ ahead = grind (arith, is) in
           let same : start + e.run.0 + (ahead - e.run.0) ≡ start + ahead = omega (arith, a) in
-          subst (λ k. k < (window_from (start + e.run.0) (ahead - e.run.0) last entries).until) same (until_later (start + e.run.0) (ahead - e.run.0) last entries (subst (λ k. k < last) (sym same) low)))
+          subst (λ k. k < (window_among (start + e.run.0) (ahead - e.run.0) last entries).until) same (until_later (start + e.run.0) (ahead - e.run.0) last entries (subst (λ k. k < last) (sym same) low)))
     ] refl
 
-window_later : (installed : ℕ) (frame : Frame) (t : ℕ) → 0 < frame.major.0 → t < (window_at installed frame t).until
+window_later : (installed : ℕ) (frame : Frame) (t : ℕ) → 0 < frame.major.0 → t < (frame_window installed frame t).until
 window_later installed frame t some =
     let ahead : ℕ = (t - installed) % frame.major.0 in
     let d : (t - installed) / frame.major.0 * frame.major.0 + (t - installed) % frame.major.0 ≡ t - installed = div-add-mod' (t - installed) frame.major.0 in
     let whole : t - ahead + ahead ≡ t = omega (arith, d) in
     let low : ahead < frame.major.0 = mod-lt (t - installed) some in
-    subst (λ k. k < (window_at installed frame t).until) whole (until_later (t - ahead) ahead (t - ahead + frame.major.0) frame.entries (omega (arith, low)))
+    subst (λ k. k < (frame_window installed frame t).until) whole (until_later (t - ahead) ahead (t - ahead + frame.major.0) frame.entries (omega (arith, low)))
 
-arinc_later : (ask : Ask) (scheduler : Scheduler) (records : ArincRecords) → ((frame : Frame) → records.frame ≡ Some frame → 0 < frame.major.0) → (o : Option Window) → o ≡ cond ask.leaving None (present_window records ask.at.0)
+arinc_later : (ask : Ask) (scheduler : Scheduler) (records : ArincRecords) → ((frame : Frame) → records.frame ≡ Some frame → 0 < frame.major.0) → (o : Option Window) → o ≡ cond ask.leaving None (current_window records ask.at.0)
     → DecidesLater ask.at.0 scheduler.records (policy.arinc_decision ask scheduler o)
 arinc_later ask scheduler records some None is = record { due = refl; records = omega arith }
 arinc_later ask scheduler records some (Some window) is =
     record {
-      due = lt-leb window.until ask.at.0 (by_frame records.frame refl (by_cond (λ (o : Option Window). Some window ≡ o → Some window ≡ present_window records ask.at.0) ask.leaving None (present_window records ask.at.0) (λ goes e. absurd (cc)) (λ stays e. e) is));
+      due = lt-leb window.until ask.at.0 (by_frame records.frame refl (by_cond (λ (o : Option Window). Some window ≡ o → Some window ≡ current_window records ask.at.0) ask.leaving None (current_window records ask.at.0) (λ goes e. absurd (cc)) (λ stays e. e) is));
       records = omega arith;
     }
   where
-    by_frame : (frame : Option Frame) → records.frame ≡ frame → Some window ≡ elim frame as (λ _. Option Window) [ None ↦ None | Some f ↦ Some (window_at records.installed f ask.at.0) ] → ask.at.0 < window.until
+    by_frame : (frame : Option Frame) → records.frame ≡ frame → Some window ≡ elim frame as (λ _. Option Window) [ None ↦ None | Some f ↦ Some (frame_window records.installed f ask.at.0) ] → ask.at.0 < window.until
     by_frame None at e = absurd (cc)
-    by_frame (Some f) at e = (let same : window ≡ window_at records.installed f ask.at.0 = cc in subst (λ (w : Window). ask.at.0 < w.until) (sym same) (window_later records.installed f ask.at.0 (some f at)))
+    by_frame (Some f) at e = (let same : window ≡ frame_window records.installed f ask.at.0 = cc in subst (λ (w : Window). ask.at.0 < w.until) (sym same) (window_later records.installed f ask.at.0 (some f at)))
 
 -- RTDS: a deadline changes in a replenishment alone, and the chosen unit has some budget left
 pub same_deadlines : (t : ℕ) (u : UnitId) (f : RtdsUnit → RtdsUnit) (domains : List (Option (List RtdsUnit))) → ((x : RtdsUnit) → (f x).deadline ≡ x.deadline) → total (of_rtds t) (rtds.change_unit u f domains) ≤ total (of_rtds t) domains
 same_deadlines t u f domains same =
     total-change_at_less (of_rtds t) u.dom.0 (change_item u.n f) domains (λ units at. how_many_less (is_deadline_due t) u.n f units (λ x get due. subst (λ n. nat_le n t ≡ true) (same x) due))
 
-pub burned_deadline : (t : ℕ) (x : RtdsUnit) → (rtds.burn_to t x).deadline ≡ x.deadline
+pub burned_deadline : (t : ℕ) (x : RtdsUnit) → (rtds.unit_burned_to t x).deadline ≡ x.deadline
 burned_deadline t x = by_option (λ (y : RtdsUnit). y.deadline ≡ x.deadline) x.burned _ _ (λ is. refl) (λ from is. refl)
 
 module _ (ask : Ask) (queue : List UnitId) (affinity : List (Option (List Cores))) (domains : List (Option (List RtdsUnit))) where
@@ -88,52 +88,52 @@ module _ (ask : Ask) (queue : List UnitId) (affinity : List (Option (List Cores)
   rtds_scheduler = record { queue = queue; affinity = affinity; records = RtdsPool domains }
 
   abbrev rtds_burned : List (Option (List RtdsUnit))
-  rtds_burned = rtds.burn_cur ask.cur ask.at.0 domains
+  rtds_burned = rtds.own_burned_domains ask.cur ask.at.0 domains
 
-  rtds_burn : (cur : Option UnitId) → total (of_rtds ask.at.0) (rtds.burn_cur cur ask.at.0 domains) ≤ total (of_rtds ask.at.0) domains
+  rtds_burn : (cur : Option UnitId) → total (of_rtds ask.at.0) (rtds.own_burned_domains cur ask.at.0 domains) ≤ total (of_rtds ask.at.0) domains
   rtds_burn None = omega arith
-  rtds_burn (Some u) = same_deadlines ask.at.0 u (rtds.burn_to ask.at.0) domains (burned_deadline ask.at.0)
+  rtds_burn (Some u) = same_deadlines ask.at.0 u (rtds.unit_burned_to ask.at.0) domains (burned_deadline ask.at.0)
 
-  rtds_off : (cur : Option UnitId) → total (of_rtds ask.at.0) (rtds.switch_off cur rtds_burned) ≤ total (of_rtds ask.at.0) rtds_burned
+  rtds_off : (cur : Option UnitId) → total (of_rtds ask.at.0) (rtds.off_domains cur rtds_burned) ≤ total (of_rtds ask.at.0) rtds_burned
   rtds_off None = omega arith
   rtds_off (Some u) = same_deadlines ask.at.0 u (λ x. record x { burned = None }) rtds_burned (λ x. refl)
 
-  rtds_own : (cur : Option UnitId) (w : UnitId) → elim cur as (λ _. Option UnitId) [ None ↦ None | Some u ↦ cond (ask.runnable && is_allowed rtds_scheduler ask.home.0 ask.core.0 u && nat_lt 0 (rtds.budget_left rtds_burned u)) (Some u) None ] ≡ Some w → nat_lt 0 (rtds.budget_left rtds_burned w) ≡ true
+  rtds_own : (cur : Option UnitId) (w : UnitId) → elim cur as (λ _. Option UnitId) [ None ↦ None | Some u ↦ cond (ask.runnable && is_unit_allowed rtds_scheduler ask.home.0 ask.core.0 u && nat_lt 0 (rtds.unit_left_budget rtds_burned u)) (Some u) None ] ≡ Some w → nat_lt 0 (rtds.unit_left_budget rtds_burned w) ≡ true
   rtds_own None w e = absurd (cc)
   rtds_own (Some u) w e =
-      by_cond (λ (o : Option UnitId). o ≡ Some w → nat_lt 0 (rtds.budget_left rtds_burned w) ≡ true) (ask.runnable && is_allowed rtds_scheduler ask.home.0 ask.core.0 u && nat_lt 0 (rtds.budget_left rtds_burned u)) (Some u) None
-      (λ all h. (let same : u ≡ w = cc in subst (λ x. nat_lt 0 (rtds.budget_left rtds_burned x) ≡ true) same (and_right (ask.runnable && is_allowed rtds_scheduler ask.home.0 ask.core.0 u) _ all))) (λ none h. absurd (cc)) e
+      by_cond (λ (o : Option UnitId). o ≡ Some w → nat_lt 0 (rtds.unit_left_budget rtds_burned w) ≡ true) (ask.runnable && is_unit_allowed rtds_scheduler ask.home.0 ask.core.0 u && nat_lt 0 (rtds.unit_left_budget rtds_burned u)) (Some u) None
+      (λ all h. (let same : u ≡ w = cc in subst (λ x. nat_lt 0 (rtds.unit_left_budget rtds_burned x) ≡ true) same (and_right (ask.runnable && is_unit_allowed rtds_scheduler ask.home.0 ask.core.0 u) _ all))) (λ none h. absurd (cc)) e
 
-  rtds_left : (w : UnitId) → rtds.choice ask rtds_scheduler rtds_burned ≡ Some w → nat_lt 0 (rtds.budget_left rtds_burned w) ≡ true
+  rtds_left : (w : UnitId) → rtds.rtds_choice ask rtds_scheduler rtds_burned ≡ Some w → nat_lt 0 (rtds.unit_left_budget rtds_burned w) ≡ true
   rtds_left w =
-      by_cond (λ (o : Option UnitId). o ≡ Some w → nat_lt 0 (rtds.budget_left rtds_burned w) ≡ true) ask.leaving None _ (λ goes e. absurd (cc))
-      (λ stays e. elim (is_best (before_order rtds_burned) (foremost_scan rtds_burned) (rtds.own_candidate ask rtds_scheduler rtds_burned) (eligible_units (record rtds_scheduler { records = RtdsPool rtds_burned }) ask.home.0 ask.core.0 ask.at.0) w e).source [
+      by_cond (λ (o : Option UnitId). o ≡ Some w → nat_lt 0 (rtds.unit_left_budget rtds_burned w) ≡ true) ask.leaving None _ (λ goes e. absurd (cc))
+      (λ stays e. elim (is_best (before_order rtds_burned) (foremost_scan rtds_burned) (rtds.rtds_candidate ask rtds_scheduler rtds_burned) (eligible_units (record rtds_scheduler { records = RtdsPool rtds_burned }) ask.home.0 ask.core.0 ask.at.0) w e).source [
         | inl own ↦ rtds_own ask.cur w own
         | inr waits ↦ (
-            let h = has_filter (is_eligible (record rtds_scheduler { records = RtdsPool rtds_burned }) ask.home.0 ask.core.0 ask.at.0) queue w waits in
-            sym (passes_is rtds_burned (record rtds_scheduler { records = RtdsPool rtds_burned }) ask.home.0 ask.core.0 ask.at.0 w) ∙ and_right (is_allowed rtds_scheduler ask.home.0 ask.core.0 w) _ h.1)
+            let h = has_filter (is_unit_eligible (record rtds_scheduler { records = RtdsPool rtds_burned }) ask.home.0 ask.core.0 ask.at.0) queue w waits in
+            sym (passes_is rtds_burned (record rtds_scheduler { records = RtdsPool rtds_burned }) ask.home.0 ask.core.0 ask.at.0 w) ∙ and_right (is_unit_allowed rtds_scheduler ask.home.0 ask.core.0 w) _ h.1)
       ])
 
-  rtds_later : (chosen : Option UnitId) → rtds.choice ask rtds_scheduler rtds_burned ≡ chosen → DecidesLater ask.at.0 (RtdsPool domains) (rtds.decide ask rtds_burned chosen)
+  rtds_later : (chosen : Option UnitId) → rtds.rtds_choice ask rtds_scheduler rtds_burned ≡ chosen → DecidesLater ask.at.0 (RtdsPool domains) (rtds.rtds_decision_for ask rtds_burned chosen)
   rtds_later None is = (let a = rtds_burn ask.cur in let b = rtds_off ask.cur in record { due = refl; records = omega (arith, a, b) })
   rtds_later (Some w) is =
       let a = rtds_burn ask.cur in
       let b = rtds_off ask.cur in
-      let c = same_deadlines ask.at.0 w (λ x. record x { burned = Some ask.at.0 }) (rtds.switch_off ask.cur rtds_burned) (λ x. refl) in
+      let c = same_deadlines ask.at.0 w (λ x. record x { burned = Some ask.at.0 }) (rtds.off_domains ask.cur rtds_burned) (λ x. refl) in
       let left = rtds_left w is in
-      let some : 0 < rtds.budget_left rtds_burned w = grind (arith, left) in
-      record { due = lt-leb (ask.at.0 + rtds.budget_left rtds_burned w) ask.at.0 (omega (arith, some)); records = omega (arith, a, b, c) }
+      let some : 0 < rtds.unit_left_budget rtds_burned w = grind (arith, left) in
+      record { due = lt-leb (ask.at.0 + rtds.unit_left_budget rtds_burned w) ask.at.0 (omega (arith, some)); records = omega (arith, a, b, c) }
 
 -- Credit2: a refill changes by itself and with the cap alone, and the chosen unit holds some budget where its domain is capped
 pub same_refills : (t d : ℕ) (f : Credit2Domain → Credit2Domain) (domains : List (Option Credit2Domain)) → ((x : Credit2Domain) → (f x).refill ≡ x.refill) → total (of_credit2 t) (change_at d f domains) ≤ total (of_credit2 t) domains
 same_refills t d f domains same = total-change_at_less (of_credit2 t) d f domains (λ x at. one_less _ _ (λ due. subst (λ (o : Option ℕ). is_refill_due t o ≡ true) (same x) due))
 
-gives_refill : (n : ℕ) (x : Credit2Domain) → (cond (x.cap == 0) x (credit2.give_back n x)).refill ≡ x.refill
+gives_refill : (n : ℕ) (x : Credit2Domain) → (cond (x.cap == 0) x (credit2.domain_after_return n x)).refill ≡ x.refill
 gives_refill n x =
-    by_cond (λ (y : Credit2Domain). y.refill ≡ x.refill) (x.cap == 0) x (credit2.give_back n x) (λ is. refl)
+    by_cond (λ (y : Credit2Domain). y.refill ≡ x.refill) (x.cap == 0) x (credit2.domain_after_return n x) (λ is. refl)
     (λ is. by_option (λ (y : Credit2Domain). y.refill ≡ x.refill) (slice_get x.units n) _ _ (λ none. refl) (λ u at. refl))
 
-takes_refill : (n : ℕ) (x : Credit2Domain) → (credit2.take_budget n x).refill ≡ x.refill
+takes_refill : (n : ℕ) (x : Credit2Domain) → (credit2.domain_after_take n x).refill ≡ x.refill
 takes_refill n x = by_cond (λ (y : Credit2Domain). y.refill ≡ x.refill) (x.cap == 0) x _ (λ is. refl) (λ is. refl)
 
 -- a unit of a list stays there
@@ -161,7 +161,7 @@ long_enough a limit = grind arith
 min_enough : (a b : ℕ) → 0 < a → 0 < b → 0 < min a b
 min_enough a b x y = grind (arith, x, y)
 
-held_enough : (h : ℤ) → int_lt (pos 0) h ≡ true → 0 < above_zero h
+held_enough : (h : ℤ) → int_lt (pos 0) h ≡ true → 0 < positive_part h
 held_enough (pos zero) is = absurd (cc)
 held_enough (pos (suc n)) is = omega arith
 held_enough (negsuc n) is = absurd (cc)
@@ -177,29 +177,29 @@ module _ (ask : Ask) (queue : List UnitId) (affinity : List (Option (List Cores)
   left x = total (of_credit2 t) x.domains
 
   abbrev burned : Credit2Records
-  burned = credit2.burn_cur ask.cur t records
+  burned = credit2.own_burned_records ask.cur t records
 
   abbrev chosen : Option UnitId
-  chosen = credit2.choice ask scheduler burned
+  chosen = credit2.credit2_choice ask scheduler burned
 
-  burn_less : (cur : Option UnitId) → left (credit2.burn_cur cur t records) ≤ left records
+  burn_less : (cur : Option UnitId) → left (credit2.own_burned_records cur t records) ≤ left records
   burn_less None = omega arith
   burn_less (Some u) =
-      let mid : Credit2Records = credit2.change_unit u (credit2.burn_unit (credit2.max_weight records) t) records in
-      let a = same_refills t u.dom.0 (λ (d : Credit2Domain). record d { units = change_item u.n (credit2.burn_unit (credit2.max_weight records) t d) d.units }) records.domains (λ x. refl) in
-      let b = same_refills t u.dom.0 (λ (d : Credit2Domain). cond (d.cap == 0) d (credit2.give_back u.n d)) mid.domains (gives_refill u.n) in
+      let mid : Credit2Records = credit2.change_unit u (credit2.burned_unit (credit2.most_weight records) t) records in
+      let a = same_refills t u.dom.0 (λ (d : Credit2Domain). record d { units = change_item u.n (credit2.burned_unit (credit2.most_weight records) t d) d.units }) records.domains (λ x. refl) in
+      let b = same_refills t u.dom.0 (λ (d : Credit2Domain). cond (d.cap == 0) d (credit2.domain_after_return u.n d)) mid.domains (gives_refill u.n) in
       omega (arith, a, b)
 
-  off_less : (cur : Option UnitId) (x : Credit2Records) → left (credit2.switch_off cur x) ≤ left x
+  off_less : (cur : Option UnitId) (x : Credit2Records) → left (credit2.off_records cur x) ≤ left x
   off_less None x = omega arith
   off_less (Some u) x = same_refills t u.dom.0 (λ (d : Credit2Domain). record d { units = change_item u.n (λ (y : Credit2Unit). record y { burned = None }) d.units }) x.domains (λ y. refl)
 
-  reset_less : (k : ℕ) (x : Credit2Records) → left (credit2.reset t k x) ≤ left x
+  reset_less : (k : ℕ) (x : Credit2Records) → left (credit2.reset_records t k x) ≤ left x
   reset_less zero x = omega arith
   reset_less (suc k) x =
       let mid : Credit2Records = credit2.burn_all t x in
-      let a = total-change_each_less (of_credit2 t) (λ n d. credit2.burn_units (credit2.max_weight x) t d) x.domains (λ n d. omega arith) in
-      let b = total-change_each_less (of_credit2 t) (λ n d. record d { units = map (λ (y : Credit2Unit). record y { credit = raised y.credit (suc k) }) d.units }) mid.domains (λ n d. omega arith) in
+      let a = total-change_each_less (of_credit2 t) (λ n d. credit2.burned_domain (credit2.most_weight x) t d) x.domains (λ n d. omega arith) in
+      let b = total-change_each_less (of_credit2 t) (λ n d. record d { units = map (λ (y : Credit2Unit). record y { credit = raised_credit y.credit (suc k) }) d.units }) mid.domains (λ n d. omega arith) in
       omega (arith, a, b)
 
   -- the units stay there, and the budgets too in a reset
@@ -207,71 +207,71 @@ module _ (ask : Ask) (queue : List UnitId) (affinity : List (Option (List Cores)
   There n d = is_some (slice_get d.units n) ≡ true
 
   abbrev Pays : ℕ → Credit2Domain → Type 0
-  Pays n d = (is_some (slice_get d.units n) ≡ true) × (has_budget d ≡ true)
+  Pays n d = (is_some (slice_get d.units n) ≡ true) × (has_cap_budget d ≡ true)
 
-  burn_there : (cur : Option UnitId) (d n : ℕ) → Has (There n) records.domains d → Has (There n) (credit2.burn_cur cur t records).domains d
+  burn_there : (cur : Option UnitId) (d n : ℕ) → Has (There n) records.domains d → Has (There n) (credit2.own_burned_records cur t records).domains d
   burn_there None d n has = has
   burn_there (Some u) d n has =
-      let mid : Credit2Records = credit2.change_unit u (credit2.burn_unit (credit2.max_weight records) t) records in
-      let a = has_change (There n) (There n) d u.dom.0 (λ (x : Credit2Domain). record x { units = change_item u.n (credit2.burn_unit (credit2.max_weight records) t x) x.units }) records.domains has
+      let mid : Credit2Records = credit2.change_unit u (credit2.burned_unit (credit2.most_weight records) t) records in
+      let a = has_change (There n) (There n) d u.dom.0 (λ (x : Credit2Domain). record x { units = change_item u.n (credit2.burned_unit (credit2.most_weight records) t x) x.units }) records.domains has
       (λ same x at there. item_there u.n n _ x.units there) (λ other x there. there) in
-      has_change (There n) (There n) d u.dom.0 (λ (x : Credit2Domain). cond (x.cap == 0) x (credit2.give_back u.n x)) mid.domains a
-      (λ same x at there. by_cond (There n) (x.cap == 0) x (credit2.give_back u.n x) (λ is. there)
+      has_change (There n) (There n) d u.dom.0 (λ (x : Credit2Domain). cond (x.cap == 0) x (credit2.domain_after_return u.n x)) mid.domains a
+      (λ same x at there. by_cond (There n) (x.cap == 0) x (credit2.domain_after_return u.n x) (λ is. there)
       (λ is. by_option (There n) (slice_get x.units u.n) _ _ (λ none. there) (λ y at2. item_there u.n n (λ z. record z { held = pos 0 }) x.units there))) (λ other x there. there)
 
-  reset_pays : (k : ℕ) (d n : ℕ) → Has (Pays n) burned.domains d → Has (Pays n) (credit2.reset t k burned).domains d
+  reset_pays : (k : ℕ) (d n : ℕ) → Has (Pays n) burned.domains d → Has (Pays n) (credit2.reset_records t k burned).domains d
   reset_pays zero d n has = has
   reset_pays (suc k) d n has =
       let mid : Credit2Records = credit2.burn_all t burned in
-      let a : Has (Pays n) mid.domains d = each_has (Pays n) (Pays n) (credit2.burn_units (credit2.max_weight burned) t) 0 d burned.domains (λ x pays. (map_there n (credit2.burn_unit (credit2.max_weight burned) t x) x.units pays.0, pays.1)) has in
-      each_has (Pays n) (Pays n) (λ (x : Credit2Domain). record x { units = map (λ (y : Credit2Unit). record y { credit = raised y.credit (suc k) }) x.units }) 0 d mid.domains
-      (λ x pays. (map_there n (λ (y : Credit2Unit). record y { credit = raised y.credit (suc k) }) x.units pays.0, pays.1)) a
+      let a : Has (Pays n) mid.domains d = each_has (Pays n) (Pays n) (credit2.burned_domain (credit2.most_weight burned) t) 0 d burned.domains (λ x pays. (map_there n (credit2.burned_unit (credit2.most_weight burned) t x) x.units pays.0, pays.1)) has in
+      each_has (Pays n) (Pays n) (λ (x : Credit2Domain). record x { units = map (λ (y : Credit2Unit). record y { credit = raised_credit y.credit (suc k) }) x.units }) 0 d mid.domains
+      (λ x pays. (map_there n (λ (y : Credit2Unit). record y { credit = raised_credit y.credit (suc k) }) x.units pays.0, pays.1)) a
 
   -- the chosen unit goes on, or waits, and its domain has budget
-  own_pays : (cur : Option UnitId) → ask.cur ≡ cur → (w : UnitId) → elim cur as (λ _. Option UnitId) [ None ↦ None | Some u ↦ cond (ask.runnable && is_allowed scheduler ask.home.0 ask.core.0 u && credit2.domain_has_budget burned u) (Some u) None ] ≡ Some w
-      → ((ask.cur ≡ Some w) ⊎ (has_unit queue w ≡ true)) × (credit2.domain_has_budget burned w ≡ true)
+  own_pays : (cur : Option UnitId) → ask.cur ≡ cur → (w : UnitId) → elim cur as (λ _. Option UnitId) [ None ↦ None | Some u ↦ cond (ask.runnable && is_unit_allowed scheduler ask.home.0 ask.core.0 u && credit2.has_domain_budget burned u) (Some u) None ] ≡ Some w
+      → ((ask.cur ≡ Some w) ⊎ (has_listed_unit queue w ≡ true)) × (credit2.has_domain_budget burned w ≡ true)
   own_pays None cur w e = absurd (cc)
   own_pays (Some u) cur w e =
-      by_cond (λ (o : Option UnitId). o ≡ Some w → ((ask.cur ≡ Some w) ⊎ (has_unit queue w ≡ true)) × (credit2.domain_has_budget burned w ≡ true)) (ask.runnable && is_allowed scheduler ask.home.0 ask.core.0 u && credit2.domain_has_budget burned u) (Some u) None
-      (λ all h. (let same : u ≡ w = cc in subst (λ (x : UnitId). ((ask.cur ≡ Some x) ⊎ (has_unit queue x ≡ true)) × (credit2.domain_has_budget burned x ≡ true)) same (inl cur, and_right (ask.runnable && is_allowed scheduler ask.home.0 ask.core.0 u) _ all)))
+      by_cond (λ (o : Option UnitId). o ≡ Some w → ((ask.cur ≡ Some w) ⊎ (has_listed_unit queue w ≡ true)) × (credit2.has_domain_budget burned w ≡ true)) (ask.runnable && is_unit_allowed scheduler ask.home.0 ask.core.0 u && credit2.has_domain_budget burned u) (Some u) None
+      (λ all h. (let same : u ≡ w = cc in subst (λ (x : UnitId). ((ask.cur ≡ Some x) ⊎ (has_listed_unit queue x ≡ true)) × (credit2.has_domain_budget burned x ≡ true)) same (inl cur, and_right (ask.runnable && is_unit_allowed scheduler ask.home.0 ask.core.0 u) _ all)))
       (λ none h. absurd (cc)) e
 
-  chosen_pays : (w : UnitId) → chosen ≡ Some w → ((ask.cur ≡ Some w) ⊎ (has_unit queue w ≡ true)) × (credit2.domain_has_budget burned w ≡ true)
+  chosen_pays : (w : UnitId) → chosen ≡ Some w → ((ask.cur ≡ Some w) ⊎ (has_listed_unit queue w ≡ true)) × (credit2.has_domain_budget burned w ≡ true)
   chosen_pays w =
-      let own : Option UnitId = credit2.own_candidate ask scheduler burned in
+      let own : Option UnitId = credit2.credit2_candidate ask scheduler burned in
       let waiting : List UnitId = eligible_units (record scheduler { records = Credit2Pool burned }) ask.home.0 ask.core.0 ask.at.0 in
-      let Q : Option UnitId → Type 0 = λ o. o ≡ Some w → ((ask.cur ≡ Some w) ⊎ (has_unit queue w ≡ true)) × (credit2.domain_has_budget burned w ≡ true) in
+      let Q : Option UnitId → Type 0 = λ o. o ≡ Some w → ((ask.cur ≡ Some w) ⊎ (has_listed_unit queue w ≡ true)) × (credit2.has_domain_budget burned w ≡ true) in
       by_cond Q ask.leaving None _ (λ goes e. absurd (cc))
-      (λ stays. by_cond Q (is_some own && credit2.is_within_limit burned ask.since.0 ask.at.0) own (credit2.greatest_unit burned own waiting) (λ is e. own_pays ask.cur refl w e)
+      (λ stays. by_cond Q (is_some own && credit2.is_rate_limited burned ask.since.0 ask.at.0) own (credit2.richest_unit burned own waiting) (λ is e. own_pays ask.cur refl w e)
       (λ is e. elim (is_best (credit_order burned) (greatest_scan burned) own waiting w e).source [
         | inl o ↦ own_pays ask.cur refl w o
-        | inr has ↦ (let h = has_filter (is_eligible (record scheduler { records = Credit2Pool burned }) ask.home.0 ask.core.0 ask.at.0) queue w has in (inr h.0, and_right (is_allowed scheduler ask.home.0 ask.core.0 w) _ h.1))
+        | inr has ↦ (let h = has_filter (is_unit_eligible (record scheduler { records = Credit2Pool burned }) ask.home.0 ask.core.0 ask.at.0) queue w has in (inr h.0, and_right (is_unit_allowed scheduler ask.home.0 ask.core.0 w) _ h.1))
       ]))
 
   -- each unit that waits, and the core's own, has a record
-  module _ (has_unit_there : (w : UnitId) → (ask.cur ≡ Some w) ⊎ (has_unit queue w ≡ true) → Has (There w.n) records.domains w.dom.0) where
+  module _ (has_unit_there : (w : UnitId) → (ask.cur ≡ Some w) ⊎ (has_listed_unit queue w ≡ true) → Has (There w.n) records.domains w.dom.0) where
     pays : (w : UnitId) → chosen ≡ Some w → Has (Pays w.n) burned.domains w.dom.0
     pays w is =
         let c = chosen_pays w is in
         let there = burn_there ask.cur w.dom.0 w.n (has_unit_there w c.0) in
-        record { domain = there.domain; at = there.at; fact = (there.fact, sym (ap (λ (o : Option Credit2Domain). elim o as (λ _. Bool) [ None ↦ false | Some d ↦ has_budget d ]) there.at) ∙ c.1) }
+        record { domain = there.domain; at = there.at; fact = (there.fact, sym (ap (λ (o : Option Credit2Domain). elim o as (λ _. Bool) [ None ↦ false | Some d ↦ has_cap_budget d ]) there.at) ∙ c.1) }
 
     abbrev taken : UnitId → Credit2Records
-    taken w = credit2.change_domain w.dom.0 (credit2.take_budget w.n) (credit2.reset t (credit2.resets_for t w burned) burned)
+    taken w = credit2.change_domain w.dom.0 (credit2.domain_after_take w.n) (credit2.reset_records t (credit2.reset_count t w burned) burned)
 
     abbrev Lasts : ℕ → Credit2Domain → Type 0
     Lasts n d = (is_some (slice_get d.units n) ≡ true) × (is_funded d n ≡ true)
 
-    takes_there : (n : ℕ) (d : Credit2Domain) → There n d → There n (credit2.take_budget n d)
+    takes_there : (n : ℕ) (d : Credit2Domain) → There n d → There n (credit2.domain_after_take n d)
     takes_there n d there = by_cond (There n) (d.cap == 0) d _ (λ is. there) (λ is. item_there n n _ d.units there)
 
     lasts : (w : UnitId) → chosen ≡ Some w → Has (Lasts w.n) (taken w).domains w.dom.0
     lasts w is =
-        let k : ℕ = credit2.resets_for t w burned in
-        has_change (Pays w.n) (Lasts w.n) w.dom.0 w.dom.0 (credit2.take_budget w.n) (credit2.reset t k burned).domains (reset_pays k w.dom.0 w.n (pays w is))
+        let k : ℕ = credit2.reset_count t w burned in
+        has_change (Pays w.n) (Lasts w.n) w.dom.0 w.dom.0 (credit2.domain_after_take w.n) (credit2.reset_records t k burned).domains (reset_pays k w.dom.0 w.n (pays w is))
         (λ same x at p. (takes_there w.n x p.0, takes_funded w.n x p.1 p.0)) (λ other x p. absurd (other refl))
 
-    slice_lasts : (w : UnitId) (rs : Credit2Records) → Has (Lasts w.n) rs.domains w.dom.0 → 0 < credit2.slice_of ask scheduler rs w
+    slice_lasts : (w : UnitId) (rs : Credit2Records) → Has (Lasts w.n) rs.domains w.dom.0 → 0 < credit2.chosen_slice ask scheduler rs w
     slice_lasts w rs has =
         let d : Credit2Domain = has.domain in
         by_option (λ (k : ℕ). 0 < k) (at_place rs.domains w.dom.0) _ _ (λ none. (let e = has.at in absurd (cc)))
@@ -280,41 +280,41 @@ module _ (ask : Ask) (queue : List UnitId) (affinity : List (Option (List Cores)
         let facts : Lasts w.n x = subst (Lasts w.n) (sym same) has.fact in
         by_option (λ (k : ℕ). 0 < k) (slice_get x.units w.n) _ _ (λ none. (let e = ap is_some none in let f = facts.0 in absurd (cc)))
         (λ y get. (
-        let long : ℕ = slice y.credit (credit2.best_other ask scheduler rs w) x.weight (credit2.max_weight rs) (rs.limit * 1000) in
+        let long : ℕ = slice_length y.credit (credit2.best_other_credit ask scheduler rs w) x.weight (credit2.most_weight rs) (rs.limit * 1000) in
         let some : 0 < long = long_enough _ (rs.limit * 1000) in
-        by_cond (λ (k : ℕ). 0 < k) (x.cap == 0) long (min long (above_zero y.held)) (λ free. some)
-        (λ capped. min_enough long (above_zero y.held) some (held_enough y.held (held_of x y w.n get capped facts.1)))))))
+        by_cond (λ (k : ℕ). 0 < k) (x.cap == 0) long (min long (positive_part y.held)) (λ free. some)
+        (λ capped. min_enough long (positive_part y.held) some (held_enough y.held (held_of x y w.n get capped facts.1)))))))
       where
         held_of : (x : Credit2Domain) (y : Credit2Unit) (n : ℕ) → slice_get x.units n ≡ Some y → (x.cap == 0) ≡ false → is_funded x n ≡ true → int_lt (pos 0) y.held ≡ true
         held_of x y n get capped funded =
             let rest = sym (ap (λ b. b || (not (int_lt x.budget (pos 0)) && elim (slice_get x.units n) as (λ _. Bool) [ None ↦ false | Some z ↦ int_lt (pos 0) z.held ])) capped) ∙ funded in
             sym (ap (λ (o : Option Credit2Unit). elim o as (λ _. Bool) [ None ↦ false | Some z ↦ int_lt (pos 0) z.held ]) get) ∙ and_right (not (int_lt x.budget (pos 0))) _ rest
 
-    credit2_later : (o : Option UnitId) → chosen ≡ o → DecidesLater t (Credit2Pool records) (credit2.decide ask scheduler burned o)
+    credit2_later : (o : Option UnitId) → chosen ≡ o → DecidesLater t (Credit2Pool records) (credit2.credit2_decision_for ask scheduler burned o)
     credit2_later None is = (let a = burn_less ask.cur in let b = off_less ask.cur burned in record { due = refl; records = omega (arith, a, b) })
     credit2_later (Some w) is =
-        let k : ℕ = credit2.resets_for t w burned in
+        let k : ℕ = credit2.reset_count t w burned in
         let a = burn_less ask.cur in
         let b = reset_less k burned in
-        let c = same_refills t w.dom.0 (credit2.take_budget w.n) (credit2.reset t k burned).domains (takes_refill w.n) in
+        let c = same_refills t w.dom.0 (credit2.domain_after_take w.n) (credit2.reset_records t k burned).domains (takes_refill w.n) in
         let d = off_less ask.cur (taken w) in
-        let e = same_refills t w.dom.0 (λ (x : Credit2Domain). record x { units = change_item w.n (λ (y : Credit2Unit). record y { burned = Some t }) x.units }) (credit2.switch_off ask.cur (taken w)).domains (λ x. refl) in
+        let e = same_refills t w.dom.0 (λ (x : Credit2Domain). record x { units = change_item w.n (λ (y : Credit2Unit). record y { burned = Some t }) x.units }) (credit2.off_records ask.cur (taken w)).domains (λ x. refl) in
         let some = slice_lasts w (taken w) (lasts w is) in
-        record { due = lt-leb (t + credit2.slice_of ask scheduler (taken w) w) t (omega (arith, some)); records = omega (arith, a, b, c, d, e) }
+        record { due = lt-leb (t + credit2.chosen_slice ask scheduler (taken w) w) t (omega (arith, some)); records = omega (arith, a, b, c, d, e) }
 
 -- what a decision needs of the pool
 pub record IsReady (ask : Ask) (queue : List UnitId) (records : Records) : Type 0 where
   pub frame : (arinc : ArincRecords) (frame : Frame) → records ≡ ArincPool arinc → arinc.frame ≡ Some frame → 0 < frame.major.0
-  pub units : (rs : Credit2Records) → records ≡ Credit2Pool rs → (w : UnitId) → (ask.cur ≡ Some w) ⊎ (has_unit queue w ≡ true) → Has (λ d. is_some (slice_get d.units w.n) ≡ true) rs.domains w.dom.0
+  pub units : (rs : Credit2Records) → records ≡ Credit2Pool rs → (w : UnitId) → (ask.cur ≡ Some w) ⊎ (has_listed_unit queue w ≡ true) → Has (λ d. is_some (slice_get d.units w.n) ≡ true) rs.domains w.dom.0
 
 decides_by : (ask : Ask) (queue : List UnitId) (affinity : List (Option (List Cores))) (records : Records) → IsReady ask queue records → DecidesLater ask.at.0 records (decision_of ask (record { queue = queue; affinity = affinity; records = records }))
-decides_by ask queue affinity (Credit2Pool rs) ready = credit2_later ask queue affinity rs (ready.units rs refl) (credit2.choice ask (record { queue = queue; affinity = affinity; records = Credit2Pool rs }) (credit2.burn_cur ask.cur ask.at.0 rs)) refl
-decides_by ask queue affinity (RtdsPool xs) ready = rtds_later ask queue affinity xs (rtds.choice ask (record { queue = queue; affinity = affinity; records = RtdsPool xs }) (rtds.burn_cur ask.cur ask.at.0 xs)) refl
-decides_by ask queue affinity (ArincPool arinc) ready = arinc_later ask (record { queue = queue; affinity = affinity; records = ArincPool arinc }) arinc (λ frame at. ready.frame arinc frame refl at) (cond ask.leaving None (present_window arinc ask.at.0)) refl
+decides_by ask queue affinity (Credit2Pool rs) ready = credit2_later ask queue affinity rs (ready.units rs refl) (credit2.credit2_choice ask (record { queue = queue; affinity = affinity; records = Credit2Pool rs }) (credit2.own_burned_records ask.cur ask.at.0 rs)) refl
+decides_by ask queue affinity (RtdsPool xs) ready = rtds_later ask queue affinity xs (rtds.rtds_choice ask (record { queue = queue; affinity = affinity; records = RtdsPool xs }) (rtds.own_burned_domains ask.cur ask.at.0 xs)) refl
+decides_by ask queue affinity (ArincPool arinc) ready = arinc_later ask (record { queue = queue; affinity = affinity; records = ArincPool arinc }) arinc (λ frame at. ready.frame arinc frame refl at) (cond ask.leaving None (current_window arinc ask.at.0)) refl
 decides_by ask queue affinity (NullPool kept) ready =
-    by_cond (DecidesLater ask.at.0 (NullPool kept)) ask.leaving _ _ (λ is. record { due = refl; records = omega arith }) (λ is. by_choice (null.choice ask (record { queue = queue; affinity = affinity; records = NullPool kept }) kept))
+    by_cond (DecidesLater ask.at.0 (NullPool kept)) ask.leaving _ _ (λ is. record { due = refl; records = omega arith }) (λ is. by_choice (null.null_choice ask (record { queue = queue; affinity = affinity; records = NullPool kept }) kept))
   where
-    by_choice : (o : Option UnitId) → DecidesLater ask.at.0 (NullPool kept) (null.decide ask.core.0 kept o)
+    by_choice : (o : Option UnitId) → DecidesLater ask.at.0 (NullPool kept) (null.null_decision_for ask.core.0 kept o)
     by_choice None = record { due = refl; records = omega arith }
     by_choice (Some u) = record { due = refl; records = omega arith }
 

@@ -5,16 +5,16 @@ use Rattle.std.specs.Prelude.{Option, Some, None, is_some, slice_get, map, ◌==
 use Rattle.std.specs.Int.{int_min}
 use Rattle.std.proofs.lemmas.Int.{ints, clamps}
 use Rattle.std.proofs.lemmas.List.{length-map}
-use Rattle.sched_base.specs.Credit2Numbers.{burned_credit, burned_residual, raise, quota, total, take}
+use Rattle.sched_base.specs.Credit2Numbers.{burned_credit, burned_residual, raised_credit, budget_quota, cap_budget, taken_budget}
 use Rattle.sched_base.specs.declared.UnitId.{UnitId}
 use Rattle.sched_model.specs.declared.state.Credit2Unit.{Credit2Unit}
 use Rattle.sched_model.specs.declared.state.Credit2Domain.{Credit2Domain}
 use Rattle.sched_model.specs.declared.state.Credit2Records.{Credit2Records}
 use Rattle.sched_model.specs.declared.state.RtdsUnit.{RtdsUnit}
 use Rattle.sched_model.specs.Places.{at_place, change_item}
-use Rattle.sched_model.specs.EligibleUnits.{rtds_unit}
+use Rattle.sched_model.specs.EligibleUnits.{rtds_unit_at}
 use Rattle.sched_model.specs.Rtds as rtds
-use Rattle.sched_model.specs.Credit2.{max_weight, burn_unit, burn_units, burn_all, change_domain, change_unit, give_back, burn_cur, reset, take_budget, set_running, switch_off, refill_domain, refilled_pool, set_weight, set_cap, set_domain}
+use Rattle.sched_model.specs.Credit2.{most_weight, burned_unit, burned_domain, burn_all, change_domain, change_unit, domain_after_return, own_burned_records, reset_records, domain_after_take, running_records, off_records, domain_after_refill, refilled_pool, domain_with_weight, domain_with_cap, records_with_terms}
 use Rattle.sched_laws.specs.EachPlace.{EachAt}
 use Rattle.sched_laws.proofs.EachPlace.{EachAt-change_at, EachAt-change_each, by_option, by_cond}
 use Rattle.sched_laws.proofs.Lists.{length_change_item}
@@ -60,14 +60,14 @@ module _ (On : ℕ → ℕ → ℕ → Type 0) (t : ℕ) where
   abbrev pub RtdsKept : List (Option (List RtdsUnit)) → Type 0
   RtdsKept domains = EachAt (λ d (units : List RtdsUnit). EachItem (RtdsUnitKept d) units) domains
 
-  pub rtds_change : (u : UnitId) (f : RtdsUnit → RtdsUnit) (domains : List (Option (List RtdsUnit))) → ((x : RtdsUnit) → rtds_unit domains u ≡ Some x → RtdsUnitKept u.dom.0 u.n x → RtdsUnitKept u.dom.0 u.n (f x)) → RtdsKept domains → RtdsKept (rtds.change_unit u f domains)
+  pub rtds_change : (u : UnitId) (f : RtdsUnit → RtdsUnit) (domains : List (Option (List RtdsUnit))) → ((x : RtdsUnit) → rtds_unit_at domains u ≡ Some x → RtdsUnitKept u.dom.0 u.n x → RtdsUnitKept u.dom.0 u.n (f x)) → RtdsKept domains → RtdsKept (rtds.change_unit u f domains)
   rtds_change u f domains keeps kept =
       EachAt-change_at (λ d (units : List RtdsUnit). EachItem (RtdsUnitKept d) units) u.dom.0 (change_item u.n f) domains kept
       (λ units at here. item_change (RtdsUnitKept u.dom.0) u.n f units (λ x get old. keeps x (ap (λ (o : Option (List RtdsUnit)). elim o as (λ _. Option RtdsUnit) [ None ↦ None | Some ys ↦ slice_get ys u.n ]) at ∙ get) old) here)
 
 -- the most that a unit of the domain takes at once
 abbrev pub limit : Credit2Domain → ℕ
-limit x = quota (total x.cap) (length x.units)
+limit x = budget_quota (cap_budget x.cap) (length x.units)
 
 -- a unit as it is when it was charged, by the moment of its last charge
 abbrev charged : ℕ → ℕ → Credit2Domain → Credit2Unit → Option ℕ → Credit2Unit
@@ -96,7 +96,7 @@ module _ (On : ℕ → Type 0) (t most : ℕ) where
   kept_zero : (y : Credit2Unit) → UnitKept On t most y → UnitKept On t most (record y { held = pos 0 })
   kept_zero y kept = record { lasts = λ b on. lasts_some b t y.burned y.held (pos 0) (omega (arith, ints)) (kept.lasts b on); within = omega (arith, ints) }
 
-  kept_burned : (weight : ℕ) (d : Credit2Domain) (y : Credit2Unit) → UnitKept On t most y → UnitKept On t most (burn_unit weight t d y)
+  kept_burned : (weight : ℕ) (d : Credit2Domain) (y : Credit2Unit) → UnitKept On t most y → UnitKept On t most (burned_unit weight t d y)
   kept_burned weight d y kept = by_burned y.burned refl
     where
       falls : (c : Bool) (k : ℕ) (h : ℤ) → cond c h (h -ℤ pos k) ≤ℤ h
@@ -121,7 +121,7 @@ module _ (On : ℕ → Type 0) (t most : ℕ) where
       }
 
 -- a unit that does not run when it was charged did not run before
-none_before : (weight t : ℕ) (d : Credit2Domain) (y : Credit2Unit) → (burn_unit weight t d y).burned ≡ None → (y.burned ≡ None) × ((burn_unit weight t d y).held ≡ y.held)
+none_before : (weight t : ℕ) (d : Credit2Domain) (y : Credit2Unit) → (burned_unit weight t d y).burned ≡ None → (y.burned ≡ None) × ((burned_unit weight t d y).held ≡ y.held)
 none_before weight t d y none = by_burned y.burned refl none
   where
     by_burned : (o : Option ℕ) → y.burned ≡ o → (charged weight t d y o).burned ≡ None → (y.burned ≡ None) × ((charged weight t d y o).held ≡ y.held)
@@ -144,7 +144,7 @@ DomainKept On t x = EachItem (λ n (y : Credit2Unit). UnitKept (On n) t (limit x
 module _ (On : ℕ → ℕ → Type 0) (t : ℕ) where
   -- a domain of which only the units change
   kept_units : (x : Credit2Domain) (ys : List Credit2Unit) → length ys ≡ length x.units → EachItem (λ n (y : Credit2Unit). UnitKept (On n) t (limit x) y) ys → DomainKept On t (record x { units = ys })
-  kept_units x ys same each n y at = subst (λ (k : ℕ). UnitKept (On n) t (quota (total x.cap) k) y) (sym same) (each n y at)
+  kept_units x ys same each n y at = subst (λ (k : ℕ). UnitKept (On n) t (budget_quota (cap_budget x.cap) k) y) (sym same) (each n y at)
 
   kept_map : (f : Credit2Unit → Credit2Unit) (x : Credit2Domain) → ((n : ℕ) (y : Credit2Unit) → slice_get x.units n ≡ Some y → UnitKept (On n) t (limit x) y → UnitKept (On n) t (limit x) (f y)) → DomainKept On t x → DomainKept On t (record x { units = map f x.units })
   kept_map f x keeps kept =
@@ -153,34 +153,34 @@ module _ (On : ℕ → ℕ → Type 0) (t : ℕ) where
   kept_item : (i : ℕ) (f : Credit2Unit → Credit2Unit) (x : Credit2Domain) → ((y : Credit2Unit) → slice_get x.units i ≡ Some y → UnitKept (On i) t (limit x) y → UnitKept (On i) t (limit x) (f y)) → DomainKept On t x → DomainKept On t (record x { units = change_item i f x.units })
   kept_item i f x keeps kept = kept_units x (change_item i f x.units) (length_change_item i f x.units) (item_change (λ n (y : Credit2Unit). UnitKept (On n) t (limit x) y) i f x.units keeps kept)
 
-  kept_burn_units : (weight : ℕ) (x : Credit2Domain) → DomainKept On t x → DomainKept On t (burn_units weight t x)
-  kept_burn_units weight x kept = kept_map (burn_unit weight t x) x (λ n y at. kept_burned (On n) t (limit x) weight x y) kept
+  kept_burn_units : (weight : ℕ) (x : Credit2Domain) → DomainKept On t x → DomainKept On t (burned_domain weight t x)
+  kept_burn_units weight x kept = kept_map (burned_unit weight t x) x (λ n y at. kept_burned (On n) t (limit x) weight x y) kept
 
-  kept_set_weight : (weight : Option ℕ) (x : Credit2Domain) → DomainKept On t x → DomainKept On t (set_weight weight x)
+  kept_set_weight : (weight : Option ℕ) (x : Credit2Domain) → DomainKept On t x → DomainKept On t (domain_with_weight weight x)
   kept_set_weight None x kept = kept
   kept_set_weight (Some weight) x kept = kept_map _ x (λ n y at. kept_same (On n) t (limit x) y _ refl refl) kept
 
-  kept_set_cap : (weight : ℕ) (percent : Option ℕ) (x : Credit2Domain) → ((n : ℕ) (y : Credit2Unit) → slice_get x.units n ≡ Some y → y.burned ≡ None → y.held ≡ pos 0) → DomainKept On t x → DomainKept On t (set_cap weight t percent x)
+  kept_set_cap : (weight : ℕ) (percent : Option ℕ) (x : Credit2Domain) → ((n : ℕ) (y : Credit2Unit) → slice_get x.units n ≡ Some y → y.burned ≡ None → y.held ≡ pos 0) → DomainKept On t x → DomainKept On t (domain_with_cap weight t percent x)
   kept_set_cap weight None x idle kept n z at = kept n z at
   kept_set_cap weight (Some percent) x idle kept n z at =
-      let burned : Credit2Domain = burn_units weight t x in
+      let burned : Credit2Domain = burned_domain weight t x in
       let f : Credit2Unit → Credit2Unit = λ (y : Credit2Unit). record y { held = cond (is_some y.burned) (pos 0) y.held } in
       let r = get_map f burned.units n z at in
-      let q = get_map (burn_unit weight t x) x.units n r.0 r.1 in
+      let q = get_map (burned_unit weight t x) x.units n r.0 r.1 in
       let still : r.0.burned ≡ None → r.0.held ≡ pos 0 = λ none. (
       let b = none_before weight t x q.0 (ap (λ (y : Credit2Unit). y.burned) q.2 ∙ none) in
       sym (ap (λ (y : Credit2Unit). y.held) q.2) ∙ b.1 ∙ idle n q.0 q.1 b.0) in
-      subst (UnitKept (On n) t (quota (total percent) (length (map f burned.units)))) r.2 (kept_capped (On n) t (limit burned) (quota (total percent) (length (map f burned.units))) r.0 still (kept_burn_units weight x kept n r.0 r.1))
+      subst (UnitKept (On n) t (budget_quota (cap_budget percent) (length (map f burned.units)))) r.2 (kept_capped (On n) t (limit burned) (budget_quota (cap_budget percent) (length (map f burned.units))) r.0 still (kept_burn_units weight x kept n r.0 r.1))
 
-  kept_give_back : (i : ℕ) (x : Credit2Domain) → DomainKept On t x → DomainKept On t (give_back i x)
+  kept_give_back : (i : ℕ) (x : Credit2Domain) → DomainKept On t x → DomainKept On t (domain_after_return i x)
   kept_give_back i x kept =
       by_option (DomainKept On t) (slice_get x.units i) x _ (λ none. kept)
       (λ u at. kept_item i (λ (y : Credit2Unit). record y { held = pos 0 }) x (λ y get. kept_zero (On i) t (limit x) y) kept)
 
-  kept_take : (i : ℕ) (x : Credit2Domain) → ((b : ℕ) → On i b → ⊥) → DomainKept On t x → DomainKept On t (take_budget i x)
+  kept_take : (i : ℕ) (x : Credit2Domain) → ((b : ℕ) → On i b → ⊥) → DomainKept On t x → DomainKept On t (domain_after_take i x)
   kept_take i x off kept =
       by_cond (DomainKept On t) (x.cap == 0) x _ (λ free. kept)
-      (λ capped. kept_item i (λ (y : Credit2Unit). record y { held = take x.budget (limit x) }) x (λ y get old. record { lasts = λ b on. absurd (off b on); within = least (limit x) x.budget }) kept)
+      (λ capped. kept_item i (λ (y : Credit2Unit). record y { held = taken_budget x.budget (limit x) }) x (λ y get old. record { lasts = λ b on. absurd (off b on); within = least (limit x) x.budget }) kept)
     where
       least : (q : ℕ) (a : ℤ) → int_min (pos q) a ≤ℤ pos q
       least q a = omega (arith, ints, clamps)
@@ -193,45 +193,45 @@ module _ (On : ℕ → ℕ → ℕ → Type 0) (t : ℕ) where
   Credit2Kept records = EachAt (λ d. DomainKept (On d) t) records.domains
 
   pub c_refilled : (d : ℕ) (records : Credit2Records) → Credit2Kept records → Credit2Kept (refilled_pool t d records)
-  c_refilled d records kept = EachAt-change_at (λ d. DomainKept (On d) t) d (refill_domain (max_weight records) t) records.domains kept (λ x at here. kept_burn_units (On d) t (max_weight records) x here)
+  c_refilled d records kept = EachAt-change_at (λ d. DomainKept (On d) t) d (domain_after_refill (most_weight records) t) records.domains kept (λ x at here. kept_burn_units (On d) t (most_weight records) x here)
 
-  pub c_set_domain : (d : ℕ) (weight percent : Option ℕ) (records : Credit2Records) → ((x : Credit2Domain) → at_place records.domains d ≡ Some x → (n : ℕ) (y : Credit2Unit) → slice_get x.units n ≡ Some y → y.burned ≡ None → y.held ≡ pos 0) → Credit2Kept records → Credit2Kept (set_domain t d weight percent records)
+  pub c_set_domain : (d : ℕ) (weight percent : Option ℕ) (records : Credit2Records) → ((x : Credit2Domain) → at_place records.domains d ≡ Some x → (n : ℕ) (y : Credit2Unit) → slice_get x.units n ≡ Some y → y.burned ≡ None → y.held ≡ pos 0) → Credit2Kept records → Credit2Kept (records_with_terms t d weight percent records)
   c_set_domain d weight percent records idle kept =
-      let weighed : Credit2Records = change_domain d (set_weight weight) records in
-      let first : Credit2Kept weighed = EachAt-change_at (λ d. DomainKept (On d) t) d (set_weight weight) records.domains kept (λ x at here. kept_set_weight (On d) t weight x here) in
-      EachAt-change_at (λ d. DomainKept (On d) t) d (set_cap (max_weight weighed) t percent) weighed.domains first
-      (λ x at here. kept_set_cap (On d) t (max_weight weighed) percent x (still x at) here)
+      let weighed : Credit2Records = change_domain d (domain_with_weight weight) records in
+      let first : Credit2Kept weighed = EachAt-change_at (λ d. DomainKept (On d) t) d (domain_with_weight weight) records.domains kept (λ x at here. kept_set_weight (On d) t weight x here) in
+      EachAt-change_at (λ d. DomainKept (On d) t) d (domain_with_cap (most_weight weighed) t percent) weighed.domains first
+      (λ x at here. kept_set_cap (On d) t (most_weight weighed) percent x (still x at) here)
     where
-      weigh : (w : Option ℕ) (x : Credit2Domain) → ((n : ℕ) (y : Credit2Unit) → slice_get x.units n ≡ Some y → y.burned ≡ None → y.held ≡ pos 0) → (n : ℕ) (y : Credit2Unit) → slice_get (set_weight w x).units n ≡ Some y → y.burned ≡ None → y.held ≡ pos 0
+      weigh : (w : Option ℕ) (x : Credit2Domain) → ((n : ℕ) (y : Credit2Unit) → slice_get x.units n ≡ Some y → y.burned ≡ None → y.held ≡ pos 0) → (n : ℕ) (y : Credit2Unit) → slice_get (domain_with_weight w x).units n ≡ Some y → y.burned ≡ None → y.held ≡ pos 0
       weigh None x each n y at none = each n y at none
       weigh (Some w) x each n y at none = (let r = get_map _ x.units n y at in sym (ap (λ (z : Credit2Unit). z.held) r.2) ∙ each n r.0 r.1 (ap (λ (z : Credit2Unit). z.burned) r.2 ∙ none))
 
-      still : (x : Credit2Domain) → at_place (change_domain d (set_weight weight) records).domains d ≡ Some x → (n : ℕ) (y : Credit2Unit) → slice_get x.units n ≡ Some y → y.burned ≡ None → y.held ≡ pos 0
-      still x at = EachAt-change_at (λ k (x : Credit2Domain). (k ≡ d) → (n : ℕ) (y : Credit2Unit) → slice_get x.units n ≡ Some y → y.burned ≡ None → y.held ≡ pos 0) d (set_weight weight) records.domains
+      still : (x : Credit2Domain) → at_place (change_domain d (domain_with_weight weight) records).domains d ≡ Some x → (n : ℕ) (y : Credit2Unit) → slice_get x.units n ≡ Some y → y.burned ≡ None → y.held ≡ pos 0
+      still x at = EachAt-change_at (λ k (x : Credit2Domain). (k ≡ d) → (n : ℕ) (y : Credit2Unit) → slice_get x.units n ≡ Some y → y.burned ≡ None → y.held ≡ pos 0) d (domain_with_weight weight) records.domains
           (λ k z at_z same. idle z (subst (λ j. at_place records.domains j ≡ Some z) same at_z)) (λ z at_z each same. weigh weight z (each same)) d x at refl
 
-  pub c_burn_cur : (cur : Option UnitId) (records : Credit2Records) → Credit2Kept records → Credit2Kept (burn_cur cur t records)
+  pub c_burn_cur : (cur : Option UnitId) (records : Credit2Records) → Credit2Kept records → Credit2Kept (own_burned_records cur t records)
   c_burn_cur None records kept = kept
   c_burn_cur (Some u) records kept =
-      let weight : ℕ = max_weight records in
-      let first : Credit2Kept (change_unit u (burn_unit weight t) records) = EachAt-change_at (λ d. DomainKept (On d) t) u.dom.0 (λ d. record d { units = change_item u.n (burn_unit weight t d) d.units }) records.domains kept
-      (λ x at here. kept_item (On u.dom.0) t u.n (burn_unit weight t x) x (λ y get. kept_burned (On u.dom.0 u.n) t (limit x) weight x y) here) in
-      EachAt-change_at (λ d. DomainKept (On d) t) u.dom.0 (λ d. cond (d.cap == 0) d (give_back u.n d)) (change_unit u (burn_unit weight t) records).domains first
-      (λ x at here. by_cond (DomainKept (On u.dom.0) t) (x.cap == 0) x (give_back u.n x) (λ free. here) (λ capped. kept_give_back (On u.dom.0) t u.n x here))
+      let weight : ℕ = most_weight records in
+      let first : Credit2Kept (change_unit u (burned_unit weight t) records) = EachAt-change_at (λ d. DomainKept (On d) t) u.dom.0 (λ d. record d { units = change_item u.n (burned_unit weight t d) d.units }) records.domains kept
+      (λ x at here. kept_item (On u.dom.0) t u.n (burned_unit weight t x) x (λ y get. kept_burned (On u.dom.0 u.n) t (limit x) weight x y) here) in
+      EachAt-change_at (λ d. DomainKept (On d) t) u.dom.0 (λ d. cond (d.cap == 0) d (domain_after_return u.n d)) (change_unit u (burned_unit weight t) records).domains first
+      (λ x at here. by_cond (DomainKept (On u.dom.0) t) (x.cap == 0) x (domain_after_return u.n x) (λ free. here) (λ capped. kept_give_back (On u.dom.0) t u.n x here))
 
-  pub c_reset : (k : ℕ) (records : Credit2Records) → Credit2Kept records → Credit2Kept (reset t k records)
+  pub c_reset : (k : ℕ) (records : Credit2Records) → Credit2Kept records → Credit2Kept (reset_records t k records)
   c_reset zero records kept = kept
   c_reset (suc k) records kept =
-      let burned : Credit2Kept (burn_all t records) = EachAt-change_each (λ d. DomainKept (On d) t) (λ n d. burn_units (max_weight records) t d) records.domains kept (λ d x at here. kept_burn_units (On d) t (max_weight records) x here) in
-      EachAt-change_each (λ d. DomainKept (On d) t) (λ n d. record d { units = map (λ (x : Credit2Unit). record x { credit = raise x.credit (suc k) }) d.units }) (burn_all t records).domains burned
-      (λ d x at here. kept_map (On d) t (λ (y : Credit2Unit). record y { credit = raise y.credit (suc k) }) x (λ n y get. kept_same (On d n) t (limit x) y _ refl refl) here)
+      let burned : Credit2Kept (burn_all t records) = EachAt-change_each (λ d. DomainKept (On d) t) (λ n d. burned_domain (most_weight records) t d) records.domains kept (λ d x at here. kept_burn_units (On d) t (most_weight records) x here) in
+      EachAt-change_each (λ d. DomainKept (On d) t) (λ n d. record d { units = map (λ (x : Credit2Unit). record x { credit = raised_credit x.credit (suc k) }) d.units }) (burn_all t records).domains burned
+      (λ d x at here. kept_map (On d) t (λ (y : Credit2Unit). record y { credit = raised_credit y.credit (suc k) }) x (λ n y get. kept_same (On d n) t (limit x) y _ refl refl) here)
 
-  pub c_take : (u : UnitId) (records : Credit2Records) → ((b : ℕ) → On u.dom.0 u.n b → ⊥) → Credit2Kept records → Credit2Kept (change_domain u.dom.0 (take_budget u.n) records)
-  c_take u records off kept = EachAt-change_at (λ d. DomainKept (On d) t) u.dom.0 (take_budget u.n) records.domains kept (λ x at here. kept_take (On u.dom.0) t u.n x off here)
+  pub c_take : (u : UnitId) (records : Credit2Records) → ((b : ℕ) → On u.dom.0 u.n b → ⊥) → Credit2Kept records → Credit2Kept (change_domain u.dom.0 (domain_after_take u.n) records)
+  c_take u records off kept = EachAt-change_at (λ d. DomainKept (On d) t) u.dom.0 (domain_after_take u.n) records.domains kept (λ x at here. kept_take (On u.dom.0) t u.n x off here)
 
-  pub c_running : (from : Option ℕ) (u : UnitId) (records : Credit2Records) → ((b : ℕ) → On u.dom.0 u.n b → ⊥) → Credit2Kept records → Credit2Kept (set_running from u records)
+  pub c_running : (from : Option ℕ) (u : UnitId) (records : Credit2Records) → ((b : ℕ) → On u.dom.0 u.n b → ⊥) → Credit2Kept records → Credit2Kept (running_records from u records)
   c_running from u records off kept = EachAt-change_at (λ d. DomainKept (On d) t) u.dom.0 (λ d. record d { units = change_item u.n (λ (x : Credit2Unit). record x { burned = from }) d.units }) records.domains kept (λ x at here. kept_running (On u.dom.0) t u.n from x off here)
 
-  pub c_switch_off : (cur : Option UnitId) (records : Credit2Records) → ((u : UnitId) → cur ≡ Some u → (b : ℕ) → On u.dom.0 u.n b → ⊥) → Credit2Kept records → Credit2Kept (switch_off cur records)
+  pub c_switch_off : (cur : Option UnitId) (records : Credit2Records) → ((u : UnitId) → cur ≡ Some u → (b : ℕ) → On u.dom.0 u.n b → ⊥) → Credit2Kept records → Credit2Kept (off_records cur records)
   c_switch_off None records off kept = kept
   c_switch_off (Some u) records off kept = c_running None u records (off u refl) kept

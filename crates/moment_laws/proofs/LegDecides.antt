@@ -6,7 +6,7 @@ use Rattle.std.proofs.lemmas.Int.{ints, clamps}
 use Rattle.std.proofs.Math.Decide.{ℕ_discrete}
 use Rattle.std.proofs.lemmas.Bool.{or_cases}
 use Rattle.sched_base.specs.Numbers.{domain as domain_number}
-use Rattle.sched_base.specs.Credit2Numbers.{raise, take}
+use Rattle.sched_base.specs.Credit2Numbers.{raised_credit, taken_budget}
 use Rattle.sched_base.specs.declared.UnitId.{UnitId}
 use Rattle.sched_model.specs.declared.ask.Ask.{Ask}
 use Rattle.sched_model.specs.declared.state.Credit2Unit.{Credit2Unit}
@@ -18,14 +18,14 @@ use Rattle.sched_model.specs.declared.state.Records.TheVariants.{Credit2Pool, Rt
 use Rattle.sched_model.specs.declared.state.Scheduler.{Scheduler}
 use Rattle.sched_model.specs.declared.state.Pool.{Pool}
 use Rattle.sched_model.specs.declared.state.Resource.{Resource}
-use Rattle.sched_model.specs.Places.{at_place, put_at, change_item, has_unit, same_unit}
-use Rattle.sched_model.specs.EligibleUnits.{Decision, is_allowed, is_eligible, has_budget, eligible_units, rtds_unit}
+use Rattle.sched_model.specs.Places.{at_place, put_at, change_item, has_listed_unit, same_unit}
+use Rattle.sched_model.specs.EligibleUnits.{Decision, is_unit_allowed, is_unit_eligible, has_cap_budget, eligible_units, rtds_unit_at}
 use Rattle.sched_model.specs.Rtds as rtds
-use Rattle.sched_model.specs.Rtds.{budget_left, foremost_unit, unit_before}
+use Rattle.sched_model.specs.Rtds.{unit_left_budget, first_of_units, is_unit_before}
 use Rattle.sched_model.specs.Credit2 as credit2
 use Rattle.sched_model.specs.Policy.{decision_of, decision_by}
 use Rattle.sched_model.specs.Pool as pools
-use Rattle.sched_model.specs.Pool.{ask_of, decided_core, same_choice}
+use Rattle.sched_model.specs.Pool.{core_ask, decided_core, same_choice}
 use Rattle.sched_laws.proofs.Records.{same_decision}
 use Rattle.sched_laws.specs.EachPlace.{EachAt}
 use Rattle.sched_base.proofs.Bools.{and_right, or_more}
@@ -100,34 +100,34 @@ all_units [] = tt
 all_units (u ∷ units) = (tt, all_units units)
 
 -- RTDS: a chosen unit has some budget left
-foremost_has : (P : UnitId → Type 0) (domains : List (Option (List RtdsUnit))) (best : Option UnitId) (units : List UnitId) → IfUnit P best → AllByRecursion P units → IfUnit P (foremost_unit domains best units)
+foremost_has : (P : UnitId → Type 0) (domains : List (Option (List RtdsUnit))) (best : Option UnitId) (units : List UnitId) → IfUnit P best → AllByRecursion P units → IfUnit P (first_of_units domains best units)
 foremost_has P domains best [] own each = own
 foremost_has P domains None (u ∷ units) own each = foremost_has P domains (Some u) units each.0 each.1
-foremost_has P domains (Some best) (u ∷ units) own each = foremost_has P domains (Some (cond (unit_before domains u best) u best)) units (by_cond P (unit_before domains u best) u best (λ is. each.0) (λ is. own)) each.1
+foremost_has P domains (Some best) (u ∷ units) own each = foremost_has P domains (Some (cond (is_unit_before domains u best) u best)) units (by_cond P (is_unit_before domains u best) u best (λ is. each.0) (λ is. own)) each.1
 
-choice_left : (ask : Ask) (scheduler : Scheduler) (domains : List (Option (List RtdsUnit))) → IfUnit (λ u. nat_lt 0 (budget_left domains u) ≡ true) (rtds.choice ask scheduler domains)
+choice_left : (ask : Ask) (scheduler : Scheduler) (domains : List (Option (List RtdsUnit))) → IfUnit (λ u. nat_lt 0 (unit_left_budget domains u) ≡ true) (rtds.rtds_choice ask scheduler domains)
 choice_left ask scheduler domains =
-    let P : UnitId → Type 0 = λ u. nat_lt 0 (budget_left domains u) ≡ true in
+    let P : UnitId → Type 0 = λ u. nat_lt 0 (unit_left_budget domains u) ≡ true in
     let next : Scheduler = record scheduler { records = RtdsPool domains } in
-    let own : IfUnit P (rtds.own_candidate ask scheduler domains) = by_option (IfUnit P) ask.cur _ _ (λ none. tt)
-    (λ u is. by_cond (IfUnit P) (ask.runnable && is_allowed scheduler ask.home.0 ask.core.0 u && nat_lt 0 (budget_left domains u)) (Some u) None (λ may. and_right (ask.runnable && is_allowed scheduler ask.home.0 ask.core.0 u) _ may) (λ may. tt)) in
-    by_cond (IfUnit P) ask.leaving None (foremost_unit domains (rtds.own_candidate ask scheduler domains) (eligible_units next ask.home.0 ask.core.0 ask.at.0)) (λ leaves. tt)
-    (λ stays. foremost_has P domains (rtds.own_candidate ask scheduler domains) (eligible_units next ask.home.0 ask.core.0 ask.at.0) own
-    (AllByRecursion-filter (λ u. Unit {0}) P (is_eligible next ask.home.0 ask.core.0 ask.at.0) (λ u passes all. sym (passes_is domains next ask.home.0 ask.core.0 ask.at.0 u) ∙ and_right (is_allowed next ask.home.0 ask.core.0 u) _ passes) scheduler.queue (all_units scheduler.queue)))
+    let own : IfUnit P (rtds.rtds_candidate ask scheduler domains) = by_option (IfUnit P) ask.cur _ _ (λ none. tt)
+    (λ u is. by_cond (IfUnit P) (ask.runnable && is_unit_allowed scheduler ask.home.0 ask.core.0 u && nat_lt 0 (unit_left_budget domains u)) (Some u) None (λ may. and_right (ask.runnable && is_unit_allowed scheduler ask.home.0 ask.core.0 u) _ may) (λ may. tt)) in
+    by_cond (IfUnit P) ask.leaving None (first_of_units domains (rtds.rtds_candidate ask scheduler domains) (eligible_units next ask.home.0 ask.core.0 ask.at.0)) (λ leaves. tt)
+    (λ stays. foremost_has P domains (rtds.rtds_candidate ask scheduler domains) (eligible_units next ask.home.0 ask.core.0 ask.at.0) own
+    (AllByRecursion-filter (λ u. Unit {0}) P (is_unit_eligible next ask.home.0 ask.core.0 ask.at.0) (λ u passes all. sym (passes_is domains next ask.home.0 ask.core.0 ask.at.0 u) ∙ and_right (is_unit_allowed next ask.home.0 ask.core.0 u) _ passes) scheduler.queue (all_units scheduler.queue)))
 
 module _ (t : ℕ) (u : UnitId) where
   abbrev Left : ℕ → List RtdsUnit → Type 0
   Left d units = EachItem (λ n (y : RtdsUnit). d ≡ u.dom.0 → n ≡ u.n → 0 < y.left) units
 
-  left_off : (cur : Option UnitId) (domains : List (Option (List RtdsUnit))) → EachAt Left domains → EachAt Left (rtds.switch_off cur domains)
+  left_off : (cur : Option UnitId) (domains : List (Option (List RtdsUnit))) → EachAt Left domains → EachAt Left (rtds.off_domains cur domains)
   left_off None domains each = each
   left_off (Some w) domains each =
       EachAt-change_at Left w.dom.0 (change_item w.n (λ (x : RtdsUnit). record x { burned = None })) domains each
       (λ units at here. item_change (λ n (y : RtdsUnit). w.dom.0 ≡ u.dom.0 → n ≡ u.n → 0 < y.left) w.n (λ (x : RtdsUnit). record x { burned = None }) units (λ y get old. old) here)
 
-  fresh_rtds : (cur : Option UnitId) (domains : List (Option (List RtdsUnit))) → nat_lt 0 (budget_left domains u) ≡ true → Fresh u t (RtdsPool (rtds.set_running (Some t) u (rtds.switch_off cur domains)))
+  fresh_rtds : (cur : Option UnitId) (domains : List (Option (List RtdsUnit))) → nat_lt 0 (unit_left_budget domains u) ≡ true → Fresh u t (RtdsPool (rtds.running_domains (Some t) u (rtds.off_domains cur domains)))
   fresh_rtds cur domains left =
-      EachAt-change_to Left (λ d (units : List RtdsUnit). EachItem (λ n (y : RtdsUnit). d ≡ u.dom.0 → n ≡ u.n → (y.burned ≡ Some t) × (0 < y.left)) units) u.dom.0 (change_item u.n (λ (x : RtdsUnit). record x { burned = Some t })) (rtds.switch_off cur domains) (left_off cur domains first)
+      EachAt-change_to Left (λ d (units : List RtdsUnit). EachItem (λ n (y : RtdsUnit). d ≡ u.dom.0 → n ≡ u.n → (y.burned ≡ Some t) × (0 < y.left)) units) u.dom.0 (change_item u.n (λ (x : RtdsUnit). record x { burned = Some t })) (rtds.off_domains cur domains) (left_off cur domains first)
       (λ d units other here n y get same_d same_n. absurd (other same_d))
       (λ units at here n y get same_d same_n. elim (read_change_item u.n n (λ (x : RtdsUnit). record x { burned = Some t }) units y get) [
         | inl was ↦ absurd (was.0 same_n)
@@ -138,28 +138,28 @@ module _ (t : ℕ) (u : UnitId) where
       first d units at n y get same_d same_n =
           let there : at_place domains u.dom.0 ≡ Some units = subst (λ k. at_place domains k ≡ Some units) same_d at in
           let item : slice_get units u.n ≡ Some y = subst (λ k. slice_get units k ≡ Some y) same_n get in
-          let is : rtds_unit domains u ≡ Some y = ap (λ (o : Option (List RtdsUnit)). elim o as (λ _. Option RtdsUnit) [ None ↦ None | Some xs ↦ slice_get xs u.n ]) there ∙ item in
-          let same : budget_left domains u ≡ y.left = ap (λ (o : Option RtdsUnit). elim o as (λ _. ℕ) [ None ↦ 0 | Some x ↦ x.left ]) is in
+          let is : rtds_unit_at domains u ≡ Some y = ap (λ (o : Option (List RtdsUnit)). elim o as (λ _. Option RtdsUnit) [ None ↦ None | Some xs ↦ slice_get xs u.n ]) there ∙ item in
+          let same : unit_left_budget domains u ≡ y.left = ap (λ (o : Option RtdsUnit). elim o as (λ _. ℕ) [ None ↦ 0 | Some x ↦ x.left ]) is in
           grind (arith, same, left)
 
   -- Credit2: a chosen unit takes its budget from a domain that may run
   abbrev Pays : ℕ → Credit2Domain → Type 0
-  Pays d x = d ≡ u.dom.0 → has_budget x ≡ true
+  Pays d x = d ≡ u.dom.0 → has_cap_budget x ≡ true
 
   abbrev Paid : ℕ → Credit2Domain → Type 0
   Paid d x = EachItem (λ n (y : Credit2Unit). d ≡ u.dom.0 → n ≡ u.n → (x.cap ≡ 0) ⊎ (pos 0 ≤ℤ y.held)) x.units
 
-  pays_reset : (k : ℕ) (records : Credit2Records) → EachAt Pays records.domains → EachAt Pays (credit2.reset t k records).domains
+  pays_reset : (k : ℕ) (records : Credit2Records) → EachAt Pays records.domains → EachAt Pays (credit2.reset_records t k records).domains
   pays_reset zero records each = each
   pays_reset (suc k) records each =
-      EachAt-change_each Pays (λ n d. record d { units = map (λ (x : Credit2Unit). record x { credit = raise x.credit (suc k) }) d.units }) (credit2.burn_all t records).domains
-      (EachAt-change_each Pays (λ n d. credit2.burn_units (credit2.max_weight records) t d) records.domains each (λ d x at here. here)) (λ d x at here. here)
+      EachAt-change_each Pays (λ n d. record d { units = map (λ (x : Credit2Unit). record x { credit = raised_credit x.credit (suc k) }) d.units }) (credit2.burn_all t records).domains
+      (EachAt-change_each Pays (λ n d. credit2.burned_domain (credit2.most_weight records) t d) records.domains each (λ d x at here. here)) (λ d x at here. here)
 
-  paid_taken : (records : Credit2Records) → EachAt Pays records.domains → EachAt Paid (credit2.change_domain u.dom.0 (credit2.take_budget u.n) records).domains
+  paid_taken : (records : Credit2Records) → EachAt Pays records.domains → EachAt Paid (credit2.change_domain u.dom.0 (credit2.domain_after_take u.n) records).domains
   paid_taken records each =
-      EachAt-change_to Pays Paid u.dom.0 (credit2.take_budget u.n) records.domains each (λ d x other here n y get same_d same_n. absurd (other same_d))
+      EachAt-change_to Pays Paid u.dom.0 (credit2.domain_after_take u.n) records.domains each (λ d x other here n y get same_d same_n. absurd (other same_d))
       (λ x at here. by_cond (Paid u.dom.0) (x.cap == 0) x _ (λ free n y get same_d same_n. inl (none x.cap free))
-      (λ capped n y get same_d same_n. elim (read_change_item u.n n (λ (z : Credit2Unit). record z { held = take x.budget (limit x) }) x.units y get) [
+      (λ capped n y get same_d same_n. elim (read_change_item u.n n (λ (z : Credit2Unit). record z { held = taken_budget x.budget (limit x) }) x.units y get) [
         | inl was ↦ absurd (was.0 same_n)
         | inr r ↦ inr (subst (λ (z : Credit2Unit). pos 0 ≤ℤ z.held) r.3 (least x.budget (limit x) (elim (or_cases (x.cap == 0) (int_lt (pos 0) x.budget) (here refl)) [ inl free ↦ absurd (clash free capped) | inr some ↦ some ])))
       ]))
@@ -170,21 +170,21 @@ module _ (t : ℕ) (u : UnitId) where
       clash : {b : Bool} → b ≡ true → b ≡ false → ⊥
       clash {b} x y = (let e : true ≡ false = sym x ∙ y in cc)
 
-      least : (budget : ℤ) (q : ℕ) → int_lt (pos 0) budget ≡ true → pos 0 ≤ℤ take budget q
+      least : (budget : ℤ) (q : ℕ) → int_lt (pos 0) budget ≡ true → pos 0 ≤ℤ taken_budget budget q
       least budget q some = grind (arith, ints, clamps)
 
-  paid_off : (cur : Option UnitId) (records : Credit2Records) → EachAt Paid records.domains → EachAt Paid (credit2.switch_off cur records).domains
+  paid_off : (cur : Option UnitId) (records : Credit2Records) → EachAt Paid records.domains → EachAt Paid (credit2.off_records cur records).domains
   paid_off None records each = each
   paid_off (Some w) records each =
       EachAt-change_at Paid w.dom.0 (λ d. record d { units = change_item w.n (λ (x : Credit2Unit). record x { burned = None }) d.units }) records.domains each
       (λ x at here. item_change (λ n (y : Credit2Unit). w.dom.0 ≡ u.dom.0 → n ≡ u.n → (x.cap ≡ 0) ⊎ (pos 0 ≤ℤ y.held)) w.n (λ (x : Credit2Unit). record x { burned = None }) x.units (λ y get old. old) here)
 
-  fresh_credit2 : (cur : Option UnitId) (k : ℕ) (burned : Credit2Records) → credit2.domain_has_budget burned u ≡ true
-      → Fresh u t (Credit2Pool (credit2.set_running (Some t) u (credit2.switch_off cur (credit2.change_domain u.dom.0 (credit2.take_budget u.n) (credit2.reset t k burned)))))
+  fresh_credit2 : (cur : Option UnitId) (k : ℕ) (burned : Credit2Records) → credit2.has_domain_budget burned u ≡ true
+      → Fresh u t (Credit2Pool (credit2.running_records (Some t) u (credit2.off_records cur (credit2.change_domain u.dom.0 (credit2.domain_after_take u.n) (credit2.reset_records t k burned)))))
   fresh_credit2 cur k burned pays =
-      let taken : Credit2Records = credit2.change_domain u.dom.0 (credit2.take_budget u.n) (credit2.reset t k burned) in
-      EachAt-change_to Paid (λ d (x : Credit2Domain). EachItem (λ n (y : Credit2Unit). d ≡ u.dom.0 → n ≡ u.n → (y.burned ≡ Some t) × ((x.cap ≡ 0) ⊎ (pos 0 ≤ℤ y.held))) x.units) u.dom.0 (λ d. record d { units = change_item u.n (λ (x : Credit2Unit). record x { burned = Some t }) d.units }) (credit2.switch_off cur taken).domains
-      (paid_off cur taken (paid_taken (credit2.reset t k burned) (pays_reset k burned first)))
+      let taken : Credit2Records = credit2.change_domain u.dom.0 (credit2.domain_after_take u.n) (credit2.reset_records t k burned) in
+      EachAt-change_to Paid (λ d (x : Credit2Domain). EachItem (λ n (y : Credit2Unit). d ≡ u.dom.0 → n ≡ u.n → (y.burned ≡ Some t) × ((x.cap ≡ 0) ⊎ (pos 0 ≤ℤ y.held))) x.units) u.dom.0 (λ d. record d { units = change_item u.n (λ (x : Credit2Unit). record x { burned = Some t }) d.units }) (credit2.off_records cur taken).domains
+      (paid_off cur taken (paid_taken (credit2.reset_records t k burned) (pays_reset k burned first)))
       (λ d x other here n y get same_d same_n. absurd (other same_d))
       (λ x at here n y get same_d same_n. elim (read_change_item u.n n (λ (z : Credit2Unit). record z { burned = Some t }) x.units y get) [
         | inl was ↦ absurd (was.0 same_n)
@@ -194,47 +194,47 @@ module _ (t : ℕ) (u : UnitId) where
       first : EachAt Pays burned.domains
       first d x at same_d =
           let there : at_place burned.domains u.dom.0 ≡ Some x = subst (λ k. at_place burned.domains k ≡ Some x) same_d at in
-          sym (ap (λ (o : Option Credit2Domain). elim o as (λ _. Bool) [ None ↦ false | Some d ↦ has_budget d ]) there) ∙ pays
+          sym (ap (λ (o : Option Credit2Domain). elim o as (λ _. Bool) [ None ↦ false | Some d ↦ has_cap_budget d ]) there) ∙ pays
 
 -- a decision, where the legs of some units go on: none of them is the core's own or the chosen one
 module _ (On : ℕ → ℕ → ℕ → Type 0) (ask : Ask) (scheduler : Scheduler) where
   abbrev Off : Option UnitId → Type 0
   Off o = (u : UnitId) → o ≡ Some u → (b : ℕ) → On u.dom.0 u.n b → ⊥
 
-  rtds_off : (cur : Option UnitId) (domains : List (Option (List RtdsUnit))) → Off cur → RtdsKept On ask.at.0 domains → RtdsKept On ask.at.0 (rtds.switch_off cur domains)
+  rtds_off : (cur : Option UnitId) (domains : List (Option (List RtdsUnit))) → Off cur → RtdsKept On ask.at.0 domains → RtdsKept On ask.at.0 (rtds.off_domains cur domains)
   rtds_off None domains off kept = kept
   rtds_off (Some u) domains off kept = rtds_change On ask.at.0 u (λ x. record x { burned = None }) domains (λ x at old b on. absurd (off u refl b on)) kept
 
-  rtds_burned : (cur : Option UnitId) (domains : List (Option (List RtdsUnit))) → Off cur → RtdsKept On ask.at.0 domains → RtdsKept On ask.at.0 (rtds.burn_cur cur ask.at.0 domains)
+  rtds_burned : (cur : Option UnitId) (domains : List (Option (List RtdsUnit))) → Off cur → RtdsKept On ask.at.0 domains → RtdsKept On ask.at.0 (rtds.own_burned_domains cur ask.at.0 domains)
   rtds_burned None domains off kept = kept
-  rtds_burned (Some u) domains off kept = rtds_change On ask.at.0 u (rtds.burn_to ask.at.0) domains (λ x at old b on. absurd (off u refl b on)) kept
+  rtds_burned (Some u) domains off kept = rtds_change On ask.at.0 u (rtds.unit_burned_to ask.at.0) domains (λ x at old b on. absurd (off u refl b on)) kept
 
-  rtds_decides : (domains : List (Option (List RtdsUnit))) (chosen : Option UnitId) → Off ask.cur → Off chosen → RtdsKept On ask.at.0 domains → Charged On ask.at.0 (rtds.decide ask domains chosen).records
+  rtds_decides : (domains : List (Option (List RtdsUnit))) (chosen : Option UnitId) → Off ask.cur → Off chosen → RtdsKept On ask.at.0 domains → Charged On ask.at.0 (rtds.rtds_decision_for ask domains chosen).records
   rtds_decides domains None own off kept = rtds_off ask.cur domains own kept
-  rtds_decides domains (Some u) own off kept = rtds_change On ask.at.0 u (λ x. record x { burned = Some ask.at.0 }) (rtds.switch_off ask.cur domains) (λ x at old b on. absurd (off u refl b on)) (rtds_off ask.cur domains own kept)
+  rtds_decides domains (Some u) own off kept = rtds_change On ask.at.0 u (λ x. record x { burned = Some ask.at.0 }) (rtds.off_domains ask.cur domains) (λ x at old b on. absurd (off u refl b on)) (rtds_off ask.cur domains own kept)
 
-  credit2_decides : (records : Credit2Records) (chosen : Option UnitId) → Off ask.cur → Off chosen → Credit2Kept On ask.at.0 records → Charged On ask.at.0 (credit2.decide ask scheduler records chosen).records
+  credit2_decides : (records : Credit2Records) (chosen : Option UnitId) → Off ask.cur → Off chosen → Credit2Kept On ask.at.0 records → Charged On ask.at.0 (credit2.credit2_decision_for ask scheduler records chosen).records
   credit2_decides records None own off kept = c_switch_off On ask.at.0 ask.cur records own kept
   credit2_decides records (Some u) own off kept =
-      let k : ℕ = credit2.resets_for ask.at.0 u records in
-      let taken : Credit2Records = credit2.change_domain u.dom.0 (credit2.take_budget u.n) (credit2.reset ask.at.0 k records) in
-      c_running On ask.at.0 (Some ask.at.0) u (credit2.switch_off ask.cur taken) (off u refl) (c_switch_off On ask.at.0 ask.cur taken own (c_take On ask.at.0 u (credit2.reset ask.at.0 k records) (off u refl) (c_reset On ask.at.0 k records kept)))
+      let k : ℕ = credit2.reset_count ask.at.0 u records in
+      let taken : Credit2Records = credit2.change_domain u.dom.0 (credit2.domain_after_take u.n) (credit2.reset_records ask.at.0 k records) in
+      c_running On ask.at.0 (Some ask.at.0) u (credit2.off_records ask.cur taken) (off u refl) (c_switch_off On ask.at.0 ask.cur taken own (c_take On ask.at.0 u (credit2.reset_records ask.at.0 k records) (off u refl) (c_reset On ask.at.0 k records kept)))
 
-  rtds_unit_is : (domains : List (Option (List RtdsUnit))) (chosen : Option UnitId) → (rtds.decide ask domains chosen).unit ≡ chosen
+  rtds_unit_is : (domains : List (Option (List RtdsUnit))) (chosen : Option UnitId) → (rtds.rtds_decision_for ask domains chosen).unit ≡ chosen
   rtds_unit_is domains None = refl
   rtds_unit_is domains (Some u) = refl
 
-  credit2_unit_is : (records : Credit2Records) (chosen : Option UnitId) → (credit2.decide ask scheduler records chosen).unit ≡ chosen
+  credit2_unit_is : (records : Credit2Records) (chosen : Option UnitId) → (credit2.credit2_decision_for ask scheduler records chosen).unit ≡ chosen
   credit2_unit_is records None = refl
   credit2_unit_is records (Some u) = refl
 
-  rtds_fresh : (domains : List (Option (List RtdsUnit))) (chosen : Option UnitId) → IfUnit (λ u. nat_lt 0 (budget_left domains u) ≡ true) chosen → (u : UnitId) → chosen ≡ Some u → Fresh u ask.at.0 (rtds.decide ask domains chosen).records
+  rtds_fresh : (domains : List (Option (List RtdsUnit))) (chosen : Option UnitId) → IfUnit (λ u. nat_lt 0 (unit_left_budget domains u) ≡ true) chosen → (u : UnitId) → chosen ≡ Some u → Fresh u ask.at.0 (rtds.rtds_decision_for ask domains chosen).records
   rtds_fresh domains None left u is = absurd (cc)
-  rtds_fresh domains (Some w) left u is = (let e : w ≡ u = cc in subst (λ x. Fresh x ask.at.0 (rtds.decide ask domains (Some w)).records) e (fresh_rtds ask.at.0 w ask.cur domains left))
+  rtds_fresh domains (Some w) left u is = (let e : w ≡ u = cc in subst (λ x. Fresh x ask.at.0 (rtds.rtds_decision_for ask domains (Some w)).records) e (fresh_rtds ask.at.0 w ask.cur domains left))
 
-  credit2_fresh : (records : Credit2Records) (chosen : Option UnitId) → IfUnit (λ u. credit2.domain_has_budget records u ≡ true) chosen → (u : UnitId) → chosen ≡ Some u → Fresh u ask.at.0 (credit2.decide ask scheduler records chosen).records
+  credit2_fresh : (records : Credit2Records) (chosen : Option UnitId) → IfUnit (λ u. credit2.has_domain_budget records u ≡ true) chosen → (u : UnitId) → chosen ≡ Some u → Fresh u ask.at.0 (credit2.credit2_decision_for ask scheduler records chosen).records
   credit2_fresh records None pays u is = absurd (cc)
-  credit2_fresh records (Some w) pays u is = (let e : w ≡ u = cc in subst (λ x. Fresh x ask.at.0 (credit2.decide ask scheduler records (Some w)).records) e (fresh_credit2 ask.at.0 w ask.cur (credit2.resets_for ask.at.0 w records) records pays))
+  credit2_fresh records (Some w) pays u is = (let e : w ≡ u = cc in subst (λ x. Fresh x ask.at.0 (credit2.credit2_decision_for ask scheduler records (Some w)).records) e (fresh_credit2 ask.at.0 w ask.cur (credit2.reset_count ask.at.0 w records) records pays))
 
   -- what the decision makes of the records
   record IsDecided (d : Decision) : Type 0 where
@@ -249,20 +249,20 @@ module _ (On : ℕ → ℕ → ℕ → Type 0) (ask : Ask) (scheduler : Schedule
     where
       by_records : (records : Records) → scheduler.records ≡ records → IsDecided (decision_of ask scheduler)
       by_records (Credit2Pool records) is =
-          let burned : Credit2Records = credit2.burn_cur ask.cur ask.at.0 records in
-          let chosen : Option UnitId = credit2.choice ask scheduler burned in
-          let same : decision_of ask scheduler ≡ credit2.decide ask scheduler burned chosen = ap (λ (x : Records). decision_by x ask scheduler) is in
-          let unit : (credit2.decide ask scheduler burned chosen).unit ≡ chosen = credit2_unit_is burned chosen in
+          let burned : Credit2Records = credit2.own_burned_records ask.cur ask.at.0 records in
+          let chosen : Option UnitId = credit2.credit2_choice ask scheduler burned in
+          let same : decision_of ask scheduler ≡ credit2.credit2_decision_for ask scheduler burned chosen = ap (λ (x : Records). decision_by x ask scheduler) is in
+          let unit : (credit2.credit2_decision_for ask scheduler burned chosen).unit ≡ chosen = credit2_unit_is burned chosen in
           let off2 : Off chosen = subst Off (ap (λ (d : Decision). d.unit) same ∙ unit) off in
           subst IsDecided (sym same) (record {
             charged = credit2_decides burned chosen own off2 (c_burn_cur On ask.at.0 ask.cur records (subst (Charged On ask.at.0) is kept));
             fresh = λ u e. credit2_fresh burned chosen (choice_pays ask.at.0 (λ d n. Unit {0}) ask scheduler burned) u (sym unit ∙ e);
           })
       by_records (RtdsPool domains) is =
-          let burned : List (Option (List RtdsUnit)) = rtds.burn_cur ask.cur ask.at.0 domains in
-          let chosen : Option UnitId = rtds.choice ask scheduler burned in
-          let same : decision_of ask scheduler ≡ rtds.decide ask burned chosen = ap (λ (x : Records). decision_by x ask scheduler) is in
-          let unit : (rtds.decide ask burned chosen).unit ≡ chosen = rtds_unit_is burned chosen in
+          let burned : List (Option (List RtdsUnit)) = rtds.own_burned_domains ask.cur ask.at.0 domains in
+          let chosen : Option UnitId = rtds.rtds_choice ask scheduler burned in
+          let same : decision_of ask scheduler ≡ rtds.rtds_decision_for ask burned chosen = ap (λ (x : Records). decision_by x ask scheduler) is in
+          let unit : (rtds.rtds_decision_for ask burned chosen).unit ≡ chosen = rtds_unit_is burned chosen in
           let off2 : Off chosen = subst Off (ap (λ (d : Decision). d.unit) same ∙ unit) off in
           subst IsDecided (sym same) (record {
             charged = rtds_decides burned chosen own off2 (rtds_burned ask.cur domains own (subst (Charged On ask.at.0) is kept));
@@ -271,16 +271,16 @@ module _ (On : ℕ → ℕ → ℕ → Type 0) (ask : Ask) (scheduler : Schedule
       by_records records is = not_charging (decision_of ask scheduler) (same_decision is_charging (λ a b. refl) (λ a b. refl) (λ a b. refl) scheduler.records ask scheduler refl ∙ ap is_charging is)
 
 -- the units of the queue
-in_queue : (queue : List UnitId) → AllByRecursion (λ u. has_unit queue u ≡ true) queue
+in_queue : (queue : List UnitId) → AllByRecursion (λ u. has_listed_unit queue u ≡ true) queue
 in_queue queue = each queue (λ u has. has)
   where
-    each : (units : List UnitId) → ((u : UnitId) → has_unit units u ≡ true → has_unit queue u ≡ true) → AllByRecursion (λ u. has_unit queue u ≡ true) units
+    each : (units : List UnitId) → ((u : UnitId) → has_listed_unit units u ≡ true → has_listed_unit queue u ≡ true) → AllByRecursion (λ u. has_listed_unit queue u ≡ true) units
     each [] to = tt
     each (x ∷ units) to = (to x (or_more (same_unit x x) _ (same_unit_refl x)), each units (λ u has. to u (or_later (same_unit u x) has)))
 
 module _ (g t : ℕ) (legs : Legs) (r : ℕ) (c : Resource) (pool : Pool) (at : at_place pool.resources r ≡ Some c) where
   abbrev decision : Decision
-  decision = decision_of (ask_of g t pool r c) pool.scheduler
+  decision = decision_of (core_ask g t pool r c) pool.scheduler
 
   abbrev pub next_legs : Legs
   next_legs = leg_of t r decision.unit legs
@@ -300,11 +300,11 @@ module _ (g t : ℕ) (legs : Legs) (r : ℕ) (c : Resource) (pool : Pool) (at : 
   decided_is : (decided_core t decision c).cur ≡ decision.unit
   decided_is = by_test (λ (x : Resource). x.cur ≡ decision.unit) (same_choice decision.unit c.cur) _ _ (λ is. sym (same_choice_same decision.unit c.cur is)) (λ is. refl)
 
-  module _ (others : (k : ℕ) (x : Resource) (u : UnitId) → k ≢ r → at_place pool.resources k ≡ Some x → x.cur ≡ Some u → (has_unit pool.scheduler.queue u ≡ false) × (c.cur ≡ Some u → ⊥)) where
-    chosen_from : IfUnit (λ u. (has_unit pool.scheduler.queue u ≡ true) ⊎ (c.cur ≡ Some u)) decision.unit
-    chosen_from = decision_has (λ u. (has_unit pool.scheduler.queue u ≡ true) ⊎ (c.cur ≡ Some u)) (ask_of g t pool r c) pool.scheduler (waiting pool.scheduler.queue (in_queue pool.scheduler.queue)) (λ u own runs. inr own)
+  module _ (others : (k : ℕ) (x : Resource) (u : UnitId) → k ≢ r → at_place pool.resources k ≡ Some x → x.cur ≡ Some u → (has_listed_unit pool.scheduler.queue u ≡ false) × (c.cur ≡ Some u → ⊥)) where
+    chosen_from : IfUnit (λ u. (has_listed_unit pool.scheduler.queue u ≡ true) ⊎ (c.cur ≡ Some u)) decision.unit
+    chosen_from = decision_has (λ u. (has_listed_unit pool.scheduler.queue u ≡ true) ⊎ (c.cur ≡ Some u)) (core_ask g t pool r c) pool.scheduler (waiting pool.scheduler.queue (in_queue pool.scheduler.queue)) (λ u own runs. inr own)
       where
-        waiting : (units : List UnitId) → AllByRecursion (λ u. has_unit pool.scheduler.queue u ≡ true) units → AllByRecursion (λ u. (has_unit pool.scheduler.queue u ≡ true) ⊎ (c.cur ≡ Some u)) units
+        waiting : (units : List UnitId) → AllByRecursion (λ u. has_listed_unit pool.scheduler.queue u ≡ true) units → AllByRecursion (λ u. (has_listed_unit pool.scheduler.queue u ≡ true) ⊎ (c.cur ≡ Some u)) units
         waiting [] each = tt
         waiting (u ∷ units) each = (inl each.0, waiting units each.1)
 
@@ -314,12 +314,12 @@ module _ (g t : ℕ) (legs : Legs) (r : ℕ) (c : Resource) (pool : Pool) (at : 
     chosen_off : (u : UnitId) → decision.unit ≡ Some u → (b : ℕ) → Others u.dom.0 u.n b → ⊥
     chosen_off u is b on =
         let o = others on.0 on.1 u on.2 on.3 on.4 in
-        let from : (has_unit pool.scheduler.queue u ≡ true) ⊎ (c.cur ≡ Some u) = subst (IfUnit (λ w. (has_unit pool.scheduler.queue w ≡ true) ⊎ (c.cur ≡ Some w))) is chosen_from in
+        let from : (has_listed_unit pool.scheduler.queue u ≡ true) ⊎ (c.cur ≡ Some u) = subst (IfUnit (λ w. (has_listed_unit pool.scheduler.queue w ≡ true) ⊎ (c.cur ≡ Some w))) is chosen_from in
         elim from [ inl waits ↦ (let e : true ≡ false = sym waits ∙ o.0 in cc) | inr own ↦ o.1 own ]
 
     pub w_after_decide : r < length legs → FreeHolds decision.records → IsLegged g t legs pool → IsLegged g t next_legs (pools.after_decide g t r c pool)
     w_after_decide low free w =
-        let done = is_decided Others (ask_of g t pool r c) pool.scheduler own_off chosen_off (less w) in
+        let done = is_decided Others (core_ask g t pool r c) pool.scheduler own_off chosen_off (less w) in
         record {
           have = λ k x u at_k own. elim (ℕ_discrete k r) [
             | yes e ↦ (t, subst (λ j. at_place next_legs j ≡ Some t) (sym e) (legs_own decision.unit u low (new_unit k x u e at_k own)))

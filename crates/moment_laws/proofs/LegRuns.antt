@@ -7,7 +7,7 @@ use Rattle.std.specs.Option.{IfSome}
 use Rattle.std.proofs.lemmas.Int.{ints}
 use Rattle.std.proofs.lemmas.List.{length-replicate}
 use Rattle.sched_base.specs.Numbers.{moment, span, domain as domain_number, core as core_number}
-use Rattle.sched_base.specs.Credit2Numbers.{quota, total as credit2_total}
+use Rattle.sched_base.specs.Credit2Numbers.{budget_quota, cap_budget}
 use Rattle.sched_base.specs.declared.Span.{Span}
 use Rattle.sched_base.specs.declared.UnitId.{UnitId}
 use Rattle.sched_base.proofs.Lists.{each_get}
@@ -30,16 +30,16 @@ use Rattle.sched_model.specs.declared.state.Credit2Unit.{Credit2Unit}
 use Rattle.sched_model.specs.declared.action.Action.{Action}
 use Rattle.sched_model.specs.declared.action.Action.TheVariants.{Stall, Decide}
 use Rattle.sched_model.specs.Places.{at_place, numbers_from, test_at}
-use Rattle.sched_model.specs.State.{has_core}
-use Rattle.sched_model.specs.Opening.{core_count, fresh_core, with_configured, with_domains, empty_pool, no_pool}
-use Rattle.sched_model.specs.EligibleUnits.{Decision, rtds_unit}
-use Rattle.sched_model.specs.Policy.{decision_of, default_pool_params, default_dom_params, fresh_records, rtds_record}
-use Rattle.sched_model.specs.Commands.{set_rtds_unit}
+use Rattle.sched_model.specs.State.{has_core_bit}
+use Rattle.sched_model.specs.Opening.{machine_core_count, joined_core, pool_with_configured, pool_with_domains, fresh_pool, absent_pool}
+use Rattle.sched_model.specs.EligibleUnits.{Decision, rtds_unit_at}
+use Rattle.sched_model.specs.Policy.{decision_of, standard_pool_params, standard_dom_params, empty_records, unit_rtds_record}
+use Rattle.sched_model.specs.Commands.{pool_with_rtds_unit}
 use Rattle.sched_model.specs.Pool as pools
-use Rattle.sched_model.specs.Pool.{ask_of, decision_at, enabled_in, after_in, settled_pool, is_held, is_open, first_up}
-use Rattle.sched_model.specs.Actions.{home_of_core, change_pool}
-use Rattle.sched_model.specs.Machine.{after, is_enabled, event_of, home_pool}
-use Rattle.sched_model.specs.Runs.{Reached, IsRun, IsNextEvent, action_of, run_start, after_event, after_entries}
+use Rattle.sched_model.specs.Pool.{core_ask, decision_at, enabled_in, after_in, settled_pool, is_held_back, is_gathering, is_first_processor_up}
+use Rattle.sched_model.specs.Actions.{home_pool_of_core, change_pool}
+use Rattle.sched_model.specs.Machine.{after, is_action_enabled, event_of, home_pool}
+use Rattle.sched_model.specs.Runs.{Reached, IsRun, IsNextEvent, event_action, run_start, after_event, after_entries}
 use Rattle.sched_model.specs.CheckedMachine.{IsChecked}
 use Rattle.sched_model.proofs.RunLemmas.{after_entries-append}
 use Rattle.sched_laws.specs.EachPlace.{EachPlace}
@@ -71,7 +71,7 @@ use Rattle.sched_laws.specs.NullLaws.{chosen_by}
 
 -- the action of an event that is one of an action
 abbrev pub action_in : Event → Action
-action_in e = unwrap_or (action_of e) Stall
+action_in e = unwrap_or (event_action e) Stall
 
 -- all but the decisions
 abbrev IsNoDecision : Action → Type 0
@@ -163,20 +163,20 @@ module _ (m : Machine) (checked : IsChecked m) where
         core_goes = λ r pool on w. record { own = own.core_goes t r pool on w.leg.own; legged = w_core_goes g t legs r pool w.leg.legged };
         domain_is = λ d domain pool at w. tt;
         domain_comes = λ d domain pool stays none comes w. record {
-          own = own.domain_comes t d domain (default_dom_params pool.scheduler.records) pool stays none w.own;
-          legged = w_with_domain g t legs d domain (default_dom_params pool.scheduler.records) pool (other_domain d pool none w.own) w.legged;
+          own = own.domain_comes t d domain (standard_dom_params pool.scheduler.records) pool stays none w.own;
+          legged = w_with_domain g t legs d domain (standard_dom_params pool.scheduler.records) pool (other_domain d pool none w.own) w.legged;
         };
         domain_goes = λ d pool on w. record { own = own.domain_goes t d pool on w.leg.own; legged = w_without_domain g t legs d pool w.leg.legged };
         domain_leaves = λ d pool null on w. record { own = own.domain_goes t d pool on w.leg.own; legged = w_without_domain g t legs d pool w.leg.legged };
-        empty = λ kind. record { own = own.empty m.config (default_pool_params kind); legged = empty_legged kind };
+        empty = λ kind. record { own = own.empty m.config (standard_pool_params kind); legged = empty_legged kind };
       }
     where
       no_decision : (action : Action) → IsNoDecision action → (r : ℕ) → action ≡ Decide (core_number r) → ⊥
       no_decision action other r is = subst IsNoDecision is other
 
-      own_rtds : (period budget : Option Span) (extra : Option Bool) (u : UnitId) (pool : Pool) → UnitsAreOwn pool → UnitsAreOwn (set_rtds_unit t period budget extra u pool)
+      own_rtds : (period budget : Option Span) (extra : Option Bool) (u : UnitId) (pool : Pool) → UnitsAreOwn pool → UnitsAreOwn (pool_with_rtds_unit t period budget extra u pool)
       own_rtds period budget extra u pool w =
-          by_option UnitsAreOwn (rtds_record pool.scheduler.records u) _ _ (λ is. w)
+          by_option UnitsAreOwn (unit_rtds_record pool.scheduler.records u) _ _ (λ is. w)
           (λ x is. (units_are_own g).inside.changes (changes.«Unit» u (unwrap_or period (span x.next_period)) (unwrap_or budget (span x.next_budget)) (unwrap_or extra x.next_extra)) t pool w)
 
       other_domain : (d : ℕ) (pool : Pool) → at_place pool.domains d ≡ None → UnitsAreOwn pool → (r : ℕ) (c : Resource) (u : UnitId) → at_place pool.resources r ≡ Some c → c.cur ≡ Some u → u.dom.0 ≢ d
@@ -186,28 +186,28 @@ module _ (m : Machine) (checked : IsChecked m) where
           let here : at_place pool.domains d ≡ Some has.0 = subst (λ k. at_place pool.domains k ≡ Some has.0) same has.1 in
           (let e : None ≡ Some has.0 = sym none ∙ here in cc)
 
-      empty_legged : (kind : SchedKind) → IsLegged g t legs (empty_pool m.config (default_pool_params kind))
+      empty_legged : (kind : SchedKind) → IsLegged g t legs (fresh_pool m.config (standard_pool_params kind))
       empty_legged kind =
-          let none : (r : ℕ) (c : Resource) → at_place (replicate (core_count m.config) None) r ≡ Some c → c.cur ≡ None = λ r c at. absurd (EachPlace-empty {X = Resource} (λ y. ⊥) (core_count m.config) r c at) in
-          w_idle g t legs (empty_pool m.config (default_pool_params kind)) none
-          (charged_idle m t (fresh_records (default_pool_params kind) (length m.config.domains) (core_count m.config)) (replicate (core_count m.config) None) none (n_fresh m t (default_pool_params kind) (length m.config.domains) (core_count m.config) (replicate (core_count m.config) None)))
+          let none : (r : ℕ) (c : Resource) → at_place (replicate (machine_core_count m.config) None) r ≡ Some c → c.cur ≡ None = λ r c at. absurd (EachPlace-empty {X = Resource} (λ y. ⊥) (machine_core_count m.config) r c at) in
+          w_idle g t legs (fresh_pool m.config (standard_pool_params kind)) none
+          (charged_idle m t (empty_records (standard_pool_params kind) (length m.config.domains) (machine_core_count m.config)) (replicate (machine_core_count m.config) None) none (n_fresh m t (standard_pool_params kind) (length m.config.domains) (machine_core_count m.config) (replicate (machine_core_count m.config) None)))
 
   -- the opening: no core has a unit
-  opened_cores : (i d : ℕ) (domains : List DomConfig) (pool : Pool) → (with_domains m.config.granularity i d domains pool).resources ≡ pool.resources
+  opened_cores : (i d : ℕ) (domains : List DomConfig) (pool : Pool) → (pool_with_domains m.config.granularity i d domains pool).resources ≡ pool.resources
   opened_cores i d [] pool = refl
   opened_cores i d (joining ∷ domains) pool =
-      opened_cores i (suc d) domains (cond (joining.home.0 == i) (with_configured m.config.granularity d joining pool) pool)
-      ∙ by_cond (λ (next : Pool). next.resources ≡ pool.resources) (joining.home.0 == i) (with_configured m.config.granularity d joining pool) pool (λ is. with_configured-resources m.config.granularity d joining pool) (λ is. refl)
+      opened_cores i (suc d) domains (cond (joining.home.0 == i) (pool_with_configured m.config.granularity d joining pool) pool)
+      ∙ by_cond (λ (next : Pool). next.resources ≡ pool.resources) (joining.home.0 == i) (pool_with_configured m.config.granularity d joining pool) pool (λ is. with_configured-resources m.config.granularity d joining pool) (λ is. refl)
 
   legged_opening : AreLegged m []
   legged_opening i pool at =
       let r = read_pools m.config 0 _ m.config.pools i pool at in
-      let first : Pool = record (empty_pool m.config r.0.params) { resources = map (λ k. cond (has_core r.0.cores k) (Some (fresh_core (replicate m.config.granularity (moment 0)))) None) (numbers_from 0 (core_count m.config)) } in
+      let first : Pool = record (fresh_pool m.config r.0.params) { resources = map (λ k. cond (has_core_bit r.0.cores k) (Some (joined_core (replicate m.config.granularity (moment 0)))) None) (numbers_from 0 (machine_core_count m.config)) } in
       let same : pool.resources ≡ first.resources = ap (λ (p : Pool). p.resources) r.2 ∙ opened_cores (0 + i) 0 m.config.domains first in
       let idle : (k : ℕ) (c : Resource) → at_place pool.resources k ≡ Some c → c.cur ≡ None = λ k c at_k. (
-      let read = read_map (λ j. cond (has_core r.0.cores j) (Some (fresh_core (replicate m.config.granularity (moment 0)))) None) 0 (core_count m.config) k c (subst (λ (x : List (Option Resource)). at_place x k ≡ Some c) same at_k) in
-      by_cond (λ (o : Option Resource). o ≡ Some c → c.cur ≡ None) (has_core r.0.cores (0 + k)) (Some (fresh_core (replicate m.config.granularity (moment 0)))) None
-      (λ has e. (let f : ◌≡◌ {A = Resource} (fresh_core (replicate m.config.granularity (moment 0))) c = cc in sym (ap (λ (x : Resource). x.cur) f))) (λ none e. absurd (cc)) read) in
+      let read = read_map (λ j. cond (has_core_bit r.0.cores j) (Some (joined_core (replicate m.config.granularity (moment 0)))) None) 0 (machine_core_count m.config) k c (subst (λ (x : List (Option Resource)). at_place x k ≡ Some c) same at_k) in
+      by_cond (λ (o : Option Resource). o ≡ Some c → c.cur ≡ None) (has_core_bit r.0.cores (0 + k)) (Some (joined_core (replicate m.config.granularity (moment 0)))) None
+      (λ has e. (let f : ◌≡◌ {A = Resource} (joined_core (replicate m.config.granularity (moment 0))) c = cc in sym (ap (λ (x : Resource). x.cur) f))) (λ none e. absurd (cc)) read) in
       w_idle m.config.granularity (state_after m []).now (open_legs m []) pool idle
       (charged_idle m (state_after m []).now pool.scheduler.records pool.resources idle ((fits_in_runs m checked [] tt).pools i pool at).credit)
 
@@ -228,7 +228,7 @@ module _ (m : Machine) (checked : IsChecked m) where
     Then next from = EachPlace (IsLegged m.config.granularity from.now next) from.pools
 
     -- an action that is no decision
-    acted : (action : Action) → IsNoDecision action → is_enabled m s s.now action ≡ true → Then legs (after m s s.now action)
+    acted : (action : Action) → IsNoDecision action → is_action_enabled m s s.now action ≡ true → Then legs (after m s s.now action)
     acted action other on =
         let steps = step_after (leg_steps s.now legs) s action other fits.apart (λ r c at. tt) (λ l is. tt) on known in
         λ i pool at. subst (λ t. IsLegged m.config.granularity t legs pool) (sym (now_after m s s.now action)) (steps i pool at).legged
@@ -236,15 +236,15 @@ module _ (m : Machine) (checked : IsChecked m) where
         known : EachPlace (IsSoundLeg s.now legs) s.pools
         known i pool at = (let w = fits.pools i pool at in record {
           leg = record { own = reached.units_are_own m checked before run_before i pool at; legged = each i pool at };
-          sound = sound_of m (length m.config.domains) (core_count m.config) s.now pool.scheduler.records pool.resources w.credit w.fits.records;
+          sound = sound_of m (length m.config.domains) (machine_core_count m.config) s.now pool.scheduler.records pool.resources w.credit w.fits.records;
         })
 
     -- a decision
-    decided_in : (r i : ℕ) (pool : Pool) (c : Resource) → home_of_core s r ≡ Some i → at_place s.pools i ≡ Some pool → at_place pool.resources r ≡ Some c → FreeHolds (decision_of (ask_of m.config.granularity s.now pool r c) pool.scheduler).records
-        → Then (leg_of s.now r (decision_of (ask_of m.config.granularity s.now pool r c) pool.scheduler).unit legs) (change_pool i (λ p. settled_pool s.now (after_in m.config.granularity s.now p (Decide (core_number r)))) s)
+    decided_in : (r i : ℕ) (pool : Pool) (c : Resource) → home_pool_of_core s r ≡ Some i → at_place s.pools i ≡ Some pool → at_place pool.resources r ≡ Some c → FreeHolds (decision_of (core_ask m.config.granularity s.now pool r c) pool.scheduler).records
+        → Then (leg_of s.now r (decision_of (core_ask m.config.granularity s.now pool r c) pool.scheduler).unit legs) (change_pool i (λ p. settled_pool s.now (after_in m.config.granularity s.now p (Decide (core_number r)))) s)
     decided_in r i pool c home at has free =
         let of : PoolOf m before pool = record { run = run_before; i = i; at = at } in
-        let unit : Option UnitId = (decision_of (ask_of m.config.granularity s.now pool r c) pool.scheduler).unit in
+        let unit : Option UnitId = (decision_of (core_ask m.config.granularity s.now pool r c) pool.scheduler).unit in
         let next : Legs = leg_of s.now r unit legs in
         let low : r < length legs = (
         let inside = place_below pool.resources r c has in
@@ -261,40 +261,40 @@ module _ (m : Machine) (checked : IsChecked m) where
         (λ p at_p here. (let e2 : pool ≡ p = cc in subst (λ (x : Pool). IsLegged m.config.granularity s.now next (settled_pool s.now (after_in m.config.granularity s.now x (Decide (core_number r))))) e2 (kept_settled (w_commands m.config.granularity s.now next) s.now (after_in m.config.granularity s.now pool (Decide (core_number r))) after_one)))
 
     -- what the event of a decision prints as the unit
-    printed_unit : (r i : ℕ) (pool : Pool) (c : Resource) (ev : Event) → ev ≡ event_of m s s.now (Decide (core_number r)) → home_of_core s r ≡ Some i → at_place s.pools i ≡ Some pool → at_place pool.resources r ≡ Some c
-        → chosen_by ev ≡ (decision_of (ask_of m.config.granularity s.now pool r c) pool.scheduler).unit
+    printed_unit : (r i : ℕ) (pool : Pool) (c : Resource) (ev : Event) → ev ≡ event_of m s s.now (Decide (core_number r)) → home_pool_of_core s r ≡ Some i → at_place s.pools i ≡ Some pool → at_place pool.resources r ≡ Some c
+        → chosen_by ev ≡ (decision_of (core_ask m.config.granularity s.now pool r c) pool.scheduler).unit
     printed_unit r i pool c ev is home at has =
-        let home_is : home_pool m s (Decide (core_number r)) ≡ pool = ap (λ (o : Option ℕ). elim o as (λ _. Pool) [ None ↦ no_pool m.config | Some j ↦ unwrap_or (at_place s.pools j) (no_pool m.config) ]) home ∙ ap (λ (o : Option Pool). unwrap_or o (no_pool m.config)) at in
-        let asks : decision_at m.config.granularity s.now pool r ≡ decision_of (ask_of m.config.granularity s.now pool r c) pool.scheduler =
-        ap (λ (o : Option Resource). elim o as (λ _. Decision) [ None ↦ record { unit = None; due = None; reset = 0; records = pool.scheduler.records } | Some x ↦ decision_of (ask_of m.config.granularity s.now pool r x) pool.scheduler ]) has in
+        let home_is : home_pool m s (Decide (core_number r)) ≡ pool = ap (λ (o : Option ℕ). elim o as (λ _. Pool) [ None ↦ absent_pool m.config | Some j ↦ unwrap_or (at_place s.pools j) (absent_pool m.config) ]) home ∙ ap (λ (o : Option Pool). unwrap_or o (absent_pool m.config)) at in
+        let asks : decision_at m.config.granularity s.now pool r ≡ decision_of (core_ask m.config.granularity s.now pool r c) pool.scheduler =
+        ap (λ (o : Option Resource). elim o as (λ _. Decision) [ None ↦ record { unit = None; due = None; reset = 0; records = pool.scheduler.records } | Some x ↦ decision_of (core_ask m.config.granularity s.now pool r x) pool.scheduler ]) has in
         ap chosen_by is ∙ ap (λ (p : Pool). (decision_at m.config.granularity s.now p r).unit) home_is ∙ ap (λ (d : Decision). d.unit) asks
 
     -- the state after a decision, and what is known of the pool's records then
-    decided_state : (r : ℕ) (unit : Option UnitId) → is_enabled m s s.now (Decide (core_number r)) ≡ true → ((i : ℕ) (pool : Pool) (c : Resource) → home_of_core s r ≡ Some i → at_place s.pools i ≡ Some pool → at_place pool.resources r ≡ Some c → unit ≡ (decision_of (ask_of m.config.granularity s.now pool r c) pool.scheduler).unit)
+    decided_state : (r : ℕ) (unit : Option UnitId) → is_action_enabled m s s.now (Decide (core_number r)) ≡ true → ((i : ℕ) (pool : Pool) (c : Resource) → home_pool_of_core s r ≡ Some i → at_place s.pools i ≡ Some pool → at_place pool.resources r ≡ Some c → unit ≡ (decision_of (core_ask m.config.granularity s.now pool r c) pool.scheduler).unit)
         → StateFits m (after m s s.now (Decide (core_number r))) → Then (leg_of s.now r unit legs) (after m s s.now (Decide (core_number r)))
-    decided_state r unit on printed later = by_home (home_of_core s r) refl on later
+    decided_state r unit on printed later = by_home (home_pool_of_core s r) refl on later
       where
         -- the state after a decision at the home
         made : Option ℕ → State
         made home = elim home [ None ↦ s | Some i ↦ change_pool i (λ p. settled_pool s.now (after_in m.config.granularity s.now p (Decide (core_number r)))) s ]
 
-        by_home : (home : Option ℕ) → home_of_core s r ≡ home → elim home as (λ _. Bool) [ None ↦ false | Some i ↦ test_at s.pools i (λ pool. enabled_in m.config.granularity s.now pool (Decide (core_number r))) ] ≡ true → StateFits m (made home) → Then (leg_of s.now r unit legs) (made home)
+        by_home : (home : Option ℕ) → home_pool_of_core s r ≡ home → elim home as (λ _. Bool) [ None ↦ false | Some i ↦ test_at s.pools i (λ pool. enabled_in m.config.granularity s.now pool (Decide (core_number r))) ] ≡ true → StateFits m (made home) → Then (leg_of s.now r unit legs) (made home)
         by_home None home none fit = absurd (cc)
         by_home (Some i) home may fit =
             let there = some-test_at s.pools i (λ pool. enabled_in m.config.granularity s.now pool (Decide (core_number r))) may in
             let pool : Pool = there.0 in
-            let core = some-test_at pool.resources r (λ (x : Resource). list_all is_held x.processors && is_open x && first_up s.now x) there.2 in
+            let core = some-test_at pool.resources r (λ (x : Resource). list_all is_held_back x.processors && is_gathering x && is_first_processor_up s.now x) there.2 in
             let c : Resource = core.0 in
             let next : Pool = settled_pool s.now (after_in m.config.granularity s.now pool (Decide (core_number r))) in
             let at_next : at_place (made (Some i)).pools i ≡ Some next = at_place-change_at i (λ p. settled_pool s.now (after_in m.config.granularity s.now p (Decide (core_number r)))) s.pools ∙ ap (option_map (λ p. settled_pool s.now (after_in m.config.granularity s.now p (Decide (core_number r))))) there.1 in
-            let records : next.scheduler.records ≡ (decision_of (ask_of m.config.granularity s.now pool r c) pool.scheduler).records =
+            let records : next.scheduler.records ≡ (decision_of (core_ask m.config.granularity s.now pool r c) pool.scheduler).records =
             ap (λ (o : Option Resource). (elim o as (λ _. Pool) [ None ↦ pool | Some x ↦ pools.after_decide m.config.granularity s.now r x pool ]).scheduler.records) core.1 in
             let free : FreeHolds next.scheduler.records = free_of m s.now next.scheduler.records next.resources (fit.pools i next at_next).credit in
             subst (λ (o : Option UnitId). Then (leg_of s.now r o legs) (made (Some i))) (sym (printed i pool c home there.1 core.1))
             (decided_in r i pool c home there.1 core.1 (subst FreeHolds records free))
 
     -- an entry
-    by_event : (ev : Event) → IsNextEvent m s ev (action_of ev) → StateFits m (after_event m ev (action_of ev) (after_entries m (run_start m) before)).state → Then (legs_with s.now ev legs) (after_event m ev (action_of ev) (after_entries m (run_start m) before)).state
+    by_event : (ev : Event) → IsNextEvent m s ev (event_action ev) → StateFits m (after_event m ev (event_action ev) (after_entries m (run_start m) before)).state → Then (legs_with s.now ev legs) (after_event m ev (event_action ev) (after_entries m (run_start m) before)).state
     by_event (event.Decide r unit due late reset) next later =
         decided_state r.0 unit next.0 (λ i pool c home at has. printed_unit r.0 i pool c (event.Decide r unit due late reset) next.1 home at has) later
     by_event (event.End n) next later = λ i pool at. w_later m.config.granularity s.now n.0 legs pool (next_later m s n.0 next.1) (each i pool at)
@@ -305,10 +305,10 @@ module _ (m : Machine) (checked : IsChecked m) where
     legged_entry =
         let parts = split_run m (run_start m) before (e ∷ []) run in
         let now : e.at.0 ≡ s.now = parts.1.0.moment in
-        let same : after_entries m (run_start m) (before ++ e ∷ []) ≡ after_event m e.event (action_of e.event) (after_entries m (run_start m) before) = after_entries-append m (run_start m) before e in
-        let later : StateFits m (after_event m e.event (action_of e.event) (after_entries m (run_start m) before)).state = subst (λ (x : Reached). StateFits m x.state) same (fits_in_runs m checked (before ++ e ∷ []) run) in
+        let same : after_entries m (run_start m) (before ++ e ∷ []) ≡ after_event m e.event (event_action e.event) (after_entries m (run_start m) before) = after_entries-append m (run_start m) before e in
+        let later : StateFits m (after_event m e.event (event_action e.event) (after_entries m (run_start m) before)).state = subst (λ (x : Reached). StateFits m x.state) same (fits_in_runs m checked (before ++ e ∷ []) run) in
         let next_legs : open_legs m (before ++ e ∷ []) ≡ legs_with s.now e.event legs = legs_push (replicate (cores m) None) before e ∙ ap (λ t. legs_with t e.event legs) now in
-        subst (λ (x : Reached). Then (open_legs m (before ++ e ∷ [])) x.state) (sym same) (subst (λ (l : Legs). Then l (after_event m e.event (action_of e.event) (after_entries m (run_start m) before)).state) (sym next_legs) (by_event e.event parts.1.0.event later))
+        subst (λ (x : Reached). Then (open_legs m (before ++ e ∷ [])) x.state) (sym same) (subst (λ (l : Legs). Then l (after_event m e.event (event_action e.event) (after_entries m (run_start m) before)).state) (sym next_legs) (by_event e.event parts.1.0.event later))
 
   legged_from : (entries before : List Entry) → IsRun m (before ++ entries) → AreLegged m before → AreLegged m (before ++ entries)
   legged_from [] before run each = subst (AreLegged m) (sym (push_none before)) each
@@ -348,7 +348,7 @@ module _ (m : Machine) (checked : IsChecked m) where
         (lasts.is ∙ ap (λ b. Some b) same, omega (arith, ints, most, past))
 
     pub rtds_left : (xs : List (Option (List RtdsUnit))) → pool.scheduler.records ≡ RtdsPool xs → (r : ℕ) (c : Resource) → at_place pool.resources r ≡ Some c → has_no_older_leg t (open_legs m before) r ≡ true
-        → (u : UnitId) (x : RtdsUnit) → c.cur ≡ Some u → rtds_unit xs u ≡ Some x → (x.burned ≡ Some t) × (0 < x.left)
+        → (u : UnitId) (x : RtdsUnit) → c.cur ≡ Some u → rtds_unit_at xs u ≡ Some x → (x.burned ≡ Some t) × (0 < x.left)
     rtds_left xs is r c at none u x cur has =
         let kept : Charged (OnSince (open_legs m before) pool.resources) t (RtdsPool xs) = subst (Charged (OnSince (open_legs m before) pool.resources) t) is legged.charged in
         let leg = begun_now r c u at cur none in
@@ -360,7 +360,7 @@ module _ (m : Machine) (checked : IsChecked m) where
 
     pub credit2_holds : (rs : Credit2Records) → pool.scheduler.records ≡ Credit2Pool rs → (r : ℕ) (c : Resource) → at_place pool.resources r ≡ Some c → has_no_older_leg t (open_legs m before) r ≡ true
         → (u : UnitId) (d : Credit2Domain) (x : Credit2Unit) → c.cur ≡ Some u → at_place rs.domains u.dom.0 ≡ Some d → slice_get d.units u.n ≡ Some x
-        → (x.burned ≡ Some t) × (int_lt x.held (pos 0) ≡ false) × (int_lt (pos (quota (credit2_total d.cap) (length d.units))) x.held ≡ false)
+        → (x.burned ≡ Some t) × (int_lt x.held (pos 0) ≡ false) × (int_lt (pos (budget_quota (cap_budget d.cap) (length d.units))) x.held ≡ false)
     credit2_holds rs is r c at none u d x cur at_d get =
         let kept : Charged (OnSince (open_legs m before) pool.resources) t (Credit2Pool rs) = subst (Charged (OnSince (open_legs m before) pool.resources) t) is legged.charged in
         let unit = kept u.dom.0 d at_d u.n x get in

@@ -22,15 +22,15 @@ use Rattle.sched_model.specs.declared.state.Records.{Records}
 use Rattle.sched_model.specs.declared.state.Records.TheVariants.{Credit2Pool, RtdsPool, ArincPool, NullPool}
 use Rattle.sched_model.specs.declared.action.Action.TheVariants.{Decide}
 use Rattle.sched_model.specs.Places.{at_place, put_at, clear_at, numbers_from}
-use Rattle.sched_model.specs.Opening.{fresh_core}
-use Rattle.sched_model.specs.EligibleUnits.{rtds_unit}
+use Rattle.sched_model.specs.Opening.{joined_core}
+use Rattle.sched_model.specs.EligibleUnits.{rtds_unit_at}
 use Rattle.sched_model.specs.Rtds as rtds
 use Rattle.sched_model.specs.Credit2 as credit2
 use Rattle.sched_model.specs.Policy as policy
-use Rattle.sched_model.specs.Policy.{rtds_record, changed_records, joined_records, parted_records}
-use Rattle.sched_model.specs.Commands.{set_rtds_unit}
+use Rattle.sched_model.specs.Policy.{unit_rtds_record, changed_records, joined_records, parted_records}
+use Rattle.sched_model.specs.Commands.{pool_with_rtds_unit}
 use Rattle.sched_model.specs.Pool as pools
-use Rattle.sched_model.specs.Pool.{change_core, change_domain, set_moving, set_params, without_domain, with_domain}
+use Rattle.sched_model.specs.Pool.{change_core, change_domain, pool_with_moving, changed_pool, pool_without_domain, pool_with_domain}
 use Rattle.sched_laws.specs.EachPlace.{EachAt}
 use Rattle.sched_laws.proofs.Events.{LikePlaces, like_was, like_map, like_change_at, like_of_domain, capped, KeepsCore, KeptByCommands, KeptByParts, commands_of, kept_withdrawn, kept_marked, kept_queue_units}
 use Rattle.sched_laws.proofs.EachPlace.{EachAt-put_at, EachAt-clear_at, read_put_at, read_clear_at, by_option}
@@ -65,8 +65,8 @@ charged_later On t next any past kept = tt
 had_like : (old new : List (Option Resource)) → LikePlaces SameCur old new → Stays new old
 had_like old new like r d u at own = (let was = like_was SameCur old new r d like at in (was.0, was.1, sym was.2 ∙ own))
 
-had_come : (r : ℕ) (ends : List Moment) (cores : List (Option Resource)) → Stays (put_at r (fresh_core ends) cores) cores
-had_come r ends cores k c u at own = elim (read_put_at r k (fresh_core ends) cores c at) [
+had_come : (r : ℕ) (ends : List Moment) (cores : List (Option Resource)) → Stays (put_at r (joined_core ends) cores) cores
+had_come r ends cores k c u at own = elim (read_put_at r k (joined_core ends) cores c at) [
   | inl was ↦ (c, was, own)
   | inr x ↦ absurd (let e : None ≡ Some u = ap (λ (z : Resource). z.cur) x.1 ∙ own in cc)
 ]
@@ -114,21 +114,21 @@ module _ (g t : ℕ) (legs : Legs) where
 
   -- the records
   module _ (On : ℕ → ℕ → ℕ → Type 0) where
-    r_replenish : (records : Records) (u : UnitId) → Sound records → Charged On t records → Charged On t (policy.replenish records t u)
+    r_replenish : (records : Records) (u : UnitId) → Sound records → Charged On t records → Charged On t (policy.records_after_replenish records t u)
     r_replenish (Credit2Pool records) u sound kept = kept
-    r_replenish (RtdsPool domains) u sound kept = rtds_change On t u (rtds.replenish t) domains (λ x at old b on. by_burned x b (some x at) x.burned refl (old b on)) kept
+    r_replenish (RtdsPool domains) u sound kept = rtds_change On t u (rtds.unit_after_replenish t) domains (λ x at old b on. by_burned x b (some x at) x.burned refl (old b on)) kept
       where
-        some : (x : RtdsUnit) → rtds_unit domains u ≡ Some x → 0 < x.next_budget
+        some : (x : RtdsUnit) → rtds_unit_at domains u ≡ Some x → 0 < x.next_budget
         some x at = by_option (λ (o : Option RtdsUnit). o ≡ Some x → 0 < x.next_budget) (at_place domains u.dom.0) _ _ (λ none e. absurd (cc)) (λ units at_d e. sound u.dom.0 units at_d u.n x e) at
 
         by_burned : (x : RtdsUnit) (b : ℕ) → 0 < x.next_budget → (o : Option ℕ) → x.burned ≡ o → Lasts b t o (pos x.left -ℤ pos 1)
-            → Lasts b t (rtds.renew t (elim o as (λ _. RtdsUnit) [ None ↦ x | Some from ↦ rtds.burn (t - from) (record x { burned = Some t }) ])).burned (pos (rtds.renew t (elim o as (λ _. RtdsUnit) [ None ↦ x | Some from ↦ rtds.burn (t - from) (record x { burned = Some t }) ])).left -ℤ pos 1)
+            → Lasts b t (rtds.renewed_unit t (elim o as (λ _. RtdsUnit) [ None ↦ x | Some from ↦ rtds.unit_after_span (t - from) (record x { burned = Some t }) ])).burned (pos (rtds.renewed_unit t (elim o as (λ _. RtdsUnit) [ None ↦ x | Some from ↦ rtds.unit_after_span (t - from) (record x { burned = Some t }) ])).left -ℤ pos 1)
         by_burned x b low None is lasts = absurd (let e = lasts.is in cc)
         by_burned x b low (Some from) is lasts = record { from = t; is = refl; since = (let s = lasts.since in let p = lasts.past in omega (arith, s, p)); past = omega arith; most = (let s = lasts.since in let p = lasts.past in omega (arith, ints, s, p, low)) }
     r_replenish (ArincPool records) u sound kept = tt
     r_replenish (NullPool places) u sound kept = tt
 
-    r_refill : (records : Records) (d : ℕ) → Charged On t records → Charged On t (policy.refill records t d)
+    r_refill : (records : Records) (d : ℕ) → Charged On t records → Charged On t (policy.records_after_refill records t d)
     r_refill (Credit2Pool records) d kept = c_refilled On t d records kept
     r_refill (RtdsPool domains) d kept = kept
     r_refill any d kept = tt
@@ -149,12 +149,12 @@ module _ (g t : ℕ) (legs : Legs) where
 
     r_joined : (records : Records) (params : DomParams) (d count : ℕ) → ((n b : ℕ) → On d n b → ⊥) → Charged On t records → Charged On t (joined_records records params d count t)
     r_joined (Credit2Pool records) (dom_params.Credit2 weight percent) d count off kept =
-        let x : Credit2Domain = credit2.fresh_domain weight percent count t in
+        let x : Credit2Domain = credit2.fresh_credit2_domain weight percent count t in
         let y : Credit2Unit = record { credit = pos start_credit; residual = 0; held = pos 0; burned = None } in
         EachAt-put_at (λ d. DomainKept (On d) t) d x records.domains kept (replicated (λ n (z : Credit2Unit). UnitKept (On d n) t _ z) count y (λ n. record { lasts = λ b on. absurd (off n b on); within = omega (arith, ints) }))
     r_joined (Credit2Pool records) params d count off kept = kept
     r_joined (RtdsPool domains) (dom_params.Rtds period budget extra) d count off kept =
-        EachAt-put_at (λ d (units : List RtdsUnit). EachItem (RtdsUnitKept On t d) units) d (rtds.fresh_units period.0 budget.0 extra count t) domains kept (replicated (RtdsUnitKept On t d) count _ (λ n b on. absurd (off n b on)))
+        EachAt-put_at (λ d (units : List RtdsUnit). EachItem (RtdsUnitKept On t d) units) d (rtds.fresh_rtds_units period.0 budget.0 extra count t) domains kept (replicated (RtdsUnitKept On t d) count _ (λ n b on. absurd (off n b on)))
     r_joined (RtdsPool domains) params d count off kept = kept
     r_joined records params d count off kept = tt
 
@@ -177,48 +177,48 @@ module _ (g t : ℕ) (legs : Legs) where
     cores = λ cores pool like. w_like cores pool (like_map KeepsCore SameCur pool.resources cores (λ c d keeps. keeps.cur) like);
     domains = λ d f pool count moving. w_same pool (change_domain d f pool) refl refl;
     queues = λ u pool runs. w_same pool (pools.queue_unit u pool) refl refl;
-    dequeues = λ d pool. w_same pool (record pool { scheduler = policy.dequeue_domain d pool.scheduler }) refl refl;
+    dequeues = λ d pool. w_same pool (record pool { scheduler = policy.scheduler_without_queued d pool.scheduler }) refl refl;
     decides = λ r c pool at on. absurd (on.0 r refl);
     saves = λ r c u pool at is on. w_change_core r pools.saved_core pool (λ x. refl);
-    replenishes = λ u pool on w. w_records pool (pools.with_records (policy.replenish pool.scheduler.records t u) pool) refl (r_replenish (OnSince legs pool.resources) pool.scheduler.records u on.1 w.charged) w;
+    replenishes = λ u pool on w. w_records pool (pools.with_records (policy.records_after_replenish pool.scheduler.records t u) pool) refl (r_replenish (OnSince legs pool.resources) pool.scheduler.records u on.1 w.charged) w;
     dues = λ r u x old pool on is. w_change_core r (pools.due_within t x.budget) pool (λ c. refl);
-    refills = λ d pool on w. w_records pool (pools.with_records (policy.refill pool.scheduler.records t d) pool) refl (r_refill (OnSince legs pool.resources) pool.scheduler.records d w.charged) w;
+    refills = λ d pool on w. w_records pool (pools.with_records (policy.records_after_refill pool.scheduler.records t d) pool) refl (r_refill (OnSince legs pool.resources) pool.scheduler.records d w.charged) w;
   }
 
   pub w_commands : KeptByCommands g IsLegged
   w_commands = commands_of w_parts
 
   -- the commands
-  pub w_set_moving : (d i : ℕ) (pool : Pool) → IsLegged pool → IsLegged (set_moving d i pool)
+  pub w_set_moving : (d i : ℕ) (pool : Pool) → IsLegged pool → IsLegged (pool_with_moving d i pool)
   w_set_moving d i pool w =
       let next : Pool = change_domain d (λ x. record x { moving = Some (pool_number i) }) pool in
       kept_withdrawn w_commands d next (w_same pool next refl refl w)
 
-  pub w_set_params : (change : ParamChange) (pool : Pool) → Sound pool.scheduler.records → IsLegged pool → IsLegged (set_params change t pool)
+  pub w_set_params : (change : ParamChange) (pool : Pool) → Sound pool.scheduler.records → IsLegged pool → IsLegged (changed_pool change t pool)
   w_set_params change pool sound w =
-      let next : Pool = record pool { scheduler = policy.set_params change t pool.scheduler } in
+      let next : Pool = record pool { scheduler = policy.changed_scheduler change t pool.scheduler } in
       kept_marked w_commands t (λ d now. w_like _ now (like_of_domain SameCur d (capped t) now.resources (λ c. refl) (λ c. refl))) change next (w_records pool next refl (r_changed (OnSince legs pool.resources) pool.scheduler.records change sound w.charged) w)
 
-  pub w_set_rtds_unit : (period budget : Option Span) (extra : Option Bool) (u : UnitId) (pool : Pool) → IsLegged pool → IsLegged (set_rtds_unit t period budget extra u pool)
+  pub w_set_rtds_unit : (period budget : Option Span) (extra : Option Bool) (u : UnitId) (pool : Pool) → IsLegged pool → IsLegged (pool_with_rtds_unit t period budget extra u pool)
   w_set_rtds_unit period budget extra u pool w =
-      by_option IsLegged (rtds_record pool.scheduler.records u) _ _ (λ is. w)
+      by_option IsLegged (unit_rtds_record pool.scheduler.records u) _ _ (λ is. w)
       (λ x is. (
       let change : ParamChange = changes.«Unit» u (unwrap_or period (span x.next_period)) (unwrap_or budget (span x.next_budget)) (unwrap_or extra x.next_extra) in
-      w_records pool (record pool { scheduler = policy.set_params change t pool.scheduler }) refl
+      w_records pool (record pool { scheduler = policy.changed_scheduler change t pool.scheduler }) refl
       (r_unit (OnSince legs pool.resources) pool.scheduler.records u (unwrap_or period (span x.next_period)) (unwrap_or budget (span x.next_budget)) (unwrap_or extra x.next_extra) w.charged) w))
 
-  pub w_with_domain : (d : ℕ) (domain : Domain) (params : DomParams) (pool : Pool) → ((r : ℕ) (c : Resource) (u : UnitId) → at_place pool.resources r ≡ Some c → c.cur ≡ Some u → u.dom.0 ≢ d) → IsLegged pool → IsLegged (with_domain g t d domain params pool)
+  pub w_with_domain : (d : ℕ) (domain : Domain) (params : DomParams) (pool : Pool) → ((r : ℕ) (c : Resource) (u : UnitId) → at_place pool.resources r ≡ Some c → c.cur ≡ Some u → u.dom.0 ≢ d) → IsLegged pool → IsLegged (pool_with_domain g t d domain params pool)
   w_with_domain d domain params pool other w =
-      let count : ℕ = pools.unit_count g domain in
-      let next : Pool = record pool { domains = put_at d domain pool.domains; scheduler = policy.join d count params t pool.scheduler } in
+      let count : ℕ = pools.domain_unit_count g domain in
+      let next : Pool = record pool { domains = put_at d domain pool.domains; scheduler = policy.joined_scheduler d count params t pool.scheduler } in
       kept_queue_units w_commands d (numbers_from 0 count) next
       (w_records pool next refl (r_joined (OnSince legs pool.resources) pool.scheduler.records params d count (λ n b on. other on.0 on.1 (record { dom = domain_number d; n = n }) on.2 on.3 refl) w.charged) w)
 
-  pub w_without_domain : (d : ℕ) (pool : Pool) → IsLegged pool → IsLegged (without_domain d pool)
-  w_without_domain d pool w = w_records pool (without_domain d pool) refl (r_parted (OnSince legs pool.resources) pool.scheduler.records d w.charged) w
+  pub w_without_domain : (d : ℕ) (pool : Pool) → IsLegged pool → IsLegged (pool_without_domain d pool)
+  w_without_domain d pool w = w_records pool (pool_without_domain d pool) refl (r_parted (OnSince legs pool.resources) pool.scheduler.records d w.charged) w
 
-  pub w_core_comes : (r : ℕ) (ends : List Moment) (pool : Pool) → IsLegged pool → IsLegged (record pool { resources = put_at r (fresh_core ends) pool.resources })
-  w_core_comes r ends pool w = w_had pool (put_at r (fresh_core ends) pool.resources) (had_come r ends pool.resources) w
+  pub w_core_comes : (r : ℕ) (ends : List Moment) (pool : Pool) → IsLegged pool → IsLegged (record pool { resources = put_at r (joined_core ends) pool.resources })
+  w_core_comes r ends pool w = w_had pool (put_at r (joined_core ends) pool.resources) (had_come r ends pool.resources) w
 
   pub w_core_goes : (r : ℕ) (pool : Pool) → IsLegged pool → IsLegged (record pool { resources = clear_at r pool.resources })
   w_core_goes r pool w = w_had pool (clear_at r pool.resources) (had_gone r pool.resources) w

@@ -7,9 +7,9 @@ use Rattle.sched_model.specs.declared.state.Pool.{Pool}
 use Rattle.sched_model.specs.declared.state.Resource.{Resource}
 use Rattle.sched_model.specs.declared.state.Scheduler.{Scheduler}
 use Rattle.sched_model.specs.Places.{at_place, change_each}
-use Rattle.sched_model.specs.State.{is_runnable}
-use Rattle.sched_model.specs.Policy.{better_waits}
-use Rattle.sched_model.specs.Pool.{home_cores, reconsidered_core, settled_pool}
+use Rattle.sched_model.specs.State.{may_unit_run}
+use Rattle.sched_model.specs.Policy.{has_better_waiting}
+use Rattle.sched_model.specs.Pool.{pool_core_set, reconsidered_core, settled_pool}
 use Rattle.sched_model.proofs.PlaceLemmas.{cores_from-change_each}
 use Rattle.sched_laws.proofs.EachPlace.{at_place-change_each, by_cond}
 use Rattle.moment_laws.specs.Stretches.{units}
@@ -34,7 +34,7 @@ turns_reconsidered g weight most t home runs scheduler r c =
     (λ is. ap (λ k. weight * (k + k + one_if (is_some c.saving)) + meeting g ((c.pending || better) || (not c.leaving && better)) c) (by_cur c.cur is) ∙ ap (λ b. weight * changes_left most runs t home scheduler r c + meeting g b c) (stirred_again c.pending c.leaving better is))
   where
     better : Bool
-    better = better_waits c.cur c.since.0 t r home scheduler
+    better = has_better_waiting c.cur c.since.0 t r home scheduler
 
     by_cur : (cur : Option UnitId) → c.leaving ≡ false
         → elim cur as (λ _. ℕ) [ None ↦ cond (c.leaving && (c.pending || better)) (suc most) most | Some u ↦ cond (not c.leaving && is_secure runs t home scheduler r u) (ahead scheduler.records u) (suc most) ]
@@ -45,14 +45,14 @@ turns_reconsidered g weight most t home runs scheduler r c =
 -- nor of what is left to a core of a pool whose cores are looked at
 pub turns_settled : (m : Machine) (t : ℕ) (pool : Pool) (r : ℕ) → turns_in m t (settled_pool t pool) r ≡ turns_in m t pool r
 turns_settled m t pool r =
-    let home : ℕ = home_cores pool in
+    let home : ℕ = pool_core_set pool in
     let f : ℕ → Resource → Resource = reconsidered_core t home pool.scheduler in
     let at : at_place (change_each 0 f pool.resources) r ≡ option_map (f r) (at_place pool.resources r) = (let e : 0 + r ≡ r = omega arith in rw e at (at_place-change_each 0 r f pool.resources)) in
-    ap (λ h. elim (at_place (change_each 0 f pool.resources) r) as (λ _. ℕ) [ None ↦ 0 | Some c ↦ turns m.config.granularity (weight_of m) (units m) (is_runnable m.config.granularity pool) t h pool.scheduler r c ]) (cores_from-change_each 0 0 f pool.resources)
-    ∙ ap (λ (o : Option Resource). elim o as (λ _. ℕ) [ None ↦ 0 | Some c ↦ turns m.config.granularity (weight_of m) (units m) (is_runnable m.config.granularity pool) t home pool.scheduler r c ]) at
+    ap (λ h. elim (at_place (change_each 0 f pool.resources) r) as (λ _. ℕ) [ None ↦ 0 | Some c ↦ turns m.config.granularity (weight_of m) (units m) (may_unit_run m.config.granularity pool) t h pool.scheduler r c ]) (cores_from-change_each 0 0 f pool.resources)
+    ∙ ap (λ (o : Option Resource). elim o as (λ _. ℕ) [ None ↦ 0 | Some c ↦ turns m.config.granularity (weight_of m) (units m) (may_unit_run m.config.granularity pool) t home pool.scheduler r c ]) at
     ∙ by_core (at_place pool.resources r)
   where
-    by_core : (o : Option Resource) → elim (option_map (reconsidered_core t (home_cores pool) pool.scheduler r) o) as (λ _. ℕ) [ None ↦ 0 | Some c ↦ turns m.config.granularity (weight_of m) (units m) (is_runnable m.config.granularity pool) t (home_cores pool) pool.scheduler r c ]
-        ≡ elim o as (λ _. ℕ) [ None ↦ 0 | Some c ↦ turns m.config.granularity (weight_of m) (units m) (is_runnable m.config.granularity pool) t (home_cores pool) pool.scheduler r c ]
+    by_core : (o : Option Resource) → elim (option_map (reconsidered_core t (pool_core_set pool) pool.scheduler r) o) as (λ _. ℕ) [ None ↦ 0 | Some c ↦ turns m.config.granularity (weight_of m) (units m) (may_unit_run m.config.granularity pool) t (pool_core_set pool) pool.scheduler r c ]
+        ≡ elim o as (λ _. ℕ) [ None ↦ 0 | Some c ↦ turns m.config.granularity (weight_of m) (units m) (may_unit_run m.config.granularity pool) t (pool_core_set pool) pool.scheduler r c ]
     by_core None = refl
-    by_core (Some c) = turns_reconsidered m.config.granularity (weight_of m) (units m) t (home_cores pool) (is_runnable m.config.granularity pool) pool.scheduler r c
+    by_core (Some c) = turns_reconsidered m.config.granularity (weight_of m) (units m) t (pool_core_set pool) (may_unit_run m.config.granularity pool) pool.scheduler r c

@@ -8,9 +8,9 @@ use Rattle.sched_model.specs.declared.event.Event.TheVariants as event
 use Rattle.sched_model.specs.declared.event.Entry.{Entry}
 use Rattle.sched_model.specs.declared.machine.Machine.{Machine}
 use Rattle.sched_model.specs.declared.state.State.{State}
-use Rattle.sched_model.specs.Machine.{first_enabled, moments, next_moment, next_in_horizon}
+use Rattle.sched_model.specs.Machine.{first_enabled_action, moments, least_later_moment, next_in_horizon}
 use Rattle.sched_model.specs.Places.{least_number}
-use Rattle.sched_model.specs.Runs.{Reached, IsRun, IsRunFrom, IsNextEvent, action_of, run_start, after_entry, after_entries, after_event}
+use Rattle.sched_model.specs.Runs.{Reached, IsRun, IsRunFrom, IsNextEvent, event_action, run_start, after_entry, after_entries, after_event}
 use Rattle.sched_base.proofs.Bools.{and_left, and_right}
 use Rattle.sched_laws.proofs.EachPlace.{by_option, by_cond}
 use Rattle.sched_laws.proofs.StillWaits.{split_run}
@@ -36,18 +36,18 @@ least_passes test (n ∷ ns) k is =
 
 strictly_later : (m : Machine) (s : State) (next : ℕ) → next_in_horizon m s ≡ Some next → s.now < next
 strictly_later m s next is =
-    by_option (λ (o : Option ℕ). o ≡ Some next → s.now < next) (next_moment m s s.now) None (λ k. cond (nat_le k m.config.horizon.0) (Some k) None)
+    by_option (λ (o : Option ℕ). o ≡ Some next → s.now < next) (least_later_moment m s s.now) None (λ k. cond (nat_le k m.config.horizon.0) (Some k) None)
     (λ none e. absurd (cc))
     (λ k found. by_cond (λ (o : Option ℕ). o ≡ Some next → s.now < next) (nat_le k m.config.horizon.0) (Some k) None
     (λ within e. (
     let same : k ≡ next = cc in
-    let later = ltb-true s.now k (and_left (nat_lt s.now k) _ (least_passes (λ l. nat_lt s.now l && is_some (first_enabled m s l)) (moments m s) k found)) in
+    let later = ltb-true s.now k (and_left (nat_lt s.now k) _ (least_passes (λ l. nat_lt s.now l && is_some (first_enabled_action m s l)) (moments m s) k found)) in
     omega (arith, later, same)))
     (λ past e. absurd (cc))) is
 
 module _ (m : Machine) (t : ℕ) where
   -- after an entry that ends the moment none of the moment comes
-  past : (ev : Event) (from : Reached) (entries : List Entry) → is_end ev ≡ true → IsNextEvent m from.state ev (action_of ev) → from.state.now ≡ t → IsRunFrom m (after_event m ev (action_of ev) from) entries → are_at t entries ≡ true → entries ≡ []
+  past : (ev : Event) (from : Reached) (entries : List Entry) → is_end ev ≡ true → IsNextEvent m from.state ev (event_action ev) → from.state.now ≡ t → IsRunFrom m (after_event m ev (event_action ev) from) entries → are_at t entries ≡ true → entries ≡ []
   past (event.End n) from [] is next now run at = refl
   past (event.End n) from (e ∷ entries) is next now run at =
       absurd (

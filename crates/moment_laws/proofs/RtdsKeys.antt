@@ -7,8 +7,8 @@ use Rattle.sched_model.specs.declared.state.RtdsUnit.{RtdsUnit}
 use Rattle.sched_model.specs.declared.state.Scheduler.{Scheduler}
 use Rattle.sched_model.specs.declared.state.Records.TheVariants.{RtdsPool}
 use Rattle.sched_model.specs.Places.{at_place, change_at, change_item}
-use Rattle.sched_model.specs.EligibleUnits.{rtds_unit, passes}
-use Rattle.sched_model.specs.Rtds.{is_before, unit_before, budget_left, foremost_unit, change_unit}
+use Rattle.sched_model.specs.EligibleUnits.{rtds_unit_at, may_have_core}
+use Rattle.sched_model.specs.Rtds.{is_record_before, is_unit_before, unit_left_budget, first_of_units, change_unit}
 use Rattle.sched_base.proofs.Bools.{clash}
 use Rattle.sched_laws.specs.Counts.{total}
 use Rattle.sched_laws.proofs.EachPlace.{by_option}
@@ -48,7 +48,7 @@ at_map [] (suc d) = refl
 at_map (x ∷ domains) zero = refl
 at_map (x ∷ domains) (suc d) = at_map domains d
 
-pub key_is : (domains : List (Option (List RtdsUnit))) (u : UnitId) → key_at (keys domains) u ≡ option_map key (rtds_unit domains u)
+pub key_is : (domains : List (Option (List RtdsUnit))) (u : UnitId) → key_at (keys domains) u ≡ option_map key (rtds_unit_at domains u)
 key_is domains u =
     ap (λ (o : Option (List Key)). elim o as (λ _. Option Key) [ None ↦ None | Some xs ↦ slice_get xs u.n ]) (at_map domains u.dom.0) ∙ by_units (at_place domains u.dom.0)
   where
@@ -60,13 +60,13 @@ key_is domains u =
 abbrev pub both_before : Option Key → Option Key → Bool
 both_before a b = elim a as (λ _. Bool) [ None ↦ false | Some x ↦ elim b as (λ _. Bool) [ None ↦ false | Some y ↦ key_before x y ] ]
 
-before_options : (a b : Option RtdsUnit) → elim a as (λ _. Bool) [ None ↦ false | Some x ↦ elim b as (λ _. Bool) [ None ↦ false | Some y ↦ is_before x y ] ] ≡ both_before (option_map key a) (option_map key b)
+before_options : (a b : Option RtdsUnit) → elim a as (λ _. Bool) [ None ↦ false | Some x ↦ elim b as (λ _. Bool) [ None ↦ false | Some y ↦ is_record_before x y ] ] ≡ both_before (option_map key a) (option_map key b)
 before_options None b = refl
 before_options (Some x) None = refl
 before_options (Some x) (Some y) = refl
 
-pub before_is : (domains : List (Option (List RtdsUnit))) (u w : UnitId) → unit_before domains u w ≡ both_before (key_at (keys domains) u) (key_at (keys domains) w)
-before_is domains u w = before_options (rtds_unit domains u) (rtds_unit domains w) ∙ ap (λ a. both_before a (option_map key (rtds_unit domains w))) (sym (key_is domains u)) ∙ ap (λ b. both_before (key_at (keys domains) u) b) (sym (key_is domains w))
+pub before_is : (domains : List (Option (List RtdsUnit))) (u w : UnitId) → is_unit_before domains u w ≡ both_before (key_at (keys domains) u) (key_at (keys domains) w)
+before_is domains u w = before_options (rtds_unit_at domains u) (rtds_unit_at domains w) ∙ ap (λ a. both_before a (option_map key (rtds_unit_at domains w))) (sym (key_is domains u)) ∙ ap (λ b. both_before (key_at (keys domains) u) b) (sym (key_is domains w))
 
 abbrev left_of : Option Key → ℕ
 left_of o = elim o as (λ _. ℕ) [ None ↦ 0 | Some k ↦ k.2 ]
@@ -75,15 +75,15 @@ left_option : (o : Option RtdsUnit) → elim o as (λ _. ℕ) [ None ↦ 0 | Som
 left_option None = refl
 left_option (Some x) = refl
 
-pub left_is : (domains : List (Option (List RtdsUnit))) (u : UnitId) → budget_left domains u ≡ left_of (key_at (keys domains) u)
-left_is domains u = left_option (rtds_unit domains u) ∙ ap left_of (sym (key_is domains u))
+pub left_is : (domains : List (Option (List RtdsUnit))) (u : UnitId) → unit_left_budget domains u ≡ left_of (key_at (keys domains) u)
+left_is domains u = left_option (rtds_unit_at domains u) ∙ ap left_of (sym (key_is domains u))
 
 passes_option : (o : Option RtdsUnit) → elim o as (λ _. Bool) [ None ↦ false | Some x ↦ nat_lt 0 x.left ] ≡ nat_lt 0 (elim o as (λ _. ℕ) [ None ↦ 0 | Some x ↦ x.left ])
 passes_option None = refl
 passes_option (Some x) = refl
 
-pub passes_is : (domains : List (Option (List RtdsUnit))) (scheduler : Scheduler) (home r t : ℕ) (u : UnitId) → passes (RtdsPool domains) scheduler home r t u ≡ nat_lt 0 (budget_left domains u)
-passes_is domains scheduler home r t u = passes_option (rtds_unit domains u)
+pub passes_is : (domains : List (Option (List RtdsUnit))) (scheduler : Scheduler) (home r t : ℕ) (u : UnitId) → may_have_core (RtdsPool domains) scheduler home r t u ≡ nat_lt 0 (unit_left_budget domains u)
+passes_is domains scheduler home r t u = passes_option (rtds_unit_at domains u)
 
 -- how many keys come before one
 abbrev pub keys_before : Option Key → Keys → ℕ
@@ -92,7 +92,7 @@ keys_before o ks = total (λ (xs : List Key). how_many (λ k. both_before (Some 
 how_many_keys : (o : Option RtdsUnit) (xs : List RtdsUnit) → how_many (goes_before o) xs ≡ how_many (λ k. both_before (Some k) (option_map key o)) (map key xs)
 how_many_keys o [] = refl
 how_many_keys None (x ∷ xs) = ap (λ n. 0 + n) (how_many_keys None xs)
-how_many_keys (Some y) (x ∷ xs) = ap (λ n. one_if (is_before x y) + n) (how_many_keys (Some y) xs)
+how_many_keys (Some y) (x ∷ xs) = ap (λ n. one_if (is_record_before x y) + n) (how_many_keys (Some y) xs)
 
 ahead_keys : (o : Option RtdsUnit) (domains : List (Option (List RtdsUnit))) → total (λ (xs : List RtdsUnit). how_many (goes_before o) xs) domains ≡ keys_before (option_map key o) (keys domains)
 ahead_keys o [] = refl
@@ -100,7 +100,7 @@ ahead_keys o (None ∷ domains) = ahead_keys o domains
 ahead_keys o (Some xs ∷ domains) = ap (λ n. n + total (λ (ys : List RtdsUnit). how_many (goes_before o) ys) domains) (how_many_keys o xs) ∙ ap (λ n. how_many (λ k. both_before (Some k) (option_map key o)) (map key xs) + n) (ahead_keys o domains)
 
 pub ahead_is : (domains : List (Option (List RtdsUnit))) (u : UnitId) → ahead (RtdsPool domains) u ≡ keys_before (key_at (keys domains) u) (keys domains)
-ahead_is domains u = ahead_keys (rtds_unit domains u) domains ∙ ap (λ o. keys_before o (keys domains)) (sym (key_is domains u))
+ahead_is domains u = ahead_keys (rtds_unit_at domains u) domains ∙ ap (λ o. keys_before o (keys domains)) (sym (key_is domains u))
 
 -- a change of a unit that keeps its key
 map_change_item : (n : ℕ) (f : RtdsUnit → RtdsUnit) (xs : List RtdsUnit) → ((x : RtdsUnit) → slice_get xs n ≡ Some x → key (f x) ≡ key x) → map key (change_item n f xs) ≡ map key xs
@@ -114,7 +114,7 @@ keys_change_at zero f (None ∷ domains) same = refl
 keys_change_at zero f (Some xs ∷ domains) same = ap (λ ks. Some ks ∷ keys domains) (same xs refl)
 keys_change_at (suc d) f (o ∷ domains) same = ap (λ ks. option_map (λ (xs : List RtdsUnit). map key xs) o ∷ ks) (keys_change_at d f domains same)
 
-pub keys_change : (u : UnitId) (f : RtdsUnit → RtdsUnit) (domains : List (Option (List RtdsUnit))) → ((x : RtdsUnit) → rtds_unit domains u ≡ Some x → key (f x) ≡ key x) → keys (change_unit u f domains) ≡ keys domains
+pub keys_change : (u : UnitId) (f : RtdsUnit → RtdsUnit) (domains : List (Option (List RtdsUnit))) → ((x : RtdsUnit) → rtds_unit_at domains u ≡ Some x → key (f x) ≡ key x) → keys (change_unit u f domains) ≡ keys domains
 keys_change u f domains same =
     keys_change_at u.dom.0 (change_item u.n f) domains (λ xs at. map_change_item u.n f xs (λ x has. same x (ap (λ (o : Option (List RtdsUnit)). elim o as (λ _. Option RtdsUnit) [ None ↦ None | Some units ↦ slice_get units u.n ]) at ∙ has)))
 
@@ -170,12 +170,12 @@ pub before_most : (o : Option Key) (ks : Keys) → keys_before o ks ≤ total (�
 before_most o ks = total_no_more (λ (xs : List Key). how_many (λ x. both_before (Some x) o) xs) (λ (xs : List Key). how_many (λ x. true) xs) (λ xs. count_no_more (λ x. both_before (Some x) o) (λ x. true) (λ x y. refl) xs) ks
 
 -- which of two units comes before the other is an order, and the foremost unit is the best one by it
-pub before_order : (domains : List (Option (List RtdsUnit))) → IsOrder (unit_before domains)
+pub before_order : (domains : List (Option (List RtdsUnit))) → IsOrder (is_unit_before domains)
 before_order domains = record {
   irrefl = λ u. before_is domains u u ∙ both_irrefl (key_at (keys domains) u);
   trans = λ a b e x y. before_is domains a e ∙ both_trans (key_at (keys domains) a) (key_at (keys domains) b) (key_at (keys domains) e) (sym (before_is domains a b) ∙ x) (sym (before_is domains b e) ∙ y);
   least = λ a b e x y. before_is domains e a ∙ both_least (key_at (keys domains) a) (key_at (keys domains) b) (key_at (keys domains) e) (sym (before_is domains a b) ∙ x) (sym (before_is domains e b) ∙ y);
 }
 
-pub foremost_scan : (domains : List (Option (List RtdsUnit))) → IsScan (unit_before domains) (foremost_unit domains)
+pub foremost_scan : (domains : List (Option (List RtdsUnit))) → IsScan (is_unit_before domains) (first_of_units domains)
 foremost_scan domains = record { ends = λ best. refl; starts = λ u xs. refl; goes_on = λ b u xs. refl }

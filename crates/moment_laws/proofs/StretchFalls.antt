@@ -14,10 +14,10 @@ use Rattle.sched_model.specs.declared.action.Action.{Action}
 use Rattle.sched_model.specs.declared.action.Action.TheVariants.{Arrive, Decide, Leave, Save}
 use Rattle.sched_model.specs.Places.{at_place, test_at}
 use Rattle.sched_model.specs.Pool as pools
-use Rattle.sched_model.specs.Pool.{enabled_in, after_in, settled_pool, is_held, is_open, first_up}
-use Rattle.sched_model.specs.Actions.{home_of, home_of_core, change_pool}
+use Rattle.sched_model.specs.Pool.{enabled_in, after_in, settled_pool, is_held_back, is_gathering, is_first_processor_up}
+use Rattle.sched_model.specs.Actions.{home_pool_of_action, home_pool_of_core, change_pool}
 use Rattle.sched_model.specs.Machine.{enabled_at_home, after_at_home}
-use Rattle.sched_model.specs.Runs.{Reached, IsRun, IsNextEvent, action_of, run_start, after_event, after_entries}
+use Rattle.sched_model.specs.Runs.{Reached, IsRun, IsNextEvent, event_action, run_start, after_event, after_entries}
 use Rattle.sched_model.specs.CheckedMachine.{IsChecked}
 use Rattle.sched_model.proofs.RunLemmas.{after_entries-append}
 use Rattle.sched_laws.specs.StateLaws.{state_after}
@@ -56,12 +56,12 @@ module _ (m : Machine) (checked : IsChecked m) (well : DecidesWellNext m) where
     run_before = (split_run m (run_start m) before (e ∷ []) run).0
 
     -- an event of the core r
-    act_falls : (action : Action) (r : ℕ) → home_of g s action ≡ home_of_core s r → enabled_at_home m s s.now action ≡ true
+    act_falls : (action : Action) (r : ℕ) → home_pool_of_action g s action ≡ home_pool_of_core s r → enabled_at_home m s s.now action ≡ true
         → ((i : ℕ) (pool : Pool) → at_place s.pools i ≡ Some pool → enabled_in g s.now pool action ≡ true → (c : Resource) × (at_place pool.resources r ≡ Some c) × Falls m s.now pool (after_in g s.now pool action) r)
         → turns_left m (after_at_home g s s.now action) + 1 ≤ turns_left m s
-    act_falls action r home on falls_in = by_home (home_of_core s r) refl
+    act_falls action r home on falls_in = by_home (home_pool_of_core s r) refl
       where
-        by_home : (o : Option ℕ) → home_of_core s r ≡ o → turns_left m (after_at_home g s s.now action) + 1 ≤ turns_left m s
+        by_home : (o : Option ℕ) → home_pool_of_core s r ≡ o → turns_left m (after_at_home g s s.now action) + 1 ≤ turns_left m s
         by_home None is = absurd (let a : enabled_at_home m s s.now action ≡ false = ap (λ (o : Option ℕ). elim o as (λ _. Bool) [ None ↦ false | Some i ↦ test_at s.pools i (λ pool. enabled_in g s.now pool action) ]) (home ∙ is) in cc)
         by_home (Some i) is =
             let a : enabled_at_home m s s.now action ≡ test_at s.pools i (λ pool. enabled_in g s.now pool action) = ap (λ (o : Option ℕ). elim o as (λ _. Bool) [ None ↦ false | Some j ↦ test_at s.pools j (λ pool. enabled_in g s.now pool action) ]) (home ∙ is) in
@@ -79,14 +79,14 @@ module _ (m : Machine) (checked : IsChecked m) (well : DecidesWellNext m) where
     some : 0 < g
     some = some_processor m.config.granularity checked.config.granularity
 
-    decide_in : (r i : ℕ) (pool : Pool) → action_of e.event ≡ Some (Decide (core r)) → at_place s.pools i ≡ Some pool → enabled_in g s.now pool (Decide (core r)) ≡ true → (c : Resource) × (at_place pool.resources r ≡ Some c) × Falls m s.now pool (after_in g s.now pool (Decide (core r))) r
+    decide_in : (r i : ℕ) (pool : Pool) → event_action e.event ≡ Some (Decide (core r)) → at_place s.pools i ≡ Some pool → enabled_in g s.now pool (Decide (core r)) ≡ true → (c : Resource) × (at_place pool.resources r ≡ Some c) × Falls m s.now pool (after_in g s.now pool (Decide (core r))) r
     decide_in r i pool is at on =
-        let there = some-test_at pool.resources r (λ (x : Resource). list_all is_held x.processors && is_open x && first_up s.now x) on in
+        let there = some-test_at pool.resources r (λ (x : Resource). list_all is_held_back x.processors && is_gathering x && is_first_processor_up s.now x) on in
         let c : Resource = there.0 in
-        let two : (list_all is_held c.processors && is_open c) ≡ true = and_left (list_all is_held c.processors && is_open c) (first_up s.now c) there.2 in
-        let all = and_left (list_all is_held c.processors) (is_open c) two in
-        let gathers = and_right (list_all is_held c.processors) (is_open c) two in
-        let any = some_if_all s.now c.processors (and_right (list_all is_held c.processors && is_open c) (first_up s.now c) there.2) all in
+        let two : (list_all is_held_back c.processors && is_gathering c) ≡ true = and_left (list_all is_held_back c.processors && is_gathering c) (is_first_processor_up s.now c) there.2 in
+        let all = and_left (list_all is_held_back c.processors) (is_gathering c) two in
+        let gathers = and_right (list_all is_held_back c.processors) (is_gathering c) two in
+        let any = some_if_all s.now c.processors (and_right (list_all is_held_back c.processors && is_gathering c) (is_first_processor_up s.now c) there.2) all in
         let pending = ((core_is_sound m checked before run_before i pool at r c there.1).gathers gathers any).0 in (
           c,
           there.1,
@@ -94,22 +94,22 @@ module _ (m : Machine) (checked : IsChecked m) (well : DecidesWellNext m) where
               (decide_falls m s.now pool r c pending gathers all (whole i pool at r c there.1) there.1 (well before e run goes_on i r pool c is at there.1)),
         )
 
-    by_event : (ev : Event) → e.event ≡ ev → is_in_stretch e.at.0 (open_legs m before) ev ≡ true → IsNextEvent m s ev (action_of ev) → turns_left m (after_event m ev (action_of ev) (after_entries m (run_start m) before)).state + 1 ≤ turns_left m s
+    by_event : (ev : Event) → e.event ≡ ev → is_in_stretch e.at.0 (open_legs m before) ev ≡ true → IsNextEvent m s ev (event_action ev) → turns_left m (after_event m ev (event_action ev) (after_entries m (run_start m) before)).state + 1 ≤ turns_left m s
     by_event (event.Arrive p) is on next =
         act_falls (Arrive p) (p.0 / g) refl next.0
         (λ i pool at may. (
-        let there = some-test_at pool.resources (p.0 / g) (λ (c : Resource). c.pending && is_open c && is_none c.saving) (and_left (test_at pool.resources (p.0 / g) (λ (c : Resource). c.pending && is_open c && is_none c.saving)) _ may) in
+        let there = some-test_at pool.resources (p.0 / g) (λ (c : Resource). c.pending && is_gathering c && is_none c.saving) (and_left (test_at pool.resources (p.0 / g) (λ (c : Resource). c.pending && is_gathering c && is_none c.saving)) _ may) in
         (there.0, there.1, arrive_falls m some s.now pool (whole i pool at) p.0 may)))
-    by_event (event.Decide r unit due late reset) is on next = act_falls (Decide r) r.0 refl next.0 (λ i pool at may. decide_in r.0 i pool (ap action_of is) at may)
+    by_event (event.Decide r unit due late reset) is on next = act_falls (Decide r) r.0 refl next.0 (λ i pool at may. decide_in r.0 i pool (ap event_action is) at may)
     by_event (event.Leave p v) is on next =
         act_falls (Leave p) (p.0 / g) refl next.0
         (λ i pool at may. (
-        let there = some-test_at pool.resources (p.0 / g) (λ (c : Resource). not (is_open c)) (and_left (test_at pool.resources (p.0 / g) (λ (c : Resource). not (is_open c))) _ may) in
+        let there = some-test_at pool.resources (p.0 / g) (λ (c : Resource). not (is_gathering c)) (and_left (test_at pool.resources (p.0 / g) (λ (c : Resource). not (is_gathering c))) _ may) in
         (there.0, there.1, leave_falls m some s.now pool (whole i pool at) p.0 may)))
     by_event (event.Save r u queued) is on next =
         act_falls (Save r) r.0 refl next.0
         (λ i pool at may. (
-        let there = some-test_at pool.resources r.0 (λ (x : Resource). is_some x.saving && not (list_any is_held x.processors) && first_up s.now x) may in
+        let there = some-test_at pool.resources r.0 (λ (x : Resource). is_some x.saving && not (list_any is_held_back x.processors) && is_first_processor_up s.now x) may in
         (there.0, there.1, save_falls m some s.now pool (whole i pool at) r.0 may)))
     by_event other is on next = absurd (cc)
 

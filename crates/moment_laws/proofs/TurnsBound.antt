@@ -9,9 +9,9 @@ use Rattle.sched_model.specs.declared.state.Pool.{Pool}
 use Rattle.sched_model.specs.declared.state.Resource.{Resource}
 use Rattle.sched_model.specs.declared.state.Scheduler.{Scheduler}
 use Rattle.sched_model.specs.Places.{at_place}
-use Rattle.sched_model.specs.State.{is_runnable}
-use Rattle.sched_model.specs.Pool.{home_cores, is_held, is_open}
-use Rattle.sched_model.specs.Actions.{home_of_core}
+use Rattle.sched_model.specs.State.{may_unit_run}
+use Rattle.sched_model.specs.Pool.{pool_core_set, is_held_back, is_gathering}
+use Rattle.sched_model.specs.Actions.{home_pool_of_core}
 use Rattle.sched_laws.specs.EachPlace.{EachPlace}
 use Rattle.moment_laws.specs.Stretches.{cores, units, most_in_stretch}
 use Rattle.moment_laws.specs.Turns.{how_many, turns, turns_in, turns_left, core_turns, weight_of, chances, changes_left, meeting, is_stirred, is_secure, ahead, IsBounded, most_turns}
@@ -34,9 +34,9 @@ chances_most most t home runs scheduler r c few = by_cur c.cur
 meeting_bound : (g : ℕ) (stirred : Bool) (c : Resource) → length c.processors ≡ g → meeting g stirred c ≤ 3 * g + 1
 meeting_bound g stirred c whole =
     let n : ℕ = 2 * g + 1 in
-    let h = how_many_most is_held c.processors in
-    elim (is_open c) as (λ b. elim b as (λ _. ℕ) [ true ↦ cond stirred (n - how_many is_held c.processors) 0 | false ↦ how_many is_held c.processors + cond stirred n 0 ] ≤ 3 * g + 1) [
-      | true ↦ (let a = cond_most stirred (n - how_many is_held c.processors) in omega (arith, a, h, whole))
+    let h = how_many_most is_held_back c.processors in
+    elim (is_gathering c) as (λ b. elim b as (λ _. ℕ) [ true ↦ cond stirred (n - how_many is_held_back c.processors) 0 | false ↦ how_many is_held_back c.processors + cond stirred n 0 ] ≤ 3 * g + 1) [
+      | true ↦ (let a = cond_most stirred (n - how_many is_held_back c.processors) in omega (arith, a, h, whole))
       | false ↦ (let a = cond_most stirred n in omega (arith, a, h, whole))
     ]
 
@@ -48,13 +48,13 @@ turns_most : (m : Machine) (t : ℕ) (pool : Pool) → IsBounded m pool → (r :
 turns_most m t pool bounded r = by_core (at_place pool.resources r) refl
   where
     by_core : (o : Option Resource) → at_place pool.resources r ≡ o → turns_in m t pool r ≤ core_most m.config.granularity (weight_of m) (units m)
-    by_core None is = (let e : turns_in m t pool r ≡ 0 = ap (λ (o : Option Resource). elim o as (λ _. ℕ) [ None ↦ 0 | Some c ↦ turns m.config.granularity (weight_of m) (units m) (is_runnable m.config.granularity pool) t (home_cores pool) pool.scheduler r c ]) is in omega (arith, e))
+    by_core None is = (let e : turns_in m t pool r ≡ 0 = ap (λ (o : Option Resource). elim o as (λ _. ℕ) [ None ↦ 0 | Some c ↦ turns m.config.granularity (weight_of m) (units m) (may_unit_run m.config.granularity pool) t (pool_core_set pool) pool.scheduler r c ]) is in omega (arith, e))
     by_core (Some c) is =
-        let e = ap (λ (o : Option Resource). elim o as (λ _. ℕ) [ None ↦ 0 | Some x ↦ turns m.config.granularity (weight_of m) (units m) (is_runnable m.config.granularity pool) t (home_cores pool) pool.scheduler r x ]) is in
-        let a = chances_most (units m) t (home_cores pool) (is_runnable m.config.granularity pool) pool.scheduler r c bounded.few in
+        let e = ap (λ (o : Option Resource). elim o as (λ _. ℕ) [ None ↦ 0 | Some x ↦ turns m.config.granularity (weight_of m) (units m) (may_unit_run m.config.granularity pool) t (pool_core_set pool) pool.scheduler r x ]) is in
+        let a = chances_most (units m) t (pool_core_set pool) (may_unit_run m.config.granularity pool) pool.scheduler r c bounded.few in
         let s = one_if_most (is_some c.saving) in
-        let b = meeting_bound m.config.granularity (is_stirred t (home_cores pool) pool.scheduler r c) c (bounded.whole r c is) in
-        let w = weighs_no_more (weight_of m) (changes_left (units m) (is_runnable m.config.granularity pool) t (home_cores pool) pool.scheduler r c) (2 * units m + 3) (omega (arith, a, s)) in
+        let b = meeting_bound m.config.granularity (is_stirred t (pool_core_set pool) pool.scheduler r c) c (bounded.whole r c is) in
+        let w = weighs_no_more (weight_of m) (changes_left (units m) (may_unit_run m.config.granularity pool) t (pool_core_set pool) pool.scheduler r c) (2 * units m + 3) (omega (arith, a, s)) in
         omega (arith, e, b, w)
 
 square : (n : ℕ) → n ≤ n * n
@@ -76,12 +76,12 @@ most_turns_fit m = fits m.config.granularity (cores m) (units m)
 pub turns_left_most : (m : Machine) (s : State) → EachPlace (IsBounded m) s.pools → turns_left m s ≤ most_turns m
 turns_left_most m s bounded =
     let core : ℕ = core_most m.config.granularity (weight_of m) (units m) in
-    let a = total_at_most (cores m) core (core_turns m s) (λ r low. by_home r (home_of_core s r) refl) in
+    let a = total_at_most (cores m) core (core_turns m s) (λ r low. by_home r (home_pool_of_core s r) refl) in
     let b = many_is (cores m) core in
     let turned : core * cores m ≡ cores m * core = grind arith in
     omega (arith, a, b, turned)
   where
-    by_home : (r : ℕ) (o : Option ℕ) → home_of_core s r ≡ o → core_turns m s r ≤ core_most m.config.granularity (weight_of m) (units m)
+    by_home : (r : ℕ) (o : Option ℕ) → home_pool_of_core s r ≡ o → core_turns m s r ≤ core_most m.config.granularity (weight_of m) (units m)
     by_home r None is = (let e : core_turns m s r ≡ 0 = ap (λ (o : Option ℕ). elim o as (λ _. ℕ) [ None ↦ 0 | Some i ↦ elim (at_place s.pools i) as (λ _. ℕ) [ None ↦ 0 | Some pool ↦ turns_in m s.now pool r ] ]) is in omega (arith, e))
     by_home r (Some i) is =
         let e = ap (λ (o : Option ℕ). elim o as (λ _. ℕ) [ None ↦ 0 | Some j ↦ elim (at_place s.pools j) as (λ _. ℕ) [ None ↦ 0 | Some pool ↦ turns_in m s.now pool r ] ]) is in

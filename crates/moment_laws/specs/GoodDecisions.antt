@@ -10,11 +10,11 @@ use Rattle.sched_model.specs.declared.state.Pool.{Pool}
 use Rattle.sched_model.specs.declared.state.Resource.{Resource}
 use Rattle.sched_model.specs.declared.state.Scheduler.{Scheduler}
 use Rattle.sched_model.specs.EligibleUnits.{Decision}
-use Rattle.sched_model.specs.Places.{at_place, has_unit}
-use Rattle.sched_model.specs.Policy.{decision_of, after_decision, better_waits}
-use Rattle.sched_model.specs.Pool.{home_cores, ask_of, decided_core}
-use Rattle.sched_model.specs.Runs.{IsRun, action_of}
-use Rattle.sched_model.specs.State.{is_runnable}
+use Rattle.sched_model.specs.Places.{at_place, has_listed_unit}
+use Rattle.sched_model.specs.Policy.{decision_of, after_decision, has_better_waiting}
+use Rattle.sched_model.specs.Pool.{pool_core_set, core_ask, decided_core}
+use Rattle.sched_model.specs.Runs.{IsRun, event_action}
+use Rattle.sched_model.specs.State.{may_unit_run}
 use Rattle.sched_laws.specs.StateLaws.{state_after}
 use Rattle.moment_laws.specs.Stretches.{units, open_legs, is_in_stretch}
 use Rattle.moment_laws.specs.Turns.{is_secure, ahead}
@@ -23,15 +23,15 @@ use Rattle.moment_laws.specs.Turns.{is_secure, ahead}
 -- a unit, the machine has one at least
 pub record Standing (m : Machine) (pool : Pool) (r : ℕ) (c : Resource) : Type 0 where
   pub at : at_place pool.resources r ≡ Some c
-  pub waits : AllByRecursion (λ u. is_runnable m.config.granularity pool u ≡ true) pool.scheduler.queue
-  pub own : (u : UnitId) → c.cur ≡ Some u → (has_unit pool.scheduler.queue u ≡ false) × (1 ≤ units m)
-  pub others : (k : ℕ) (x : Resource) (u : UnitId) → k ≢ r → at_place pool.resources k ≡ Some x → x.cur ≡ Some u → (has_unit pool.scheduler.queue u ≡ false) × (c.cur ≡ Some u → ⊥)
-  pub counted : (u : UnitId) → has_unit pool.scheduler.queue u ≡ true → 1 ≤ units m
+  pub waits : AllByRecursion (λ u. may_unit_run m.config.granularity pool u ≡ true) pool.scheduler.queue
+  pub own : (u : UnitId) → c.cur ≡ Some u → (has_listed_unit pool.scheduler.queue u ≡ false) × (1 ≤ units m)
+  pub others : (k : ℕ) (x : Resource) (u : UnitId) → k ≢ r → at_place pool.resources k ≡ Some x → x.cur ≡ Some u → (has_listed_unit pool.scheduler.queue u ≡ false) × (c.cur ≡ Some u → ⊥)
+  pub counted : (u : UnitId) → has_listed_unit pool.scheduler.queue u ≡ true → 1 ≤ units m
 
 module _ (m : Machine) (t : ℕ) (pool : Pool) (r : ℕ) (c : Resource) where
   -- what the core decides, and its scheduler and itself then
   abbrev pub decision : Decision
-  decision = decision_of (ask_of m.config.granularity t pool r c) pool.scheduler
+  decision = decision_of (core_ask m.config.granularity t pool r c) pool.scheduler
 
   abbrev pub next : Scheduler
   next = after_decision decision pool.scheduler
@@ -41,18 +41,18 @@ module _ (m : Machine) (t : ℕ) (pool : Pool) (r : ℕ) (c : Resource) where
 
   -- whether the unit on the core is secure before the decision, and after it
   abbrev pub Secure : ℕ → UnitId → Type 0
-  Secure k u = is_secure (is_runnable m.config.granularity pool) t (home_cores pool) pool.scheduler k u ≡ true
+  Secure k u = is_secure (may_unit_run m.config.granularity pool) t (pool_core_set pool) pool.scheduler k u ≡ true
 
   abbrev pub SecureThen : ℕ → UnitId → Type 0
-  SecureThen k u = is_secure (is_runnable m.config.granularity pool) t (home_cores pool) next k u ≡ true
+  SecureThen k u = is_secure (may_unit_run m.config.granularity pool) t (pool_core_set pool) next k u ≡ true
 
   -- whether a unit that waits is better than the core's
   abbrev pub waits : ℕ → Resource → Scheduler → Bool
-  waits k x scheduler = better_waits x.cur x.since.0 t k (home_cores pool) scheduler
+  waits k x scheduler = has_better_waiting x.cur x.since.0 t k (pool_core_set pool) scheduler
 
   -- no core is stirred by the decision
   pub record StirsNone : Type 0 where
-    pub own : better_waits c.cur c.since.0 t r (home_cores pool) next ≡ false
+    pub own : has_better_waiting c.cur c.since.0 t r (pool_core_set pool) next ≡ false
     pub others : (k : ℕ) (x : Resource) → k ≢ r → at_place pool.resources k ≡ Some x → waits k x next ≡ true → waits k x pool.scheduler ≡ true
 
   -- a good decision. A core that is leaving decides for none. Else the chosen unit is secure then, and not all units run before it; a secure unit of
@@ -71,4 +71,4 @@ module _ (m : Machine) (t : ℕ) (pool : Pool) (r : ℕ) (c : Resource) where
 abbrev pub DecidesWellNext : Machine → Type 0
 DecidesWellNext m =
     (before : List Entry) (e : Entry) → IsRun m (before ++ e ∷ []) → is_in_stretch e.at.0 (open_legs m before) e.event ≡ true → (i r : ℕ) (pool : Pool) (c : Resource)
-    → action_of e.event ≡ Some (Decide (core r)) → at_place (state_after m before).pools i ≡ Some pool → at_place pool.resources r ≡ Some c → DecidesWell m (state_after m before).now pool r c
+    → event_action e.event ≡ Some (Decide (core r)) → at_place (state_after m before).pools i ≡ Some pool → at_place pool.resources r ≡ Some c → DecidesWell m (state_after m before).now pool r c

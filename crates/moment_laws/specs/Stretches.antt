@@ -6,12 +6,12 @@ use Rattle.sched_model.specs.declared.event.Event.TheVariants as event
 use Rattle.sched_model.specs.declared.event.Entry.{Entry}
 use Rattle.sched_model.specs.declared.machine.Machine.{Machine}
 use Rattle.sched_model.specs.Places.{at_place, put_at, clear_at}
-use Rattle.sched_model.specs.Opening.{core_count}
+use Rattle.sched_model.specs.Opening.{machine_core_count}
 use Rattle.sched_model.specs.Actions.{units_from}
 
 -- how many cores, units, vCPUs and domains the machine has
 abbrev pub cores : Machine → ℕ
-cores m = core_count m.config
+cores m = machine_core_count m.config
 
 abbrev pub units : Machine → ℕ
 units m = length (units_from m.config.granularity 0 m.config.domains)

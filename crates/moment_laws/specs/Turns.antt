@@ -12,14 +12,14 @@ use Rattle.sched_model.specs.declared.state.Credit2Domain.{Credit2Domain}
 use Rattle.sched_model.specs.declared.state.Credit2Unit.{Credit2Unit}
 use Rattle.sched_model.specs.declared.state.RtdsUnit.{RtdsUnit}
 use Rattle.sched_model.specs.Places.{at_place, is_unit}
-use Rattle.sched_model.specs.State.{is_runnable}
-use Rattle.sched_model.specs.Actions.{home_of_core}
-use Rattle.sched_model.specs.Arinc.{window_unit}
-use Rattle.sched_model.specs.Credit2.{credit_of}
-use Rattle.sched_model.specs.Rtds.{is_before, budget_left}
-use Rattle.sched_model.specs.EligibleUnits.{is_allowed, is_placed, rtds_unit}
-use Rattle.sched_model.specs.Policy.{better_waits}
-use Rattle.sched_model.specs.Pool.{home_cores, is_held, is_open}
+use Rattle.sched_model.specs.State.{may_unit_run}
+use Rattle.sched_model.specs.Actions.{home_pool_of_core}
+use Rattle.sched_model.specs.Arinc.{current_window_unit}
+use Rattle.sched_model.specs.Credit2.{unit_credit}
+use Rattle.sched_model.specs.Rtds.{is_record_before, unit_left_budget}
+use Rattle.sched_model.specs.EligibleUnits.{is_unit_allowed, is_unit_placed, rtds_unit_at}
+use Rattle.sched_model.specs.Policy.{has_better_waiting}
+use Rattle.sched_model.specs.Pool.{pool_core_set, is_held_back, is_gathering}
 use Rattle.sched_laws.specs.EachPlace.{EachPlace}
 use Rattle.sched_laws.specs.Counts.{total, total_over}
 use Rattle.moment_laws.specs.Stretches.{cores, units}
@@ -32,7 +32,7 @@ how_many test (x ∷ xs) = one_if (test x) + how_many test xs
 
 -- whether the core is to decide, or would be marked to as soon as it is looked at
 abbrev pub is_stirred : ℕ → ℕ → Scheduler → ℕ → Resource → Bool
-is_stirred t home scheduler r c = c.pending || (not c.leaving && better_waits c.cur c.since.0 t r home scheduler)
+is_stirred t home scheduler r c = c.pending || (not c.leaving && has_better_waiting c.cur c.since.0 t r home scheduler)
 
 -- whether the unit holds something of its domain's budget, and the domain does not owe anything
 abbrev pub is_funded : Credit2Domain → ℕ → Bool
@@ -41,23 +41,23 @@ is_funded d n = d.cap == 0 || (not (int_lt d.budget (pos 0)) && elim (slice_get 
 -- whether the scheduler's own rule leaves the unit on the core, unless a better one waits
 abbrev pub keeps : Records → Scheduler → ℕ → ℕ → ℕ → UnitId → Bool
 keeps (Credit2Pool records) scheduler home r t u = elim (at_place records.domains u.dom.0) as (λ _. Bool) [ None ↦ false | Some d ↦ is_funded d u.n ]
-keeps (RtdsPool domains) scheduler home r t u = nat_lt 0 (budget_left domains u)
-keeps (ArincPool records) scheduler home r t u = is_unit (window_unit records t) u
-keeps (NullPool kept) scheduler home r t u = is_placed scheduler kept home r u
+keeps (RtdsPool domains) scheduler home r t u = nat_lt 0 (unit_left_budget domains u)
+keeps (ArincPool records) scheduler home r t u = is_unit (current_window_unit records t) u
+keeps (NullPool kept) scheduler home r t u = is_unit_placed scheduler kept home r u
 
 -- whether the unit on the core is secure: it is one of those that run, and only a better one can take the core from it
 abbrev pub is_secure : (UnitId → Bool) → ℕ → ℕ → Scheduler → ℕ → UnitId → Bool
-is_secure runs t home scheduler r u = runs u && is_allowed scheduler home r u && keeps scheduler.records scheduler home r t u
+is_secure runs t home scheduler r u = runs u && is_unit_allowed scheduler home r u && keeps scheduler.records scheduler home r t u
 
 -- whether the first unit's record runs before the second's
 abbrev pub goes_before : Option RtdsUnit → RtdsUnit → Bool
 goes_before None x = false
-goes_before (Some y) x = is_before x y
+goes_before (Some y) x = is_record_before x y
 
 -- how many units of the pool run before this one
 abbrev pub ahead : Records → UnitId → ℕ
-ahead (Credit2Pool records) u = total (λ (d : Credit2Domain). how_many (λ (x : Credit2Unit). int_lt (credit_of records u) x.credit) d.units) records.domains
-ahead (RtdsPool domains) u = total (λ (xs : List RtdsUnit). how_many (goes_before (rtds_unit domains u)) xs) domains
+ahead (Credit2Pool records) u = total (λ (d : Credit2Domain). how_many (λ (x : Credit2Unit). int_lt (unit_credit records u) x.credit) d.units) records.domains
+ahead (RtdsPool domains) u = total (λ (xs : List RtdsUnit). how_many (goes_before (rtds_unit_at domains u)) xs) domains
 ahead (ArincPool records) u = 0
 ahead (NullPool kept) u = 0
 
@@ -73,9 +73,9 @@ chances most runs t home scheduler r c =
 -- how many entries the core has before it, until it has decided once more if it is to, and all its processors have left
 abbrev pub meeting : ℕ → Bool → Resource → ℕ
 meeting g stirred c =
-    elim (is_open c) as (λ _. ℕ) [
-      | true ↦ cond stirred (2 * g + 1 - how_many is_held c.processors) 0
-      | false ↦ how_many is_held c.processors + cond stirred (2 * g + 1) 0
+    elim (is_gathering c) as (λ _. ℕ) [
+      | true ↦ cond stirred (2 * g + 1 - how_many is_held_back c.processors) 0
+      | false ↦ how_many is_held_back c.processors + cond stirred (2 * g + 1) 0
     ]
 
 -- the core's changes and saves to come: each change may bring a save of its own
@@ -93,11 +93,11 @@ weight_of m = (2 * m.config.granularity + 1) * cores m + 1
 -- the turns of a core of the pool
 abbrev pub turns_in : Machine → ℕ → Pool → ℕ → ℕ
 turns_in m t pool r =
-    elim (at_place pool.resources r) as (λ _. ℕ) [ None ↦ 0 | Some c ↦ turns m.config.granularity (weight_of m) (units m) (is_runnable m.config.granularity pool) t (home_cores pool) pool.scheduler r c ]
+    elim (at_place pool.resources r) as (λ _. ℕ) [ None ↦ 0 | Some c ↦ turns m.config.granularity (weight_of m) (units m) (may_unit_run m.config.granularity pool) t (pool_core_set pool) pool.scheduler r c ]
 
 -- the turns of a core of the machine, and of all its cores
 abbrev pub core_turns : Machine → State → ℕ → ℕ
-core_turns m s r = elim (home_of_core s r) as (λ _. ℕ) [ None ↦ 0 | Some i ↦ elim (at_place s.pools i) as (λ _. ℕ) [ None ↦ 0 | Some pool ↦ turns_in m s.now pool r ] ]
+core_turns m s r = elim (home_pool_of_core s r) as (λ _. ℕ) [ None ↦ 0 | Some i ↦ elim (at_place s.pools i) as (λ _. ℕ) [ None ↦ 0 | Some pool ↦ turns_in m s.now pool r ] ]
 
 abbrev pub turns_left : Machine → State → ℕ
 turns_left m s = total_over (cores m) (core_turns m s)

@@ -10,8 +10,8 @@ use Rattle.sched_model.specs.declared.event.Event.{Event}
 use Rattle.sched_model.specs.declared.event.Event.TheVariants as event
 use Rattle.sched_model.specs.declared.machine.Machine.{Machine}
 use Rattle.sched_model.specs.declared.state.State.{State}
-use Rattle.sched_model.specs.Machine.{event_of, first_enabled}
-use Rattle.sched_model.specs.Runs.{IsNext, IsRun, IsWholeRun, Reached, action_of, run_start}
+use Rattle.sched_model.specs.Machine.{event_of, first_enabled_action}
+use Rattle.sched_model.specs.Runs.{IsNext, IsRun, IsWholeRun, Reached, event_action, run_start}
 use Rattle.sched_model.proofs.RunLemmas.{action_of-event_of, after_entries-append}
 use Rattle.run_laws.specs.RunLaws.{IsOrderedFrom, IsOrderedRun, TakesFirst}
 use Rattle.journal_core.specs.Books.{Chronicle}
@@ -23,7 +23,7 @@ use Rattle.hall.specs.declared.turns.Turn.TheVariants as turn
 use Rattle.hall.specs.Seats.{Seated, Stays}
 use Rattle.hall.specs.Turns.{Added, HasFinished, IsTurn, Looked, TurnsFull}
 use Rattle.pcpu_threads.specs.declared.ends.RunEnd.TheVariants as run_end
-use Rattle.pcpu_threads.specs.Ends.{Closes, IsEnded, book_seen, end_of}
+use Rattle.pcpu_threads.specs.Ends.{Closes, IsEnded, book_seen, run_end_after}
 use Rattle.run_laws.proofs.Ordered.{IsOrderedFrom-append}
 
 -- a beginning of a beginning
@@ -36,18 +36,18 @@ stays_refl s = record { table = refl; input = refl; limit = refl; shares = refl 
 pub stays_trans : (a b c : Seated) → Stays a b → Stays b c → Stays a c
 stays_trans a b c u v = record { table = v.table ∙ u.table; input = v.input ∙ u.input; limit = v.limit ∙ u.limit; shares = v.shares ∙ u.shares }
 
-ordered-more : (m : Machine) (h longer : List Entry) (e : Entry) → IsOrderedRun m h → IsRun m longer → longer ≡ h ++ e ∷ [] → TakesFirst m (state_at m h) (action_of e.event) → IsOrderedRun m longer
+ordered-more : (m : Machine) (h longer : List Entry) (e : Entry) → IsOrderedRun m h → IsRun m longer → longer ≡ h ++ e ∷ [] → TakesFirst m (state_at m h) (event_action e.event) → IsOrderedRun m longer
 ordered-more m h longer e ordered run is first = record { run = run; ordered = subst (IsOrderedFrom m (run_start m)) (sym is) (IsOrderedFrom-append m (run_start m) h e ordered.ordered first) }
 
 -- the event of the first action takes it
-takes-first : (m : Machine) (s : State) (action : Action) (e : Event) → first_enabled m s s.now ≡ Some action → e ≡ event_of m s s.now action → TakesFirst m s (action_of e)
-takes-first m s action e first is = subst (TakesFirst m s) (sym (ap action_of is ∙ action_of-event_of m s s.now action)) first
+takes-first : (m : Machine) (s : State) (action : Action) (e : Event) → first_enabled_action m s s.now ≡ Some action → e ≡ event_of m s s.now action → TakesFirst m s (event_action e)
+takes-first m s action e first is = subst (TakesFirst m s) (sym (ap event_action is ∙ action_of-event_of m s s.now action)) first
 
 module _ (old new : Seated) (stays : Stays old new) where
   abbrev m : Machine
   m = old.sitting.view.input
 
-  closes-added : (place : _) (e : Event) (before : List Entry) → Added place e before old.sitting.view new.sitting.view → TakesFirst m (state_at m before) (action_of e) → Closes old new
+  closes-added : (place : _) (e : Event) (before : List Entry) → Added place e before old.sitting.view new.sitting.view → TakesFirst m (state_at m before) (event_action e) → Closes old new
   closes-added place e before added first =
       let entry : Entry = record { at = moment (state_at m before).now; event = e } in
       record {
@@ -103,13 +103,13 @@ module _ (old new : Seated) (stays : Stays old new) where
     };
   }
 
-  ended-turn : (t : Turn) → IsTurn t old new → IfSome (end_of (Ok t)) (λ end. IsEnded end (book_seen new.sitting.view))
+  ended-turn : (t : Turn) → IsTurn t old new → IfSome (run_end_after (Ok t)) (λ end. IsEnded end (book_seen new.sitting.view))
   ended-turn (turn.Stepped place e) told = tt
   ended-turn (turn.Closed place next) told = tt
   ended-turn (turn.Finished place) told = ended-finished place told.0 told.1
   ended-turn (turn.Over place) told = ended-whole told.0.whole
 
-  pub ended-said : (r : Result Turn Full) → IfOk r (λ t. IsTurn t old new) → IfErr r (λ full. TurnsFull full old.sitting.view new.sitting.view) → IfSome (end_of r) (λ end. IsEnded end (book_seen new.sitting.view))
+  pub ended-said : (r : Result Turn Full) → IfOk r (λ t. IsTurn t old new) → IfErr r (λ full. TurnsFull full old.sitting.view new.sitting.view) → IfSome (run_end_after r) (λ end. IsEnded end (book_seen new.sitting.view))
   ended-said (Ok t) turns full = ended-turn t turns
   ended-said (Err f) turns full = ended-full f full
 

@@ -25,7 +25,7 @@ use Rattle.hall.specs.declared.turns.Waits.TheVariants as waits
 use Rattle.hall.specs.Seats.{Seated, Stays}
 use Rattle.hall.specs.Turns.{ActsFull, HasActed, HasNothing, IsDone, IsWaiting, Looked}
 use Rattle.pcpu_threads.specs.Workers.{ActsAs, HasWorked, IsEventOf, IsFirstOfCore, IsFor, Rested, SeesSame, Works}
-use Rattle.sched_model.specs.Runs.{entry_of}
+use Rattle.sched_model.specs.Runs.{action_entry}
 use Rattle.pcpu_threads.proofs.Turning.{prefix_trans, stays_refl, stays_trans}
 
 -- one of the actors has the entry at the place
@@ -39,7 +39,7 @@ longer m actor h more place begins e = record {
   action = e.action;
   place_is = e.place_is;
   first = e.first;
-  begins = prefix_trans (e.before ++ entry_of m (state_at m e.before) e.action ∷ []) h more e.begins begins;
+  begins = prefix_trans (e.before ++ action_entry m (state_at m e.before) e.action ∷ []) h more e.begins begins;
 }
 
 module _ (mine : Actor → Type 0) where
@@ -94,13 +94,13 @@ module _ (actor : Actor) (old new : Seated) (stays : Stays old new) where
       let m = old.sitting.view.input in
       let s = state_at m before in
       let entry_at : Event → Entry = λ x. record { at = moment s.now; event = x } in
-      let front : new.sitting.view.front ≡ before ++ entry_of m s acted.action ∷ [] = acted.added.front ∙ ap (λ (x : Event). before ++ entry_at x ∷ []) acted.is_event in
+      let front : new.sitting.view.front ≡ before ++ action_entry m s acted.action ∷ [] = acted.added.front ∙ ap (λ (x : Event). before ++ entry_at x ∷ []) acted.is_event in
       let is : IsEventOf m actor new.sitting.view.front place = record {
         before = before;
         action = acted.action;
         place_is = acted.added.place_is;
         first = acted.first;
-        begins = subst (IsPrefix (before ++ entry_of m s acted.action ∷ [])) (sym front) (prefix_refl (before ++ entry_of m s acted.action ∷ []));
+        begins = subst (IsPrefix (before ++ action_entry m s acted.action ∷ [])) (sym front) (prefix_refl (before ++ action_entry m s acted.action ∷ []));
       } in
       let P : ℕ → Type 0 = IsOne (λ a. a ≡ actor) m new.sitting.view.front in
       record {

@@ -15,12 +15,12 @@ use Rattle.pcpu_threads.specs.declared.ends.RunEnd.{RunEnd}
 use Rattle.pcpu_threads.specs.declared.ends.RunEnd.TheVariants as run_end
 
 -- how an answer of `close_or_step` ends the run, or none where the run goes on
-abbrev pub end_of : Result Turn Full → Option RunEnd
-end_of (Ok (turn.Stepped place e)) = None
-end_of (Ok (turn.Closed place next)) = None
-end_of (Ok (turn.Finished place)) = Some run_end.Finished
-end_of (Ok (turn.Over place)) = Some run_end.Finished
-end_of (Err full) = Some run_end.Full
+abbrev pub run_end_after : Result Turn Full → Option RunEnd
+run_end_after (Ok (turn.Stepped place e)) = None
+run_end_after (Ok (turn.Closed place next)) = None
+run_end_after (Ok (turn.Finished place)) = Some run_end.Finished
+run_end_after (Ok (turn.Over place)) = Some run_end.Finished
+run_end_after (Err full) = Some run_end.Full
 
 -- the book is full, and a further entry may come next
 pub record IsCutOff (b : Chronicle) : Type 0 where

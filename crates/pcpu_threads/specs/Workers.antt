@@ -14,7 +14,7 @@ use Rattle.composition_laws.specs.Actors.{first_by}
 use Rattle.lock_moves.specs.Sets.{LockTable, sitting_with}
 use Rattle.lock_moves.specs.SeatSight.{after_join, newcomer}
 use Rattle.hall.specs.Seats.{IsOf, Seated, Stays}
-use Rattle.sched_model.specs.Runs.{entry_of}
+use Rattle.sched_model.specs.Runs.{action_entry}
 
 -- how many of the 1024 parts the seats have together
 abbrev pub shares_of : List Seated → ℕ
@@ -63,7 +63,7 @@ pub record IsEventOf (m : Machine) (actor : Actor) (h : List Entry) (place : ℕ
   pub action : Action
   pub place_is : place ≡ length before
   pub first : first_by m (state_at m before) actor ≡ Some action
-  pub begins : IsPrefix (before ++ entry_of m (state_at m before) action ∷ []) h
+  pub begins : IsPrefix (before ++ action_entry m (state_at m before) action ∷ []) h
 
 -- the seat has seen no more of the history, and has added nothing
 pub record SeesSame (old new : Seated) : Type 0 where

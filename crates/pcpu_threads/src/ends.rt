@@ -1,7 +1,7 @@
 //! How a run ends.
 
 ghost use Rattle.std.specs.Prelude.{◌≡◌};
-ghost use Rattle.pcpu_threads.specs.Ends.{end_of as end_of_spec};
+ghost use Rattle.pcpu_threads.specs.Ends.{run_end_after};
 
 use hall::{Full, Turn};
 
@@ -16,7 +16,7 @@ pub enum RunEnd {
 
 /// How a turn of the whole machine ends the run, or none where the run goes on.
 pub(crate) fn end_of(turn: Result<Turn, Full>) -> Option<RunEnd>
-    ensures { result ≡ end_of_spec turn }
+    ensures { result ≡ run_end_after turn }
 {
     match turn {
         Ok(Turn::Stepped { .. } | Turn::Closed { .. }) => None,

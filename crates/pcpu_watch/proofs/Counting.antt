@@ -8,16 +8,16 @@ use Rattle.std.proofs.lemmas.Option.{slice_get_within}
 use Rattle.sched_model.specs.declared.event.Entry.{Entry}
 use Rattle.sched_report.specs.Stays.{last_moment}
 use Rattle.sched_report.proofs.Grows.{last-more}
-use Rattle.pcpu_watch.specs.Moments.{ends, opens_next, moment_of}
+use Rattle.pcpu_watch.specs.Moments.{ends, has_next_moment, moment_of}
 
 -- 1 where the entry ends its moment
 abbrev one : Entry → ℕ
-one e = cond (opens_next e.event) 1 0
+one e = cond (has_next_moment e.event) 1 0
 
 pub ends-append : (xs ys : List Entry) → ends (xs ++ ys) ≡ ends xs + ends ys
 ends-append xs ys = sum_by-append one xs ys
 
-pub ends-more : (xs : List Entry) (e : Entry) → ends (xs ++ e ∷ []) ≡ ends xs + cond (opens_next e.event) 1 0
+pub ends-more : (xs : List Entry) (e : Entry) → ends (xs ++ e ∷ []) ≡ ends xs + cond (has_next_moment e.event) 1 0
 ends-more xs e = sum_by_push one xs e
 
 module _ {A : Type 0} where

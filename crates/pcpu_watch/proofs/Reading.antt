@@ -9,7 +9,7 @@ use Rattle.sched_model.specs.declared.event.Entry.{Entry}
 use Rattle.status_board.specs.Boards.{Desk}
 use Rattle.lock_moves.specs.Sets.{LockTable}
 use Rattle.pcpu_watch.specs.declared.scribe.Scribe.{Scribe}
-use Rattle.pcpu_watch.specs.Moments.{ends, opens_next, moment_of}
+use Rattle.pcpu_watch.specs.Moments.{ends, has_next_moment, moment_of}
 use Rattle.pcpu_watch.specs.Scribes.{CanWrite, IsScribe, ReadsBefore, ReadsOn, SeesOn, front_of, has_read}
 use Rattle.pcpu_watch.proofs.Counting.{ends-more, moment-same, one-more, part-same}
 
@@ -25,7 +25,7 @@ module _ (hall : LockTable) (s t : Scribe) (on : SeesOn hall s.seat t.seat) (is 
   part = part-same (seen_by s) (seen_by t) s.read on.begins is.inside
 
   -- one entry more was read and given to the writer
-  module _ (e : Entry) (at : slice_get (seen_by t) s.read ≡ Some e) (few : s.read < 2 ^ 32) (read : t.read ≡ s.read + 1) (ended : t.ended ≡ s.ended + cond (opens_next e.event) 1 0)
+  module _ (e : Entry) (at : slice_get (seen_by t) s.read ≡ Some e) (few : s.read < 2 ^ 32) (read : t.read ≡ s.read + 1) (ended : t.ended ≡ s.ended + cond (has_next_moment e.event) 1 0)
       (writer : t.writer ≡ record s.writer { pending = s.writer.pending ++ e ∷ [] }) where
     more : has_read t ≡ has_read s ++ e ∷ []
     more = ap (λ (n : ℕ). take n (seen_by t)) next ∙ one-more (seen_by t) s.read e at ∙ ap (λ (h : List Entry). h ++ e ∷ []) part
@@ -39,7 +39,7 @@ module _ (hall : LockTable) (s t : Scribe) (on : SeesOn hall s.seat t.seat) (is 
       inside = omega (arith, read, slice_get_within (seen_by t) s.read e at);
       few = omega (arith, read, few);
       given = ap (λ (w : Desk). w.published ++ w.pending) writer ∙ sym (append_assoc s.writer.published s.writer.pending (e ∷ [])) ∙ ap (λ (h : List Entry). h ++ e ∷ []) is.given ∙ sym more;
-      ended = ended ∙ ap (λ (n : ℕ). n + cond (opens_next e.event) 1 0) is.ended ∙ sym (ap ends more ∙ ends-more (has_read s) e);
+      ended = ended ∙ ap (λ (n : ℕ). n + cond (has_next_moment e.event) 1 0) is.ended ∙ sym (ap ends more ∙ ends-more (has_read s) e);
     }
 
     goes-on : IsPrefix (has_read s) (has_read t)
@@ -49,7 +49,7 @@ module _ (hall : LockTable) (s t : Scribe) (on : SeesOn hall s.seat t.seat) (is 
     reads-on = record { is = reads; begins = goes-on; shares = on.shares; cores = ap (λ (w : Desk). w.cores) writer }
 
     pub can-go-on : (k : ℕ) → CanWrite hall k s → s.ended < k → CanWrite hall k t
-    can-go-on k can due = record { is = reads; before = before; ended = at-most (opens_next e.event) ended }
+    can-go-on k can due = record { is = reads; before = before; ended = at-most (has_next_moment e.event) ended }
       where
         at-most : (b : _) → t.ended ≡ s.ended + cond b 1 0 → t.ended ≤ k
         at-most true is = omega (arith, is, due)

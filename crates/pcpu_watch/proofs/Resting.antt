@@ -7,7 +7,7 @@ use Rattle.std.proofs.lemmas.Option.{slice_get_within}
 use Rattle.sched_model.specs.declared.event.Entry.{Entry}
 use Rattle.sched_report.specs.Stays.{last_moment}
 use Rattle.pcpu_watch.specs.declared.looks.Look.{Look}
-use Rattle.pcpu_watch.specs.Moments.{ends, opens_next, moment_of}
+use Rattle.pcpu_watch.specs.Moments.{ends, has_next_moment, moment_of}
 use Rattle.pcpu_watch.specs.Looks.{EachIsLook, IsLook, LooksSoFar, ShowsBeginning}
 use Rattle.pcpu_watch.proofs.Counting.{ends-more, last-at, moment-same, moments-rise, one-more}
 use Rattle.pcpu_watch.proofs.Looking.{look-new, looks-pushed, looks-still}
@@ -34,13 +34,13 @@ module _ (h : List Entry) (n : ℕ) (e : Entry) (at : slice_get h n ≡ Some e) 
   length-after : length after ≡ n + 1
   length-after = length-take-le (n + 1) h (omega (arith, slice_get_within h n e at))
 
-  ends-after : ends after ≡ ends before + cond (opens_next e.event) 1 0
+  ends-after : ends after ≡ ends before + cond (has_next_moment e.event) 1 0
   ends-after = ap ends one-behind ∙ ends-more before e
 
   still : EachIsLook after looks
   still = looks-still before after begins looks (let count = so_far.count in omega (arith, count)) so_far.each
 
-  pub looks-within : opens_next e.event ≡ false → LooksSoFar after looks
+  pub looks-within : has_next_moment e.event ≡ false → LooksSoFar after looks
   looks-within goes_on = record {
     count = (let count = so_far.count in let same : ends after ≡ ends before + 0 = ends-after ∙ ap (λ b. ends before + cond b 1 0) goes_on in omega (arith, count, same));
     each = still;
@@ -62,7 +62,7 @@ module _ (h : List Entry) (n : ℕ) (e : Entry) (at : slice_get h n ≡ Some e) 
     this : IsLook after (length looks) look
     this = look-new before after begins (length looks) look (let count = so_far.count in omega (arith, count)) in-time shows (omega (arith, entries, length-before))
 
-    pub looks-behind : opens_next e.event ≡ true → LooksSoFar after (looks ++ look ∷ [])
+    pub looks-behind : has_next_moment e.event ≡ true → LooksSoFar after (looks ++ look ∷ [])
     looks-behind is = record {
       count = (let count = so_far.count in let one : ends after ≡ ends before + 1 = ends-after ∙ ap (λ b. ends before + cond b 1 0) is in omega (arith, count, one, length_push looks look));
       each = looks-pushed after looks look still this;

@@ -20,8 +20,8 @@ pub record AreTwo (hall : LockTable) (seat scribe : Seated) : Type 0 where
   pub shares : shares_in seat + shares_in scribe ≡ 1024
 
 -- the place of the entry that a turn added, or of the last one
-abbrev pub place_of : Turn → ℕ
-place_of (turn.Stepped place e) = place
-place_of (turn.Closed place next) = place
-place_of (turn.Finished place) = place
-place_of (turn.Over place) = place
+abbrev pub turn_place : Turn → ℕ
+turn_place (turn.Stepped place e) = place
+turn_place (turn.Closed place next) = place
+turn_place (turn.Finished place) = place
+turn_place (turn.Over place) = place

@@ -6,7 +6,7 @@ ghost use Rattle.sched_model.specs.Runs.{IsRun};
 ghost use Rattle.hall.specs.Seats.{IsOf, Stays, shares_in};
 ghost use Rattle.pcpu_watch.specs.Looks.{LooksSoFar};
 ghost use Rattle.pcpu_watch.specs.Scribes.{SeesOn, front_of};
-ghost use Rattle.pcpu_watch.specs.Seats.{AreTwo, place_of as place_of_spec};
+ghost use Rattle.pcpu_watch.specs.Seats.{AreTwo, turn_place};
 ghost use Rattle.pcpu_watch.specs.WatchedRun.{IsWatched};
 
 use crate::ends::{WatchEnd, watch_end};
@@ -21,7 +21,7 @@ use std::thread::yield_now;
 
 /// The place of the entry that a turn added, or of the last one.
 fn place_of(turn: Turn) -> u32
-    ensures { result ≡ place_of_spec turn }
+    ensures { result ≡ turn_place turn }
 {
     match turn {
         Turn::Stepped { place, .. } => place,

@@ -3,7 +3,7 @@
 ghost use Rattle.std.specs.Prelude.{◌≡◌, ◌<◌, ◌≤◌, ◌^◌, Some, IfNone, IfSome, OnSome, length, slice_get, take};
 ghost use Rattle.sched_report.specs.Stays.{last_moment};
 ghost use Rattle.hall.specs.Seats.{IsOf};
-ghost use Rattle.pcpu_watch.specs.Moments.{opens_next as opens_next_spec};
+ghost use Rattle.pcpu_watch.specs.Moments.{has_next_moment};
 ghost use Rattle.pcpu_watch.specs.Scribes.{SeesOn, front_of};
 
 use hall::{Hall, HallSeat};
@@ -13,7 +13,7 @@ use std::sync::Wait;
 
 /// Whether the entry ends its moment, and another one follows.
 pub(crate) fn opens_next(e: &Entry) -> bool
-    ensures { result ≡ opens_next_spec e.now.event }
+    ensures { result ≡ has_next_moment e.now.event }
 {
     matches!(e.event, Event::End { .. })
 }

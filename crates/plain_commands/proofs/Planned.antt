@@ -13,16 +13,16 @@ use Rattle.sched_model.specs.declared.state.Domain.{Domain}
 use Rattle.sched_model.specs.declared.state.Pool.{Pool}
 use Rattle.sched_model.specs.declared.state.State.{State}
 use Rattle.sched_model.specs.declared.work.CommandLine.{CommandLine}
-use Rattle.sched_model.specs.Machine.{verdict}
-use Rattle.sched_model.specs.Opening.{empty_pool}
+use Rattle.sched_model.specs.Machine.{line_verdict}
+use Rattle.sched_model.specs.Opening.{fresh_pool}
 use Rattle.sched_model.specs.Places.{at_place}
-use Rattle.sched_model.specs.Policy.{default_pool_params}
+use Rattle.sched_model.specs.Policy.{standard_pool_params}
 use Rattle.sched_laws.specs.EachPlace.{EachPlace}
 use Rattle.sched_laws.proofs.EachPlace.{at_place-clear_at_other}
 use Rattle.sched_laws.proofs.Judged.{AreUnits, Passed, verdict_passed}
 use Rattle.pool_records.specs.Fits.{DomainFits, PoolFits}
 use Rattle.pool_records.proofs.FitsLemmas.{at_place-fits}
-use Rattle.plain_opening.specs.OpeningPool.{spare_by, spare_for}
+use Rattle.plain_opening.specs.OpeningPool.{spare_by, spare_of_line}
 use Rattle.plain_commands.specs.PlanEffects.{PlanFits, HasSpare, spares_after}
 
 -- the units of a domain have numbers of one byte
@@ -51,18 +51,18 @@ module _ (m : Machine) (s : State) (c : Command) where
       low-units m.config.granularity passed.domain first count few domain-fits passed.meets.1
   fits-of q few fits passed = tt
 
-  spare-of : (line : CommandLine) (q : Plan) (k : ℕ) (spares : List (Option Pool)) → line.command ≡ Ok c → Passed m s c q → at_place spares k ≡ spare_for m.config line → HasSpare m k q spares
+  spare-of : (line : CommandLine) (q : Plan) (k : ℕ) (spares : List (Option Pool)) → line.command ≡ Ok c → Passed m s c q → at_place spares k ≡ spare_of_line m.config line → HasSpare m k q spares
   spare-of line (plan.PoolCreate i name kind answer) k spares is passed there =
       let made : Result Command Syntax → Option Pool = λ r. elim r [ Err fault ↦ None | Ok asked ↦ spare_by m.config asked ] in
-      there ∙ ap made (is ∙ ap Ok passed.2) ∙ ap (λ (asked : SchedKind). Some (empty_pool m.config (default_pool_params asked))) (sym passed.3)
+      there ∙ ap made (is ∙ ap Ok passed.2) ∙ ap (λ (asked : SchedKind). Some (fresh_pool m.config (standard_pool_params asked))) (sym passed.3)
   spare-of line q k spares is passed there = tt
 
 -- the numbers of an accepted plan are in range
-pub plan-fits : (m : Machine) (s : State) (line : CommandLine) (q : Plan) → m.config.granularity ≤ 4 → EachPlace PoolFits s.pools → verdict m s line ≡ Ok q → PlanFits q
+pub plan-fits : (m : Machine) (s : State) (line : CommandLine) (q : Plan) → m.config.granularity ≤ 4 → EachPlace PoolFits s.pools → line_verdict m s line ≡ Ok q → PlanFits q
 plan-fits m s line q few fits is = (let passed = verdict_passed m s line q is in fits-of m s passed.0 q few fits passed.2)
 
 -- the pool that an accepted plan makes stands among the spares, where the one of its line does
-pub has-spare : (m : Machine) (s : State) (line : CommandLine) (q : Plan) (k : ℕ) (spares : List (Option Pool)) → verdict m s line ≡ Ok q → at_place spares k ≡ spare_for m.config line → HasSpare m k q spares
+pub has-spare : (m : Machine) (s : State) (line : CommandLine) (q : Plan) (k : ℕ) (spares : List (Option Pool)) → line_verdict m s line ≡ Ok q → at_place spares k ≡ spare_of_line m.config line → HasSpare m k q spares
 has-spare m s line q k spares is there = (let passed = verdict_passed m s line q is in spare-of m s passed.0 line q k spares passed.1 passed.2 there)
 
 -- the spares at the other places stay

@@ -4,9 +4,9 @@ use Rattle.sched_model.specs.declared.machine.Machine.{Machine}
 use Rattle.sched_model.specs.declared.plan.Plan.{Plan}
 use Rattle.sched_model.specs.declared.plan.Plan.TheVariants as plan
 use Rattle.sched_model.specs.declared.state.Pool.{Pool}
-use Rattle.sched_model.specs.Opening.{empty_pool}
+use Rattle.sched_model.specs.Opening.{fresh_pool}
 use Rattle.sched_model.specs.Places.{at_place, clear_at}
-use Rattle.sched_model.specs.Policy.{default_pool_params}
+use Rattle.sched_model.specs.Policy.{standard_pool_params}
 use Rattle.scheduler_records.specs.Fits.{RecordsFit}
 use Rattle.plain_schedulers.specs.Parameters.{WeightAndCapFit}
 use Rattle.pool_records.specs.Fits.{PoolFits}
@@ -24,7 +24,7 @@ PlanFits _ = Unit {0}
 
 -- the pool that the plan makes, where it makes one, stands at the place k of the spares
 abbrev pub HasSpare : Machine → ℕ → Plan → List (Option Pool) → Type 0
-HasSpare m k (plan.PoolCreate i name kind answer) spares = at_place spares k ≡ Some (empty_pool m.config (default_pool_params kind))
+HasSpare m k (plan.PoolCreate i name kind answer) spares = at_place spares k ≡ Some (fresh_pool m.config (standard_pool_params kind))
 HasSpare m k _ spares = Unit {0}
 
 -- the spares without the one that the plan takes, where it takes one

@@ -6,10 +6,10 @@ ghost use Rattle.sched_laws.specs.EachPlace.{EachPlace};
 ghost use Rattle.sched_model.specs.declared.config.ParamChange.TheVariants as changes;
 ghost use Rattle.sched_model.specs.declared.state.FreeCore.{FreeCore as FreeCoreRecord};
 ghost use Rattle.sched_model.specs.declared.state.State.{State as StateRecord};
-ghost use Rattle.sched_model.specs.Actions.{change_pool, home_of_domain};
-ghost use Rattle.sched_model.specs.Commands.{carried_out, change_home, pool_of_plan, set_rtds};
+ghost use Rattle.sched_model.specs.Actions.{change_pool, home_pool_of_domain};
+ghost use Rattle.sched_model.specs.Commands.{carried_out, change_home, plan_pool, pool_with_rtds};
 ghost use Rattle.sched_model.specs.Places.{at_place, put_at, clear_at, change_at, numbers_from};
-ghost use Rattle.sched_model.specs.Pool as pool_spec;
+ghost use Rattle.sched_model.specs.Pool as one_pool;
 ghost use Rattle.plain_schedulers.specs.Parameters.{ChangeFits};
 ghost use Rattle.pool_records.specs.Fits.{PoolFits};
 ghost use Rattle.plain_opening.specs.OpeningPool.{FewWait};
@@ -67,7 +67,7 @@ fn set_target(core: ResId, i: u8, free: &mut Row<Option<FreeCore>>)
 
 /// The domain is moving from the pool i to the pool j, where that is another one.
 fn migrate(d: DomId, i: u8, j: u8, s: &mut State)
-    ensures { s.new ≡ (if i == j then s.old else change_pool i (pool_spec.set_moving d.0 j) s.old) }
+    ensures { s.new ≡ (if i == j then s.old else change_pool i (one_pool.pool_with_moving d.0 j) s.old) }
 {
     if i != j {
         set_moving_at(i as usize, d, j, &mut s.pools);
@@ -80,7 +80,7 @@ fn set_rate(i: u8, limit: Option<u32>, t: Moment, s: &mut State)
     requires fits { EachPlace (FitsAt t.0) s.old.pools }
     ensures { s.new ≡ elim limit as (λ _. StateRecord) [
       | None ↦ s.old
-      | Some us ↦ change_pool i (pool_spec.set_params (changes.Rate us) t.0) s.old
+      | Some us ↦ change_pool i (one_pool.changed_pool (changes.Rate us) t.0) s.old
     ] }
 {
     if let Some(limit) = limit {
@@ -91,10 +91,10 @@ fn set_rate(i: u8, limit: Option<u32>, t: Moment, s: &mut State)
 /// The parameters of the domain change.
 fn set_domain(d: DomId, home: Option<usize>, change: ParamChange, t: Moment, s: &mut State)
     requires change { ChangeFits change }
-    requires home { home ≡ home_of_domain s.old d.0 }
+    requires home { home ≡ home_pool_of_domain s.old d.0 }
     requires early { t.0 ≤ most_span }
     requires fits { EachPlace (FitsAt t.0) s.old.pools }
-    ensures { s.new ≡ change_home d.0 (pool_spec.set_params change t.0) s.old }
+    ensures { s.new ≡ change_home d.0 (one_pool.changed_pool change t.0) s.old }
 {
     if let Some(i) = home {
         set_params_at(i, change, t, &mut s.pools);
@@ -103,10 +103,10 @@ fn set_domain(d: DomId, home: Option<usize>, change: ParamChange, t: Moment, s: 
 
 /// The RTDS parameters of count units of the domain from first on change.
 fn set_units(d: DomId, home: Option<usize>, first: u8, count: u8, given: RtdsGiven, s: &mut State)
-    requires home { home ≡ home_of_domain s.old d.0 }
+    requires home { home ≡ home_pool_of_domain s.old d.0 }
     requires few { first + count ≤ 255 }
     ensures { (t : ℕ) → s.new ≡ change_home d.0
-        (set_rtds t d.0 given.period given.budget given.extra (numbers_from first count)) s.old }
+        (pool_with_rtds t d.0 given.period given.budget given.extra (numbers_from first count)) s.old }
 {
     if let Some(i) = home {
         set_rtds_at(i, d, first, count, given, &mut s.pools);
@@ -115,8 +115,8 @@ fn set_units(d: DomId, home: Option<usize>, first: u8, count: u8, given: RtdsGiv
 
 /// The domain is paused.
 fn pause(d: DomId, home: Option<usize>, s: &mut State)
-    requires home { home ≡ home_of_domain s.old d.0 }
-    ensures { s.new ≡ change_home d.0 (pool_spec.pause d.0) s.old }
+    requires home { home ≡ home_pool_of_domain s.old d.0 }
+    ensures { s.new ≡ change_home d.0 (one_pool.paused_pool d.0) s.old }
 {
     if let Some(i) = home {
         pause_at(i, d, &mut s.pools);
@@ -127,10 +127,10 @@ fn pause(d: DomId, home: Option<usize>, s: &mut State)
 fn unpause(g: u8, d: DomId, home: Option<usize>, s: &mut State)
     requires some { 0 < g }
     requires few { g ≤ 4 }
-    requires home { home ≡ home_of_domain s.old d.0 }
+    requires home { home ≡ home_pool_of_domain s.old d.0 }
     requires fits { EachPlace PoolFits s.old.pools }
-    requires room { EachPlace FewWait (change_home d.0 (pool_spec.unpause g d.0) s.old).pools }
-    ensures { s.new ≡ change_home d.0 (pool_spec.unpause g d.0) s.old }
+    requires room { EachPlace FewWait (change_home d.0 (one_pool.unpaused_pool g d.0) s.old).pools }
+    ensures { s.new ≡ change_home d.0 (one_pool.unpaused_pool g d.0) s.old }
 {
     if let Some(i) = home {
         unpause_at(g, i, d, &mut s.pools);
@@ -153,7 +153,7 @@ pub fn carry_out(
     requires early { t.0 ≤ most_span }
     requires plan { PlanFits plan }
     requires spare { HasSpare m.now k plan spares.old }
-    requires home { home ≡ pool_of_plan s.old plan }
+    requires home { home ≡ plan_pool s.old plan }
     requires fits { EachPlace (FitsAt t.0) s.old.pools }
     requires room { EachPlace FewWait (carried_out m.now t.0 plan s.old).pools }
     ensures state { s.new ≡ carried_out m.now t.0 plan s.old }

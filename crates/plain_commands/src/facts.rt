@@ -1,8 +1,8 @@
 //! What a command is judged by besides the tool's own state.
 
 ghost use Rattle.std.specs.Prelude.{◌≡◌, ◌+◌, ◌≤◌, ◌<◌, ◌++◌, [], length, Some, None};
-ghost use Rattle.cpupool.specs.Facts.{stored_from, stored_in, rate_at as rate_at_spec, stored_at as stored_at_spec};
-ghost use Rattle.sched_model.specs.Policy.{stored_of as stored_of_spec};
+ghost use Rattle.cpupool.specs.Facts.{stored_from, stored_in, subject_rate, subject_stored};
+ghost use Rattle.sched_model.specs.Policy.{unit_stored};
 ghost use Rattle.sched_laws.specs.EachPlace.{EachPlace};
 ghost use Rattle.pool_records.specs.Fits.{PoolFits};
 
@@ -16,7 +16,7 @@ use sched_model::state::{Pool, Records, State};
 
 /// The set values that the scheduler keeps for the unit; for RTDS the newest ones.
 fn stored_of(records: &Records, u: UnitId) -> Option<Stored>
-    ensures { result ≡ stored_of_spec records.now u }
+    ensures { result ≡ unit_stored records.now u }
 {
     match records {
         Records::Credit2Pool(_) => {
@@ -70,7 +70,7 @@ fn push_stored_in(g: u8, pool: &Pool, d: DomId, values: &mut StoredList)
 
 /// The rate limit of the subject's pool, in microseconds, or 0 where there is none.
 fn rate_at(s: &State, subject: Subject) -> u32
-    ensures { result ≡ rate_at_spec s.entry.now subject }
+    ensures { result ≡ subject_rate s.entry.now subject }
 {
     match subject.pool {
         None => 0,
@@ -86,7 +86,7 @@ fn stored_at(g: u8, s: &State, subject: Subject) -> StoredList
     requires some { 0 < g }
     requires few { g ≤ 4 }
     requires fits { EachPlace PoolFits s.now.pools }
-    ensures { result ≡ stored_at_spec g s.entry.now subject }
+    ensures { result ≡ subject_stored g s.entry.now subject }
 {
     let mut values = Short::new();
     if let Some(d) = subject.dom
@@ -104,8 +104,8 @@ pub fn facts_at(g: u8, s: &State, subject: Subject) -> Facts
     requires few { g ≤ 4 }
     requires fits { EachPlace PoolFits s.now.pools }
     ensures { result ≡ record {
-      rate = rate_at_spec s.entry.now subject;
-      units = stored_at_spec g
+      rate = subject_rate s.entry.now subject;
+      units = subject_stored g
           s.entry.now subject;
     } }
 {

@@ -4,8 +4,8 @@ ghost use Rattle.sched_model.specs.CheckedMachine.{most_span};
 ghost use Rattle.std.specs.Prelude.{◌≡◌, ◌≤◌, ◌<◌, ◌+◌, ℕ, length};
 ghost use Rattle.sched_laws.specs.EachPlace.{EachPlace};
 ghost use Rattle.sched_model.specs.Places.{change_at, numbers_from};
-ghost use Rattle.sched_model.specs.Pool as pool_spec;
-ghost use Rattle.sched_model.specs.Commands.{set_rtds as set_rtds_spec, set_rtds_unit as set_rtds_unit_spec};
+ghost use Rattle.sched_model.specs.Pool as one_pool;
+ghost use Rattle.sched_model.specs.Commands.{pool_with_rtds, pool_with_rtds_unit};
 ghost use Rattle.plain_schedulers.specs.Parameters.{ChangeFits};
 ghost use Rattle.pool_records.specs.Fits.{PoolFits};
 ghost use Rattle.plain_opening.specs.OpeningPool.{FewWait};
@@ -23,7 +23,7 @@ use scheduler_records::rtds::{rtds_unit, set_next};
 
 /// The core is leaving the pool.
 pub fn set_leaving_at(i: usize, core: ResId, pools: &mut Row<Option<Pool>>)
-    ensures { pools.new ≡ change_at i (pool_spec.set_leaving core.0) pools.old }
+    ensures { pools.new ≡ change_at i (one_pool.pool_with_leaving core.0) pools.old }
 {
     if let Some(place) = pools.get_mut(i)
         && let Some(pool) = place
@@ -34,7 +34,7 @@ pub fn set_leaving_at(i: usize, core: ResId, pools: &mut Row<Option<Pool>>)
 
 /// The domain is moving to the pool j.
 pub fn set_moving_at(i: usize, d: DomId, j: u8, pools: &mut Row<Option<Pool>>)
-    ensures { pools.new ≡ change_at i (pool_spec.set_moving d.0 j) pools.old }
+    ensures { pools.new ≡ change_at i (one_pool.pool_with_moving d.0 j) pools.old }
 {
     if let Some(place) = pools.get_mut(i)
         && let Some(pool) = place
@@ -45,7 +45,7 @@ pub fn set_moving_at(i: usize, d: DomId, j: u8, pools: &mut Row<Option<Pool>>)
 
 /// The domain is paused.
 pub fn pause_at(i: usize, d: DomId, pools: &mut Row<Option<Pool>>)
-    ensures { pools.new ≡ change_at i (pool_spec.pause d.0) pools.old }
+    ensures { pools.new ≡ change_at i (one_pool.paused_pool d.0) pools.old }
 {
     if let Some(place) = pools.get_mut(i)
         && let Some(pool) = place
@@ -59,8 +59,8 @@ pub fn unpause_at(g: u8, i: usize, d: DomId, pools: &mut Row<Option<Pool>>)
     requires some { 0 < g }
     requires few { g ≤ 4 }
     requires fits { EachPlace PoolFits pools.old }
-    requires room { EachPlace FewWait (change_at i (pool_spec.unpause g d.0) pools.old) }
-    ensures { pools.new ≡ change_at i (pool_spec.unpause g d.0) pools.old }
+    requires room { EachPlace FewWait (change_at i (one_pool.unpaused_pool g d.0) pools.old) }
+    ensures { pools.new ≡ change_at i (one_pool.unpaused_pool g d.0) pools.old }
 {
     if let Some(place) = pools.get_mut(i)
         && let Some(pool) = place
@@ -74,7 +74,7 @@ pub fn set_params_at(i: usize, change: ParamChange, t: Moment, pools: &mut Row<O
     requires change { ChangeFits change }
     requires early { t.0 ≤ most_span }
     requires fits { EachPlace (FitsAt t.0) pools.old }
-    ensures { pools.new ≡ change_at i (pool_spec.set_params change t.0) pools.old }
+    ensures { pools.new ≡ change_at i (one_pool.changed_pool change t.0) pools.old }
 {
     if let Some(place) = pools.get_mut(i)
         && let Some(pool) = place
@@ -85,7 +85,7 @@ pub fn set_params_at(i: usize, change: ParamChange, t: Moment, pools: &mut Row<O
 
 /// The unit has the new parameters from its next replenishment on. Another scheduler keeps what it has.
 fn set_rtds_unit(given: RtdsGiven, u: UnitId, pool: &mut Pool)
-    ensures { (t : ℕ) → pool.new ≡ set_rtds_unit_spec t given.period given.budget given.extra u
+    ensures { (t : ℕ) → pool.new ≡ pool_with_rtds_unit t given.period given.budget given.extra u
         pool.old }
 {
     if let Records::RtdsPool(domains) = &mut pool.scheduler.records {
@@ -101,7 +101,7 @@ fn set_rtds_unit(given: RtdsGiven, u: UnitId, pool: &mut Pool)
 /// The same of count units of the domain from first on.
 fn set_rtds(d: DomId, first: u8, count: u8, given: RtdsGiven, pool: &mut Pool)
     requires few { first + count ≤ 255 }
-    ensures { (t : ℕ) → pool.new ≡ set_rtds_spec t d.0 given.period given.budget given.extra
+    ensures { (t : ℕ) → pool.new ≡ pool_with_rtds t d.0 given.period given.budget given.extra
         (numbers_from first count) pool.old }
 {
     if count == 0 {
@@ -126,7 +126,7 @@ pub fn set_rtds_at(
 )
     requires few { first + count ≤ 255 }
     ensures { (t : ℕ) → pools.new ≡ change_at i
-        (set_rtds_spec t d.0 given.period given.budget given.extra (numbers_from first count))
+        (pool_with_rtds t d.0 given.period given.budget given.extra (numbers_from first count))
         pools.old }
 {
     if let Some(place) = pools.get_mut(i)

@@ -3,8 +3,8 @@
 ghost use Rattle.std.specs.Prelude.{◌≡◌, ◌≤◌, ◌<◌, IfOk, length, map};
 ghost use Rattle.std.specs.List.{list_any};
 ghost use Rattle.sched_model.specs.Places.{numbers_from};
-ghost use Rattle.sched_model.specs.State.{has_core as has_core_spec};
-ghost use Rattle.sched_model.specs.Opening.{opening_free as opening_free_spec};
+ghost use Rattle.sched_model.specs.State.{has_core_bit};
+ghost use Rattle.sched_model.specs.Opening.{free_core_at_opening};
 ghost use Rattle.sched_model.specs.declared.config.PoolConfig.{PoolConfig as PoolRecord};
 ghost use Rattle.pool_records.specs.OpeningCores.{opening_core};
 
@@ -52,7 +52,7 @@ pub fn fresh_cores(
 /// Whether one of the pools has the core.
 fn is_in_pool(pools: &[PoolConfig], r: ResId) -> bool
     requires { r.0 < 64 }
-    ensures { result ≡ list_any (λ (pool : PoolRecord). has_core_spec pool.cores r.0) pools.now }
+    ensures { result ≡ list_any (λ (pool : PoolRecord). has_core_bit pool.cores r.0) pools.now }
 {
     pools.iter().any(|pool| has_core(pool.cores, r))
 }
@@ -61,7 +61,7 @@ fn is_in_pool(pools: &[PoolConfig], r: ResId) -> bool
 fn free_core(config: &Config, r: ResId) -> Option<FreeCore>
     requires few { config.now.granularity ≤ 4 }
     requires core { r.0 < 64 }
-    ensures { result ≡ opening_free_spec config.now r.0 }
+    ensures { result ≡ free_core_at_opening config.now r.0 }
 {
     if is_in_pool(config.pools.as_slice(), r) {
         None
@@ -82,7 +82,7 @@ pub fn free_cores(
 ) -> Result<Row<Option<FreeCore>>, NoMemory>
     requires few { config.now.granularity ≤ 4 }
     requires count { count ≤ 64 }
-    ensures { IfOk result (λ row. row ≡ map (opening_free_spec config.now) (numbers_from 0 count)) }
+    ensures { IfOk result (λ row. row ≡ map (free_core_at_opening config.now) (numbers_from 0 count)) }
 {
     let mut places = Vec::new(alloc);
     for r in 0..count {

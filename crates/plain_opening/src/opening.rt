@@ -3,10 +3,10 @@
 ghost use Rattle.std.specs.Prelude.{◌≡◌, ◌+◌, ◌-◌, ◌≤◌, ◌<◌, ◌*◌, ◌++◌, [], Option, Some, None, IfOk, OnOk, replicate, length, map};
 ghost use Rattle.sched_model.specs.declared.config.PoolConfig.{PoolConfig as PoolConfigRecord};
 ghost use Rattle.sched_model.specs.CheckedMachine.{IsChecked, IsCheckedConfig};
-ghost use Rattle.sched_model.specs.Opening.{with_pins as with_pins_spec, with_configured as with_configured_spec, with_domains as with_domains_spec, opening_pool as opening_pool_spec, opening_pools as opening_pools_spec, opening};
+ghost use Rattle.sched_model.specs.Opening.{pool_with_pins, pool_with_configured, pool_with_domains, pool_at_opening, pools_at_opening, opening};
 ghost use Rattle.std.specs.List.{All};
 ghost use Rattle.plain_schedulers.specs.Parameters.{ParamsFit};
-ghost use Rattle.plain_opening.specs.OpeningPool.{FewWait, AllFewWait, JoinFits, configured_if as configured_if_spec};
+ghost use Rattle.plain_opening.specs.OpeningPool.{FewWait, AllFewWait, JoinFits, pool_after_domain};
 
 use crate::cores::{free_cores, fresh_cores};
 use crate::spare::pool_of_cores;
@@ -25,7 +25,7 @@ use std::alloc::Global;
 #[tactic(auto, using(crate::proofs::Queues::pinned_once))]
 fn with_pins(d: DomId, n: u8, pins: &[Cores], pool: &mut Pool)
     requires few { n + length pins.now ≤ 32 }
-    ensures { pool.new ≡ with_pins_spec d.0 n pins.now pool.old }
+    ensures { pool.new ≡ pool_with_pins d.0 n pins.now pool.old }
 {
     match pins {
         [] => {}
@@ -50,8 +50,8 @@ fn with_configured(
     requires cores { length pool.old.resources ≤ 64 }
     requires guests { length joining.now.guests ≤ 32 }
     requires params { ParamsFit joining.now.params }
-    requires room { FewWait (with_configured_spec g d.0 joining.now pool.old) }
-    ensures pool { OnOk result (pool.new ≡ with_configured_spec g d.0 joining.now pool.old) }
+    requires room { FewWait (pool_with_configured g d.0 joining.now pool.old) }
+    ensures pool { OnOk result (pool.new ≡ pool_with_configured g d.0 joining.now pool.old) }
     ensures cores { OnOk result (pool.new.resources ≡ pool.old.resources) }
 {
     let fresh = Domain {
@@ -77,8 +77,8 @@ fn configured_if(
     requires few { g ≤ 4 }
     requires cores { length pool.old.resources ≤ 64 }
     requires fits { JoinFits joining.now }
-    requires room { FewWait (configured_if_spec g i d.0 joining.now pool.old) }
-    ensures pool { OnOk result (pool.new ≡ configured_if_spec g i d.0 joining.now pool.old) }
+    requires room { FewWait (pool_after_domain g i d.0 joining.now pool.old) }
+    ensures pool { OnOk result (pool.new ≡ pool_after_domain g i d.0 joining.now pool.old) }
     ensures cores { OnOk result (pool.new.resources ≡ pool.old.resources) }
 {
     if joining.home.0 == i {
@@ -103,8 +103,8 @@ fn with_domains(
     requires cores { length pool.old.resources ≤ 64 }
     requires domains { All JoinFits domains.now }
     requires count { d.0 + length domains.now ≤ 64 }
-    requires room { FewWait (with_domains_spec g i d.0 domains.now pool.old) }
-    ensures { OnOk result (pool.new ≡ with_domains_spec g i d.0 domains.now pool.old) }
+    requires room { FewWait (pool_with_domains g i d.0 domains.now pool.old) }
+    ensures { OnOk result (pool.new ≡ pool_with_domains g i d.0 domains.now pool.old) }
 {
     match domains {
         [] => Ok(()),
@@ -119,8 +119,8 @@ fn with_domains(
 #[tactic(auto, using(crate::proofs::Joining::joins_fit))]
 fn opening_pool(alloc: Global, config: &Config, i: u8, pool: &PoolConfig) -> Result<Pool, NoMemory>
     requires checked { IsCheckedConfig config.now }
-    requires room { FewWait (opening_pool_spec config.now i pool.now) }
-    ensures { IfOk result (λ opened. opened ≡ opening_pool_spec config.now i pool.now) }
+    requires room { FewWait (pool_at_opening config.now i pool.now) }
+    ensures { IfOk result (λ opened. opened ≡ pool_at_opening config.now i pool.now) }
 {
     let g = config.granularity;
     let cores = fresh_cores(alloc, pool.cores, core_count(config), g)?;
@@ -187,7 +187,7 @@ fn push_pools(
     requires few { i + length pools.now ≤ 16 }
     requires room { AllFewWait config.now i pools.now }
     ensures { OnOk result (places.new.items ≡ places.old.items
-        ++ opening_pools_spec config.now i pools.now) }
+        ++ pools_at_opening config.now i pools.now) }
 {
     match pools {
         [] => Ok(()),
@@ -203,7 +203,7 @@ fn push_all(alloc: Global, config: &Config, places: &mut Vec<Option<Pool>>) -> R
     requires checked { IsCheckedConfig config.now }
     requires room { AllFewWait config.now 0 config.now.pools }
     ensures { OnOk result (places.new.items ≡ places.old.items
-        ++ (opening_pools_spec config.now 0 config.now.pools
+        ++ (pools_at_opening config.now 0 config.now.pools
         ++ replicate (16 - length config.now.pools) None)) }
 {
     let pools = config.pools.as_slice();
@@ -215,7 +215,7 @@ fn push_all(alloc: Global, config: &Config, places: &mut Vec<Option<Pool>>) -> R
 fn opening_pools(alloc: Global, config: &Config) -> Result<Row<Option<Pool>>, NoMemory>
     requires checked { IsCheckedConfig config.now }
     requires room { AllFewWait config.now 0 config.now.pools }
-    ensures { IfOk result (λ pools. pools ≡ opening_pools_spec config.now 0 config.now.pools
+    ensures { IfOk result (λ pools. pools ≡ pools_at_opening config.now 0 config.now.pools
         ++ replicate (16 - length config.now.pools) None) }
 {
     let mut places = Vec::new(alloc);

@@ -1,9 +1,9 @@
 //! Pools without domains and cores, and those that the commands of a work file may make.
 
 ghost use Rattle.std.specs.Prelude.{◌≡◌, ◌<◌, [], None, IfOk, replicate};
-ghost use Rattle.sched_model.specs.Opening.{empty_pool as empty_pool_spec};
-ghost use Rattle.sched_model.specs.Policy.{fresh_records as fresh_records_spec};
-ghost use Rattle.plain_opening.specs.OpeningPool.{spare_for as spare_for_spec, spares_of};
+ghost use Rattle.sched_model.specs.Opening.{fresh_pool};
+ghost use Rattle.sched_model.specs.Policy.{empty_records};
+ghost use Rattle.plain_opening.specs.OpeningPool.{spare_of_line, spares_of};
 
 use pool_records::opening::core_count;
 use sched_base::NoMemory;
@@ -24,7 +24,7 @@ fn fresh_records(
     domains: usize,
     cores: usize,
 ) -> Result<Records, NoMemory>
-    ensures { IfOk result (λ records. records ≡ fresh_records_spec params.now domains cores) }
+    ensures { IfOk result (λ records. records ≡ empty_records params.now domains cores) }
 {
     match params {
         PoolParams::Credit2 { limit } => Ok(Records::Credit2Pool(Credit2Records {
@@ -52,7 +52,7 @@ fn empty_scheduler(
         ≡ record {
           queue = [];
           affinity = replicate domains None;
-          records = fresh_records_spec
+          records = empty_records
               params.now domains cores;
         }) }
 {
@@ -72,7 +72,7 @@ pub(crate) fn pool_of_cores(
     resources: Row<Option<Resource>>,
 ) -> Result<Pool, NoMemory>
     requires { 0 < config.now.granularity }
-    ensures { IfOk result (λ pool. pool ≡ record (empty_pool_spec config.now params.now)
+    ensures { IfOk result (λ pool. pool ≡ record (fresh_pool config.now params.now)
         { resources = resources }) }
 {
     let count = config.domains.len();
@@ -87,7 +87,7 @@ pub(crate) fn pool_of_cores(
 /// A pool without domains and cores.
 pub fn empty_pool(alloc: Global, config: &Config, params: &PoolParams) -> Result<Pool, NoMemory>
     requires { 0 < config.now.granularity }
-    ensures { IfOk result (λ pool. pool ≡ empty_pool_spec config.now params.now) }
+    ensures { IfOk result (λ pool. pool ≡ fresh_pool config.now params.now) }
 {
     let resources = empty_places(alloc, core_count(config) as usize)?;
     pool_of_cores(alloc, config, params, resources)
@@ -96,7 +96,7 @@ pub fn empty_pool(alloc: Global, config: &Config, params: &PoolParams) -> Result
 /// The pool that the command on the line makes, where it makes one: of Credit2, unless it names another scheduler.
 fn spare_for(alloc: Global, config: &Config, line: &CommandLine) -> Result<Option<Pool>, NoMemory>
     requires { 0 < config.now.granularity }
-    ensures { IfOk result (λ spare. spare ≡ spare_for_spec config.now line.now) }
+    ensures { IfOk result (λ spare. spare ≡ spare_of_line config.now line.now) }
 {
     match &line.command {
         Ok(Command::PoolCreate { name: _, sched }) => {

@@ -5,7 +5,7 @@ use Rattle.std.proofs.lemmas.Bool.{cases_lt}
 use Rattle.sched_base.specs.Numbers.{moment}
 use Rattle.sched_base.specs.declared.Moment.{Moment}
 use Rattle.sched_model.specs.Places.{at_place, numbered_items}
-use Rattle.plain_pool.specs.Ready.{IsLeastWith, lesser, least_each}
+use Rattle.plain_pool.specs.Ready.{IsLeastWith, lesser_moment, least_each}
 
 -- the moment is there, and is this number
 abbrev pub IsAt : Option Moment → ℕ → Type 0
@@ -19,7 +19,7 @@ least_none best = record { no_more = omega arith; no_later = λ at one. absurd o
 min_cases : (a b : ℕ) → (min a b ≡ a) ⊎ (b ≡ min a b)
 min_cases a b = elim (cases_lt b a) [ inl less ↦ inr (omega (arith, less)) | inr more ↦ inl (omega (arith, more)) ]
 
-pub least_one : (best : ℕ) (o : Option Moment) → IsLeastWith best (IsAt o) (lesser best o)
+pub least_one : (best : ℕ) (o : Option Moment) → IsLeastWith best (IsAt o) (lesser_moment best o)
 least_one best None = record { no_more = omega arith; no_later = λ at is. absurd (cc); one = inl refl }
 least_one best (Some m) = record {
   no_more = omega arith;

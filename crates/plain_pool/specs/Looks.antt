@@ -6,13 +6,13 @@ use Rattle.sched_model.specs.declared.state.Records.TheVariants.{Credit2Pool, Rt
 use Rattle.sched_model.specs.declared.state.Scheduler.{Scheduler}
 use Rattle.sched_model.specs.declared.state.Credit2Records.{Credit2Records}
 use Rattle.sched_model.specs.declared.state.RtdsUnit.{RtdsUnit}
-use Rattle.sched_model.specs.EligibleUnits.{is_allowed}
-use Rattle.sched_model.specs.Places.{has_unit}
-use Rattle.sched_model.specs.Policy.{is_better}
-use Rattle.sched_model.specs.Arinc.{window_unit}
-use Rattle.sched_model.specs.Credit2.{credit_of, domain_has_budget, max_weight}
-use Rattle.sched_model.specs.Rtds.{budget_left, unit_before}
-use Rattle.plain_pool.specs.declared.look.Look.{Look}
+use Rattle.sched_model.specs.EligibleUnits.{is_unit_allowed}
+use Rattle.sched_model.specs.Places.{has_listed_unit}
+use Rattle.sched_model.specs.Policy.{is_unit_better}
+use Rattle.sched_model.specs.Arinc.{current_window_unit}
+use Rattle.sched_model.specs.Credit2.{unit_credit, has_domain_budget, most_weight}
+use Rattle.sched_model.specs.Rtds.{unit_left_budget, is_unit_before}
+use Rattle.plain_pool.specs.declared.look.BestWaiting.{BestWaiting}
 
 -- the better of the best so far and a unit, where that passes; among equals the earlier
 abbrev pub better : (UnitId → Bool) → (UnitId → UnitId → Bool) → Option UnitId → UnitId → Option UnitId
@@ -25,11 +25,11 @@ best_from passes before best (u ∷ units) = best_from passes before (better pas
 
 -- whether the unit has more credit than the other
 abbrev pub is_richer : Credit2Records → UnitId → UnitId → Bool
-is_richer records u w = int_lt (credit_of records w) (credit_of records u)
+is_richer records u w = int_lt (unit_credit records w) (unit_credit records u)
 
 -- the unit's credit, where a condition holds
 abbrev pub credit_where : Credit2Records → Bool → UnitId → Option ℤ
-credit_where records condition u = if condition then Some (credit_of records u) else None
+credit_where records condition u = if condition then Some (unit_credit records u) else None
 
 -- whether a credit is more than that of the best so far, which is any where there is none
 abbrev pub is_more_than : Option UnitId → ℤ → ℤ → Bool
@@ -39,26 +39,26 @@ is_more_than (Some b) most credit = int_lt most credit
 -- the best so far, where there is one, has this credit
 abbrev pub HasCredit : Credit2Records → Option UnitId → ℤ → Type 0
 HasCredit records None most = ⊤
-HasCredit records (Some b) most = most ≡ credit_of records b
+HasCredit records (Some b) most = most ≡ unit_credit records b
 
 -- whether budget is left to the unit
 abbrev pub has_left : List (Option (List RtdsUnit)) → UnitId → Bool
-has_left domains u = nat_lt 0 (budget_left domains u)
+has_left domains u = nat_lt 0 (unit_left_budget domains u)
 
 -- the best of the waiting units that pass at t; a null pool has none, since there it hangs on the core whether one passes
 abbrev pub best_waiting : Records → ℕ → List UnitId → Option UnitId
-best_waiting (Credit2Pool records) t queue = best_from (domain_has_budget records) (is_richer records) None queue
-best_waiting (RtdsPool domains) t queue = best_from (has_left domains) (unit_before domains) None queue
-best_waiting (ArincPool records) t queue = elim (window_unit records t) [ None ↦ None | Some w ↦ if has_unit queue w then Some w else None ]
+best_waiting (Credit2Pool records) t queue = best_from (has_domain_budget records) (is_richer records) None queue
+best_waiting (RtdsPool domains) t queue = best_from (has_left domains) (is_unit_before domains) None queue
+best_waiting (ArincPool records) t queue = elim (current_window_unit records t) [ None ↦ None | Some w ↦ if has_listed_unit queue w then Some w else None ]
 best_waiting (NullPool kept) t queue = None
 
 -- the greatest weight of a Credit2 pool
 abbrev pub most_of : Records → ℕ
-most_of (Credit2Pool records) = max_weight records
+most_of (Credit2Pool records) = most_weight records
 most_of _ = 0
 
 -- the look has found them in the scheduler at t
-pub record Finds (look : Look) (t : ℕ) (scheduler : Scheduler) : Type 0 where
+pub record Finds (look : BestWaiting) (t : ℕ) (scheduler : Scheduler) : Type 0 where
   pub best : look.best ≡ best_waiting scheduler.records t scheduler.queue
   pub most : look.most ≡ most_of scheduler.records
 
@@ -70,9 +70,9 @@ is_null _ = false
 -- whether the unit is better than the core's own, which is any where it has none
 abbrev pub is_better_than : Records → Option UnitId → ℕ → ℕ → UnitId → Bool
 is_better_than records None since t u = true
-is_better_than records (Some cur) since t u = is_better records cur since t u
+is_better_than records (Some cur) since t u = is_unit_better records cur since t u
 
 -- the core's own unit, where it has one, may be there
 abbrev pub IsOwnAllowed : Scheduler → ℕ → ℕ → Option UnitId → Type 0
 IsOwnAllowed scheduler home core None = ⊤
-IsOwnAllowed scheduler home core (Some cur) = is_allowed scheduler home core cur ≡ true
+IsOwnAllowed scheduler home core (Some cur) = is_unit_allowed scheduler home core cur ≡ true

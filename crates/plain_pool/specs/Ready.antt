@@ -16,10 +16,10 @@ use Rattle.sched_model.specs.declared.state.Records.TheVariants.{Credit2Pool, Rt
 use Rattle.sched_model.specs.declared.state.Resource.{Resource}
 use Rattle.sched_model.specs.declared.state.RtdsUnit.{RtdsUnit}
 use Rattle.sched_model.specs.declared.state.Vcpu.{Vcpu}
-use Rattle.sched_model.specs.Places.{has_unit, numbered_items}
-use Rattle.sched_model.specs.Pool.{core_of, done_at, is_held, is_of_domain, is_open, vcpu_of}
+use Rattle.sched_model.specs.Places.{has_listed_unit, numbered_items}
+use Rattle.sched_model.specs.Pool.{unit_core, done_moment, is_held_back, is_domain_unit, is_gathering, pool_vcpu}
 use Rattle.sched_laws.specs.EachPlace.{EachPlace}
-use Rattle.pool_laws.specs.ReadyMoments.{first_end, gathers, later_moment, lowest_end, may_move, moment_if, ready_in}
+use Rattle.pool_laws.specs.ReadyMoments.{first_stall_end, may_gather, later_of, lowest_stall_end, may_core_move, guarded_moment, ready_in}
 use Rattle.pool_records.specs.Fits.{PoolFits}
 
 -- the least of a number and of those that have a property
@@ -50,9 +50,9 @@ pub record ScanFits (pool : Pool) : Type 0 where
   pub few_records : AreFewRecords pool.scheduler.records
 
 -- the lesser of a number and a moment, where there is one
-abbrev pub lesser : ℕ → Option Moment → ℕ
-lesser best None = best
-lesser best (Some at) = min best at.0
+abbrev pub lesser_moment : ℕ → Option Moment → ℕ
+lesser_moment best None = best
+lesser_moment best (Some at) = min best at.0
 
 -- the least so far, after f has looked at each item in turn
 abbrev pub least_each : {X : Type 0} → (ℕ → X → ℕ) → ℕ → List X → ℕ
@@ -64,51 +64,51 @@ abbrev pub guest_on : Processor → Option VcpuId
 guest_on q = elim q.doing [ Guest v ↦ Some v | Idle ↦ None | Held ↦ None ]
 
 -- when the work of the vCPU is done
-unfoldable pub done_of : Pool → VcpuId → Option Moment
-done_of pool v = elim (vcpu_of pool v) [ None ↦ None | Some x ↦ done_at x ]
+unfoldable pub work_done_moment : Pool → VcpuId → Option Moment
+work_done_moment pool v = elim (pool_vcpu pool v) [ None ↦ None | Some x ↦ done_moment x ]
 
 -- when the work of the vCPU that the processor runs is done
-unfoldable pub work_on : Pool → Processor → Option Moment
-work_on pool q = elim (guest_on q) [ None ↦ None | Some v ↦ done_of pool v ]
+unfoldable pub running_work_moment : Pool → Processor → Option Moment
+running_work_moment pool q = elim (guest_on q) [ None ↦ None | Some v ↦ work_done_moment pool v ]
 
 -- from when on the processor of the core may arrive or leave
-unfoldable pub move_end : Resource → Processor → Option Moment
-move_end c q = (if is_held q then moment_if (not (is_open c)) (Some q.stall_end) else moment_if (gathers c) (Some q.stall_end))
+unfoldable pub move_moment : Resource → Processor → Option Moment
+move_moment c q = (if is_held_back q then guarded_moment (not (is_gathering c)) (Some q.stall_end) else guarded_moment (may_gather c) (Some q.stall_end))
 
 -- from when on the vCPU that it runs may block
-unfoldable pub block_end : Pool → Processor → Option Moment
-block_end pool q = later_moment (work_on pool q) (Some q.stall_end)
+unfoldable pub block_moment : Pool → Processor → Option Moment
+block_moment pool q = later_of (running_work_moment pool q) (Some q.stall_end)
 
 -- the least so far, and of the processor of the core
 abbrev pub least_of_processor : Pool → Resource → ℕ → Processor → ℕ
-least_of_processor pool c best q = lesser (lesser best (move_end c q)) (block_end pool q)
+least_of_processor pool c best q = lesser_moment (lesser_moment best (move_moment c q)) (block_moment pool q)
 
 -- from when on the core's due has come, where it is not pending
-unfoldable pub due_end : Resource → Option Moment
-due_end c = moment_if (not c.pending) (later_moment c.due (first_end c))
+unfoldable pub due_moment : Resource → Option Moment
+due_moment c = guarded_moment (not c.pending) (later_of c.due (first_stall_end c))
 
 -- from when on the core may decide
-abbrev pub decides : Resource → Bool
-decides c = list_all is_held c.processors && is_open c
+abbrev pub is_to_decide : Resource → Bool
+is_to_decide c = list_all is_held_back c.processors && is_gathering c
 
-unfoldable pub decide_end : Resource → Option Moment
-decide_end c = moment_if (decides c) (first_end c)
+unfoldable pub decide_moment : Resource → Option Moment
+decide_moment c = guarded_moment (is_to_decide c) (first_stall_end c)
 
 -- from when on the core may save
-abbrev pub saves : Resource → Bool
-saves c = is_some c.saving && not (list_any is_held c.processors)
+abbrev pub is_to_save : Resource → Bool
+is_to_save c = is_some c.saving && not (list_any is_held_back c.processors)
 
-unfoldable pub save_end : Resource → Option Moment
-save_end c = moment_if (saves c) (first_end c)
+unfoldable pub save_moment : Resource → Option Moment
+save_moment c = guarded_moment (is_to_save c) (first_stall_end c)
 
 -- from when on the core may leave the pool
-unfoldable pub moved_end : Resource → Option Moment
-moved_end c = moment_if (may_move c) (first_end c)
+unfoldable pub moved_moment : Resource → Option Moment
+moved_moment c = guarded_moment (may_core_move c) (first_stall_end c)
 
 -- the least so far, and of the core
 unfoldable pub least_of_core : Pool → ℕ → Resource → ℕ
 least_of_core pool best c =
-    lesser (lesser (lesser (lesser (least_each (least_of_processor pool c) best c.processors) (due_end c)) (decide_end c)) (save_end c)) (moved_end c)
+    lesser_moment (lesser_moment (lesser_moment (lesser_moment (least_each (least_of_processor pool c) best c.processors) (due_moment c)) (decide_moment c)) (save_moment c)) (moved_moment c)
 
 -- and of each core
 abbrev pub least_of_cores : Pool → ℕ → List (ℕ × Resource) → ℕ
@@ -116,18 +116,18 @@ least_of_cores pool best cores = least_each (λ so_far (e : ℕ × Resource). le
 
 -- and of the wakes of vCPUs
 abbrev pub least_of_vcpus : ℕ → List Vcpu → ℕ
-least_of_vcpus best vcpus = least_each (λ so_far (x : Vcpu). lesser so_far x.asleep_until) best vcpus
+least_of_vcpus best vcpus = least_each (λ so_far (x : Vcpu). lesser_moment so_far x.asleep_until) best vcpus
 
 -- from when on the domain may move
-abbrev pub may_dom_move : Pool → ℕ → Domain → Bool
-may_dom_move pool d x = is_some x.moving && not (list_any (λ e. is_of_domain d e.1.cur || is_of_domain d e.1.saving) (numbered_items 0 pool.resources))
+abbrev pub may_domain_move : Pool → ℕ → Domain → Bool
+may_domain_move pool d x = is_some x.moving && not (list_any (λ e. is_domain_unit d e.1.cur || is_domain_unit d e.1.saving) (numbered_items 0 pool.resources))
 
-unfoldable pub dom_moved_end : Pool → ℕ → Domain → Option Moment
-dom_moved_end pool d x = moment_if (may_dom_move pool d x) (Some (moment 0))
+unfoldable pub dom_moved_moment : Pool → ℕ → Domain → Option Moment
+dom_moved_moment pool d x = guarded_moment (may_domain_move pool d x) (Some (moment 0))
 
 -- the least so far, and of the domain
 unfoldable pub least_of_domain : Pool → ℕ → ℕ → Domain → ℕ
-least_of_domain pool d best x = lesser (least_of_vcpus best x.vcpus) (dom_moved_end pool d x)
+least_of_domain pool d best x = lesser_moment (least_of_vcpus best x.vcpus) (dom_moved_moment pool d x)
 
 -- and of each domain
 abbrev pub least_of_domains : Pool → ℕ → List (ℕ × Domain) → ℕ
@@ -135,24 +135,24 @@ least_of_domains pool best domains = least_each (λ so_far (e : ℕ × Domain). 
 
 -- from when on a domain of this record may be refilled, which is not before an end
 unfoldable pub refill_end : Moment → Credit2Domain → Option Moment
-refill_end end x = later_moment (option_map moment x.refill) (Some end)
+refill_end end x = later_of (option_map moment x.refill) (Some end)
 
 -- the least so far, and of the refills
 abbrev pub least_of_refills : Moment → ℕ → List (ℕ × Credit2Domain) → ℕ
-least_of_refills end best domains = least_each (λ so_far (e : ℕ × Credit2Domain). lesser so_far (refill_end end e.1)) best domains
+least_of_refills end best domains = least_each (λ so_far (e : ℕ × Credit2Domain). lesser_moment so_far (refill_end end e.1)) best domains
 
 -- whether the unit waits or is on a core
-abbrev pub is_about : Pool → UnitId → Bool
-is_about pool u = has_unit pool.scheduler.queue u || is_some (core_of pool u)
+abbrev pub is_waiting_or_on : Pool → UnitId → Bool
+is_waiting_or_on pool u = has_listed_unit pool.scheduler.queue u || is_some (unit_core pool u)
 
 -- from when on the unit of this deadline may be replenished, which is not before an end
 unfoldable pub repl_end : Pool → Moment → UnitId → ℕ → Option Moment
-repl_end pool end u deadline = later_moment (moment_if (is_about pool u) (Some (moment deadline))) (Some end)
+repl_end pool end u deadline = later_of (guarded_moment (is_waiting_or_on pool u) (Some (moment deadline))) (Some end)
 
 -- the least so far, and of these units of the domain d, of which the first has the index n
 abbrev pub least_of_units : Pool → Moment → ℕ → ℕ → ℕ → List RtdsUnit → ℕ
 least_of_units pool end d n best [] = best
-least_of_units pool end d n best (x ∷ units) = least_of_units pool end d (suc n) (lesser best (repl_end pool end (record { dom = domain d; n = n }) x.deadline)) units
+least_of_units pool end d n best (x ∷ units) = least_of_units pool end d (suc n) (lesser_moment best (repl_end pool end (record { dom = domain d; n = n }) x.deadline)) units
 
 -- and of each unit of these domains
 abbrev pub least_of_all_units : Pool → Moment → ℕ → List (ℕ × List RtdsUnit) → ℕ
@@ -166,4 +166,4 @@ least_of_timers pool end best (ArincPool records) = best
 least_of_timers pool end best (NullPool kept) = best
 
 unfoldable pub least_of_scheduler : Pool → ℕ → ℕ
-least_of_scheduler pool best = elim (lowest_end pool) [ None ↦ best | Some end ↦ least_of_timers pool end best pool.scheduler.records ]
+least_of_scheduler pool best = elim (lowest_stall_end pool) [ None ↦ best | Some end ↦ least_of_timers pool end best pool.scheduler.records ]

@@ -4,7 +4,7 @@ ghost use Rattle.sched_model.specs.CheckedMachine.{most_span};
 ghost use Rattle.std.specs.Prelude.{◌≡◌, ◌≤◌, length, IsTrue};
 ghost use Rattle.sched_model.specs.declared.action.Action.TheVariants.{Decide};
 ghost use Rattle.sched_model.specs.Places.{change_at};
-ghost use Rattle.sched_model.specs.Pool.{enabled_in, after_in, event_in, ask_of as ask_of_spec};
+ghost use Rattle.sched_model.specs.Pool.{enabled_in, after_in, event_in, core_ask};
 ghost use Rattle.scheduler_records.specs.Fits.{RecordsFit};
 ghost use Rattle.plain_pool.specs.Decisions.{decided_by};
 ghost use Rattle.pool_records.specs.Fits.{PoolFits};
@@ -24,7 +24,7 @@ use sched_model::units::is_same_choice;
 /// What the core asks its scheduler.
 pub fn ask_of(g: u8, t: Moment, pool: &Pool, r: ResId, c: &Resource) -> Ask
     requires { length pool.now.resources ≤ 64 }
-    ensures { result ≡ ask_of_spec g t.0 pool.now r.0 c.now }
+    ensures { result ≡ core_ask g t.0 pool.now r.0 c.now }
 {
     let runnable = match c.cur {
         None => false,

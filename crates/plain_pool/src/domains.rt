@@ -3,7 +3,7 @@
 ghost use Rattle.sched_model.specs.CheckedMachine.{most_span};
 ghost use Rattle.std.specs.Prelude.{◌≡◌, ◌<◌, ◌≤◌, length};
 ghost use Rattle.sched_model.specs.Places.{at_place, numbers_from};
-ghost use Rattle.sched_model.specs.Pool.{queue_if_off as queue_if_off_spec, queue_units as queue_units_spec, with_domain as with_domain_spec, without_domain as without_domain_spec};
+ghost use Rattle.sched_model.specs.Pool.{pool_with_queued_if_off, pool_with_queued_units, pool_with_domain, pool_without_domain};
 ghost use Rattle.plain_schedulers.specs.Parameters.{ParamsFit};
 
 use crate::waking::is_off;
@@ -19,8 +19,8 @@ use sched_model::state::{Domain, Pool};
 /// The unit joins the queue where it is runnable and off.
 fn queue_if_off(g: u8, u: UnitId, pool: &mut Pool)
     requires cores { length pool.old.resources ≤ 64 }
-    requires room { length (queue_if_off_spec g u pool.old).scheduler.queue ≤ 256 }
-    ensures { pool.new ≡ queue_if_off_spec g u pool.old }
+    requires room { length (pool_with_queued_if_off g u pool.old).scheduler.queue ≤ 256 }
+    ensures { pool.new ≡ pool_with_queued_if_off g u pool.old }
 {
     if is_runnable(g, pool.domains.as_slice(), u) && is_off(pool, u) {
         enqueue(u, &mut pool.scheduler);
@@ -30,9 +30,9 @@ fn queue_if_off(g: u8, u: UnitId, pool: &mut Pool)
 /// The same of the domain's units, of which there are count, one after another.
 pub fn queue_units(g: u8, d: DomId, count: u8, pool: &mut Pool)
     requires cores { length pool.old.resources ≤ 64 }
-    requires room { length (queue_units_spec g d.0 (numbers_from 0 count) pool.old).scheduler.queue
+    requires room { length (pool_with_queued_units g d.0 (numbers_from 0 count) pool.old).scheduler.queue
         ≤ 256 }
-    ensures { pool.new ≡ queue_units_spec g d.0 (numbers_from 0 count) pool.old }
+    ensures { pool.new ≡ pool_with_queued_units g d.0 (numbers_from 0 count) pool.old }
 {
     for n in 0..count {
         let u = UnitId { dom: d, n };
@@ -48,9 +48,9 @@ pub fn with_domain(g: u8, t: Moment, d: DomId, joining: Domain, params: &DomPara
     requires cores { length pool.old.resources ≤ 64 }
     requires vcpus { length joining.vcpus ≤ 32 }
     requires params { ParamsFit params.now }
-    requires room { length (with_domain_spec g t.0 d.0 joining params.now pool.old).scheduler.queue
+    requires room { length (pool_with_domain g t.0 d.0 joining params.now pool.old).scheduler.queue
         ≤ 256 }
-    ensures { pool.new ≡ with_domain_spec g t.0 d.0 joining params.now pool.old }
+    ensures { pool.new ≡ pool_with_domain g t.0 d.0 joining params.now pool.old }
 {
     let count = unit_count(g, &joining);
     set_place(&mut pool.domains, d.0, Some(joining));
@@ -61,7 +61,7 @@ pub fn with_domain(g: u8, t: Moment, d: DomId, joining: Domain, params: &DomPara
 /// The domain parts from the pool, which is to have none of its units on a core. It is none where the pool has no such domain.
 pub fn without_domain(d: DomId, pool: &mut Pool) -> Option<Domain>
     ensures domain { result ≡ at_place pool.old.domains d.0 }
-    ensures pool { pool.new ≡ without_domain_spec d.0 pool.old }
+    ensures pool { pool.new ≡ pool_without_domain d.0 pool.old }
 {
     part(d, &mut pool.scheduler);
     take_item(&mut pool.domains, d.0 as usize)

@@ -3,7 +3,7 @@
 ghost use Rattle.sched_model.specs.CheckedMachine.{most_span};
 ghost use Rattle.std.specs.Prelude.{◌≡◌, ◌<◌, ◌≤◌, length, IsTrue, true};
 ghost use Rattle.sched_model.specs.declared.action.Action.TheVariants.{Slice, Arrive, Leave, Save};
-ghost use Rattle.sched_model.specs.Pool.{enabled_in, after_in, event_in, vcpu_for as vcpu_for_spec};
+ghost use Rattle.sched_model.specs.Pool.{enabled_in, after_in, event_in, vcpu_to_run};
 ghost use Rattle.scheduler_records.specs.Fits.{RecordsFit};
 ghost use Rattle.pool_records.specs.Fits.{PoolFits};
 ghost use Rattle.sched_model.specs.Actions.{IsOfPool};
@@ -50,7 +50,7 @@ pub fn vcpu_for(g: u8, pool: &Pool, c: &Resource, i: u8) -> Option<VcpuId>
     requires few { g ≤ 4 }
     requires place { i < 4 }
     requires fits { PoolFits pool.now }
-    ensures { result ≡ vcpu_for_spec g pool.now c.now i }
+    ensures { result ≡ vcpu_to_run g pool.now c.now i }
 {
     let u = c.cur?;
     let n = u.n as usize * g as usize + i as usize;

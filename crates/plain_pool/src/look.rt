@@ -4,9 +4,9 @@ ghost use Rattle.sched_model.specs.CheckedMachine.{most_span};
 ghost use Rattle.std.specs.Prelude.{◌≡◌, ◌<◌, ◌≤◌, ◌&&◌, is_some, not};
 ghost use Rattle.std.specs.Option.{ForSome};
 ghost use Rattle.sched_model.specs.declared.state.Records.TheVariants.{ArincPool};
-ghost use Rattle.sched_model.specs.Credit2.{domain_has_budget as domain_has_budget_spec};
-ghost use Rattle.sched_model.specs.Rtds.{unit_before as unit_before_spec};
-ghost use Rattle.sched_model.specs.Policy.{is_better as is_better_spec, better_waits as better_waits_spec};
+ghost use Rattle.sched_model.specs.Credit2.{has_domain_budget};
+ghost use Rattle.sched_model.specs.Rtds.{is_unit_before};
+ghost use Rattle.sched_model.specs.Policy.{is_unit_better, has_better_waiting};
 ghost use Rattle.scheduler_records.specs.Fits.{IsFrame, RecordsFit};
 ghost use Rattle.plain_pool.specs.Looks.{Finds, HasCredit, IsOwnAllowed, best_from, best_waiting, better, credit_where, has_left, is_better_than, is_more_than, is_null, is_richer, most_of};
 
@@ -23,14 +23,14 @@ use scheduler_records::rtds::{budget_left, unit_before};
 
 /// What a look finds once: the best of the waiting units that may run, and the greatest weight of a Credit2 pool.
 #[derive(Clone, Copy)]
-pub struct Look {
+pub struct BestWaiting {
     pub best: Option<UnitId>,
     pub most: u32,
 }
 
 /// The unit's credit, where its domain may run.
 fn credit_if(records: &Credit2Records, u: UnitId) -> Option<i64>
-    ensures { result ≡ credit_where records.now (domain_has_budget_spec records.now u) u }
+    ensures { result ≡ credit_where records.now (has_domain_budget records.now u) u }
 {
     if domain_has_budget(records, u) {
         Some(credit_of(records, u))
@@ -57,7 +57,7 @@ fn richest(
     units: &[UnitId],
 ) -> Option<UnitId>
     requires { HasCredit records.now best most }
-    ensures { result ≡ best_from (domain_has_budget_spec records.now) (is_richer records.now) best
+    ensures { result ≡ best_from (has_domain_budget records.now) (is_richer records.now) best
         units.now }
 {
     match units {
@@ -73,7 +73,7 @@ fn richest(
 
 /// The one that runs first, of the best so far and a unit with budget left.
 fn earlier(domains: &[Option<RtdsUnits>], best: Option<UnitId>, u: UnitId) -> Option<UnitId>
-    ensures { result ≡ better (has_left domains.now) (unit_before_spec domains.now) best u }
+    ensures { result ≡ better (has_left domains.now) (is_unit_before domains.now) best u }
 {
     let is_better = 0 < budget_left(domains, u)
         && match best {
@@ -85,7 +85,7 @@ fn earlier(domains: &[Option<RtdsUnits>], best: Option<UnitId>, u: UnitId) -> Op
 
 /// The one that runs first, of the best so far and the units with budget left.
 fn earliest(domains: &[Option<RtdsUnits>], best: Option<UnitId>, units: &[UnitId]) -> Option<UnitId>
-    ensures { result ≡ best_from (has_left domains.now) (unit_before_spec domains.now) best
+    ensures { result ≡ best_from (has_left domains.now) (is_unit_before domains.now) best
         units.now }
 {
     match units {
@@ -106,26 +106,26 @@ fn window_unit(records: &ArincRecords, t: Moment, queue: &[UnitId]) -> Option<Un
 }
 
 /// What a look at t finds once.
-pub fn look_of(scheduler: &Scheduler, t: Moment) -> Look
+pub fn look_of(scheduler: &Scheduler, t: Moment) -> BestWaiting
     requires records { RecordsFit t.0 scheduler.now.records }
     requires early { t.0 ≤ most_span }
     ensures { Finds result t.0 scheduler.now }
 {
     let queue = scheduler.queue.as_slice();
     match &scheduler.records {
-        Records::Credit2Pool(records) => Look {
+        Records::Credit2Pool(records) => BestWaiting {
             best: richest(records, None, 0, queue),
             most: max_weight(records),
         },
-        Records::RtdsPool(domains) => Look {
+        Records::RtdsPool(domains) => BestWaiting {
             best: earliest(domains.as_slice(), None, queue),
             most: 0,
         },
-        Records::ArincPool(records) => Look {
+        Records::ArincPool(records) => BestWaiting {
             best: window_unit(records, t, queue),
             most: 0,
         },
-        Records::NullPool(_) => Look {
+        Records::NullPool(_) => BestWaiting {
             best: None,
             most: 0,
         },
@@ -144,7 +144,7 @@ fn is_better(
     requires records { RecordsFit t.0 scheduler.now.records }
     requires early { t.0 ≤ most_span }
     requires most { most ≡ most_of scheduler.now.records }
-    ensures { result ≡ is_better_spec scheduler.now.records cur since.0 t.0 u }
+    ensures { result ≡ is_unit_better scheduler.now.records cur since.0 t.0 u }
 {
     match &scheduler.records {
         Records::Credit2Pool(records) => {
@@ -189,7 +189,7 @@ fn hangs_on_core(scheduler: &Scheduler, cur: Option<UnitId>) -> bool
 
 /// Whether the core, on which its own unit may be, is to decide anew: for the best of the waiting units, or for another one.
 fn waits_for_core(
-    look: &Look,
+    look: &BestWaiting,
     cur: Option<UnitId>,
     since: Moment,
     t: Moment,
@@ -202,7 +202,7 @@ fn waits_for_core(
     requires early { t.0 ≤ most_span }
     requires core { core.0 < 64 }
     requires own { IsOwnAllowed scheduler.now home.0 core.0 cur }
-    ensures { result ≡ better_waits_spec cur since.0 t.0 core.0 home.0 scheduler.now }
+    ensures { result ≡ has_better_waiting cur since.0 t.0 core.0 home.0 scheduler.now }
 {
     match look.best {
         None => {
@@ -219,7 +219,7 @@ fn waits_for_core(
 
 /// Whether the core is to decide anew: a unit waits for it while it has none, or its own is not allowed, or a better one waits.
 pub fn better_waits(
-    look: &Look,
+    look: &BestWaiting,
     cur: Option<UnitId>,
     since: Moment,
     t: Moment,
@@ -231,7 +231,7 @@ pub fn better_waits(
     requires records { RecordsFit t.0 scheduler.now.records }
     requires early { t.0 ≤ most_span }
     requires core { core.0 < 64 }
-    ensures { result ≡ better_waits_spec cur since.0 t.0 core.0 home.0 scheduler.now }
+    ensures { result ≡ has_better_waiting cur since.0 t.0 core.0 home.0 scheduler.now }
 {
     match cur {
         Some(own) if !is_allowed(scheduler.affinity.as_slice(), home, core, own) => true,

@@ -3,7 +3,7 @@
 ghost use Rattle.sched_model.specs.CheckedMachine.{most_span};
 ghost use Rattle.std.specs.Prelude.{◌≡◌, ◌≤◌};
 ghost use Rattle.sched_model.specs.Places.{change_each};
-ghost use Rattle.sched_model.specs.Pool.{set_params as set_params_spec};
+ghost use Rattle.sched_model.specs.Pool.{changed_pool};
 ghost use Rattle.scheduler_records.specs.Fits.{RecordsFit};
 ghost use Rattle.plain_schedulers.specs.Parameters.{ChangeFits};
 ghost use Rattle.pool_records.specs.Marks.{due_now_of, pending_each, marked_cores};
@@ -67,7 +67,7 @@ pub fn set_params(change: ParamChange, t: Moment, pool: &mut Pool)
     requires change { ChangeFits change }
     requires records { RecordsFit t.0 pool.old.scheduler.records }
     requires early { t.0 ≤ most_span }
-    ensures { pool.new ≡ set_params_spec change t.0 pool.old }
+    ensures { pool.new ≡ changed_pool change t.0 pool.old }
 {
     mark(&change, t, &mut pool.resources);
     set_scheduler(change, t, &mut pool.scheduler);

@@ -3,7 +3,7 @@
 ghost use Rattle.std.specs.Prelude.{◌≡◌, ◌<◌, ◌≤◌, length};
 ghost use Rattle.sched_model.specs.Places.{change_each};
 ghost use Rattle.sched_laws.specs.EachPlace.{AllPlaces};
-ghost use Rattle.sched_model.specs.Pool.{withdrawn_pool, pause as pause_spec, unpause as unpause_spec, set_moving as set_moving_spec};
+ghost use Rattle.sched_model.specs.Pool.{withdrawn_pool, paused_pool, unpaused_pool, pool_with_moving};
 ghost use Rattle.pool_records.specs.Fits.{DomainFits, PoolFits};
 ghost use Rattle.pool_records.specs.Marks.{pending_of};
 ghost use Rattle.plain_pool.specs.Pauses.{is_paused_at, paused_count};
@@ -51,7 +51,7 @@ fn is_paused(d: DomId, domains: &[Option<Domain>]) -> bool
 
 /// The domain is paused: its units stop waiting, and the cores that run one are to decide anew. Nothing changes where it is paused already.
 pub fn pause(d: DomId, pool: &mut Pool)
-    ensures { pool.new ≡ pause_spec d.0 pool.old }
+    ensures { pool.new ≡ paused_pool d.0 pool.old }
 {
     if !is_paused(d, pool.domains.as_slice()) {
         set_paused(d, true, &mut pool.domains);
@@ -83,8 +83,8 @@ pub fn unpause(g: u8, d: DomId, pool: &mut Pool)
     requires some { 0 < g }
     requires few { g ≤ 4 }
     requires fits { PoolFits pool.old }
-    requires room { length (unpause_spec g d.0 pool.old).scheduler.queue ≤ 256 }
-    ensures { pool.new ≡ unpause_spec g d.0 pool.old }
+    requires room { length (unpaused_pool g d.0 pool.old).scheduler.queue ≤ 256 }
+    ensures { pool.new ≡ unpaused_pool g d.0 pool.old }
 {
     if let Some(count) = paused_units(g, d, pool.domains.as_slice()) {
         set_paused(d, false, &mut pool.domains);
@@ -94,7 +94,7 @@ pub fn unpause(g: u8, d: DomId, pool: &mut Pool)
 
 /// The domain is moving to the pool i: its units stop waiting, and the cores that run one are to decide anew.
 pub fn set_moving(d: DomId, i: u8, pool: &mut Pool)
-    ensures { pool.new ≡ set_moving_spec d.0 i pool.old }
+    ensures { pool.new ≡ pool_with_moving d.0 i pool.old }
 {
     set_target(d, Some(PoolId(i)), &mut pool.domains);
     withdraw(d, pool);

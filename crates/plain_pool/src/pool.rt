@@ -2,7 +2,7 @@
 
 ghost use Rattle.std.specs.Prelude.{◌≡◌, ◌<◌, ◌≤◌, ◌/◌, ◌%◌, length, Some, None, false};
 ghost use Rattle.std.specs.Option.{option_copied};
-ghost use Rattle.sched_model.specs.Pool.{enabled_in, processor_of as processor_of_spec, guest_of as guest_of_spec, lowest_up as lowest_up_spec};
+ghost use Rattle.sched_model.specs.Pool.{enabled_in, pool_processor, running_guest, is_lowest_processor_up};
 ghost use Rattle.sched_model.specs.declared.action.Action.TheVariants.{Moved, DomMoved, Wake, Block, Slice, Repl, Refill, Arrive, Decide, Leave, Save};
 ghost use Rattle.pool_records.specs.Fits.{PoolFits};
 ghost use Rattle.plain_pool.specs.Rows.{done_among, processor_up};
@@ -22,7 +22,7 @@ use sched_model::state::{Doing, Pool, Processor};
 /// The processor with this number.
 pub fn processor_of(g: u8, pool: &Pool, p: ProcId) -> Option<&Processor>
     requires { 0 < g }
-    ensures { option_copied result ≡ processor_of_spec g pool.now p.0 }
+    ensures { option_copied result ≡ pool_processor g pool.now p.0 }
 {
     let c = item_at(pool.resources.as_slice(), (p.0 / g) as usize)?;
     c.processors.as_slice().get((p.0 % g) as usize)
@@ -31,7 +31,7 @@ pub fn processor_of(g: u8, pool: &Pool, p: ProcId) -> Option<&Processor>
 /// The vCPU that the processor runs.
 pub fn guest_of(g: u8, pool: &Pool, p: ProcId) -> Option<VcpuId>
     requires { 0 < g }
-    ensures { result ≡ guest_of_spec g pool.now p.0 }
+    ensures { result ≡ running_guest g pool.now p.0 }
 {
     match processor_of(g, pool, p) {
         None => None,
@@ -44,7 +44,7 @@ pub fn guest_of(g: u8, pool: &Pool, p: ProcId) -> Option<VcpuId>
 
 /// Whether the pool's lowest processor is up.
 fn lowest_up(t: Moment, pool: &Pool) -> bool
-    ensures { result ≡ lowest_up_spec t.0 pool.now }
+    ensures { result ≡ is_lowest_processor_up t.0 pool.now }
 {
     let cores = pool.resources.as_slice();
     match first_core(cores) {

@@ -2,9 +2,9 @@
 
 ghost use Rattle.std.specs.Prelude.{◌≡◌, ℕ, ◌+◌, ◌<◌, ◌≤◌, ◌^◌, length};
 ghost use Rattle.sched_model.specs.Places.{numbered_items};
-ghost use Rattle.pool_laws.specs.ReadyMoments.{moment_if, later_moment, gathers as gathers_spec, may_move as may_move_spec, first_end as first_end_spec, lowest_end as lowest_end_spec};
+ghost use Rattle.pool_laws.specs.ReadyMoments.{guarded_moment, later_of, may_gather, may_core_move, first_stall_end, lowest_stall_end};
 ghost use Rattle.pool_records.specs.Fits.{PoolFits};
-ghost use Rattle.plain_pool.specs.Ready.{AreFewRecords, AreWhole, IsLeastWith, IsReadyIn, ScanFits, lesser as lesser_spec, least_each, done_of as done_of_spec, work_on as work_on_spec, move_end as move_end_spec, block_end as block_end_spec, least_of_processor, due_end as due_end_spec, decides as decides_spec, decide_end as decide_end_spec, saves as saves_spec, save_end as save_end_spec, moved_end as moved_end_spec, least_of_core, least_of_cores, least_of_vcpus, may_dom_move as may_dom_move_spec, dom_moved_end as dom_moved_end_spec, least_of_domain, least_of_domains, least_of_refills, refill_end, is_about as is_about_spec, repl_end, least_of_units, least_of_all_units, least_of_timers, least_of_scheduler};
+ghost use Rattle.plain_pool.specs.Ready.{AreFewRecords, AreWhole, IsLeastWith, IsReadyIn, ScanFits, lesser_moment, least_each, work_done_moment, running_work_moment, move_moment, block_moment, least_of_processor, due_moment, is_to_decide, decide_moment, is_to_save, save_moment, moved_moment, least_of_core, least_of_cores, least_of_vcpus, may_domain_move, dom_moved_moment, least_of_domain, least_of_domains, least_of_refills, refill_end, is_waiting_or_on, repl_end, least_of_units, least_of_all_units, least_of_timers, least_of_scheduler};
 
 use plain_schedulers::queue::has_unit;
 use pool_records::cores::{all_held, any_held, core_of, first_core, has_domain, is_held, is_open};
@@ -17,7 +17,7 @@ use sched_model::state::{
 
 /// The lesser of the least so far and a moment, where there is one.
 pub fn lesser(best: u64, at: Option<Moment>) -> u64
-    ensures { result ≡ lesser_spec best at }
+    ensures { result ≡ lesser_moment best at }
 {
     match at {
         None => best,
@@ -27,14 +27,14 @@ pub fn lesser(best: u64, at: Option<Moment>) -> u64
 
 /// The moment, where the condition holds.
 pub fn end_if(condition: bool, at: Option<Moment>) -> Option<Moment>
-    ensures { result ≡ moment_if condition at }
+    ensures { result ≡ guarded_moment condition at }
 {
     if condition { at } else { None }
 }
 
 /// The later of two moments, where both are there.
 fn later(a: Option<Moment>, b: Option<Moment>) -> Option<Moment>
-    ensures { result ≡ later_moment a b }
+    ensures { result ≡ later_of a b }
 {
     match a {
         None => None,
@@ -47,7 +47,7 @@ fn later(a: Option<Moment>, b: Option<Moment>) -> Option<Moment>
 
 /// The end of the stall of the core's first processor.
 fn first_end(c: &Resource) -> Option<Moment>
-    ensures { result ≡ first_end_spec c.now }
+    ensures { result ≡ first_stall_end c.now }
 {
     match c.processors.as_slice() {
         [] => None,
@@ -57,7 +57,7 @@ fn first_end(c: &Resource) -> Option<Moment>
 
 /// The end of the stall of the pool's lowest processor.
 fn lowest_end(pool: &Pool) -> Option<Moment>
-    ensures { result ≡ lowest_end_spec pool.now }
+    ensures { result ≡ lowest_stall_end pool.now }
 {
     let cores = pool.resources.as_slice();
     match first_core(cores) {
@@ -70,10 +70,10 @@ fn lowest_end(pool: &Pool) -> Option<Moment>
 }
 
 /// When the work of the vCPU is done.
-#[tactic(auto, unfolding(crate::specs::Ready::done_of))]
+#[tactic(auto, unfolding(crate::specs::Ready::work_done_moment))]
 fn done_of(pool: &Pool, v: VcpuId) -> Option<Moment>
     requires { PoolFits pool.now }
-    ensures { result ≡ done_of_spec pool.now v }
+    ensures { result ≡ work_done_moment pool.now v }
 {
     match vcpu_of(pool.domains.as_slice(), v) {
         None => None,
@@ -82,10 +82,10 @@ fn done_of(pool: &Pool, v: VcpuId) -> Option<Moment>
 }
 
 /// When the work of the vCPU that the processor runs is done.
-#[tactic(auto, unfolding(crate::specs::Ready::work_on))]
+#[tactic(auto, unfolding(crate::specs::Ready::running_work_moment))]
 fn work_on(pool: &Pool, q: &Processor) -> Option<Moment>
     requires { PoolFits pool.now }
-    ensures { result ≡ work_on_spec pool.now q.now }
+    ensures { result ≡ running_work_moment pool.now q.now }
 {
     match q.doing {
         Doing::Guest(v) => done_of(pool, v),
@@ -95,15 +95,15 @@ fn work_on(pool: &Pool, q: &Processor) -> Option<Moment>
 
 /// Whether the core's processors may arrive.
 fn gathers(c: &Resource) -> bool
-    ensures { result ≡ gathers_spec c.now }
+    ensures { result ≡ may_gather c.now }
 {
     c.pending && is_open(c) && c.saving.is_none()
 }
 
 /// From when on the processor of the core may arrive, or leave.
-#[tactic(auto, unfolding(crate::specs::Ready::move_end))]
+#[tactic(auto, unfolding(crate::specs::Ready::move_moment))]
 fn move_end(c: &Resource, q: &Processor) -> Option<Moment>
-    ensures { result ≡ move_end_spec c.now q.now }
+    ensures { result ≡ move_moment c.now q.now }
 {
     if is_held(q) {
         end_if(!is_open(c), Some(q.stall_end))
@@ -113,10 +113,10 @@ fn move_end(c: &Resource, q: &Processor) -> Option<Moment>
 }
 
 /// From when on the vCPU that the processor runs may block.
-#[tactic(auto, unfolding(crate::specs::Ready::block_end))]
+#[tactic(auto, unfolding(crate::specs::Ready::block_moment))]
 fn block_end(pool: &Pool, q: &Processor) -> Option<Moment>
     requires { PoolFits pool.now }
-    ensures { result ≡ block_end_spec pool.now q.now }
+    ensures { result ≡ block_moment pool.now q.now }
 {
     later(work_on(pool, q), Some(q.stall_end))
 }
@@ -141,54 +141,54 @@ fn of_processors(best: u64, pool: &Pool, c: &Resource, processors: &[Processor])
 }
 
 /// From when on the core's due has come.
-#[tactic(auto, unfolding(crate::specs::Ready::due_end))]
+#[tactic(auto, unfolding(crate::specs::Ready::due_moment))]
 fn due_end(c: &Resource) -> Option<Moment>
-    ensures { result ≡ due_end_spec c.now }
+    ensures { result ≡ due_moment c.now }
 {
     end_if(!c.pending, later(c.due, first_end(c)))
 }
 
 /// Whether the core's processors are all held, and its stage is open.
 fn decides(c: &Resource) -> bool
-    ensures { result ≡ decides_spec c.now }
+    ensures { result ≡ is_to_decide c.now }
 {
     all_held(c.processors.as_slice()) && is_open(c)
 }
 
 /// From when on the core may decide.
-#[tactic(auto, unfolding(crate::specs::Ready::decide_end))]
+#[tactic(auto, unfolding(crate::specs::Ready::decide_moment))]
 fn decide_end(c: &Resource) -> Option<Moment>
-    ensures { result ≡ decide_end_spec c.now }
+    ensures { result ≡ decide_moment c.now }
 {
     end_if(decides(c), first_end(c))
 }
 
 /// Whether the core saves a unit, and none of its processors is held.
 fn saves(c: &Resource) -> bool
-    ensures { result ≡ saves_spec c.now }
+    ensures { result ≡ is_to_save c.now }
 {
     c.saving.is_some() && !any_held(c.processors.as_slice())
 }
 
 /// From when on the core may save.
-#[tactic(auto, unfolding(crate::specs::Ready::save_end))]
+#[tactic(auto, unfolding(crate::specs::Ready::save_moment))]
 fn save_end(c: &Resource) -> Option<Moment>
-    ensures { result ≡ save_end_spec c.now }
+    ensures { result ≡ save_moment c.now }
 {
     end_if(saves(c), first_end(c))
 }
 
 /// Whether the core is leaving the pool, and nothing is on it.
 fn may_move(c: &Resource) -> bool
-    ensures { result ≡ may_move_spec c.now }
+    ensures { result ≡ may_core_move c.now }
 {
     c.leaving && c.cur.is_none() && c.saving.is_none() && !c.pending && is_open(c)
 }
 
 /// From when on the core may leave the pool.
-#[tactic(auto, unfolding(crate::specs::Ready::moved_end))]
+#[tactic(auto, unfolding(crate::specs::Ready::moved_moment))]
 fn moved_end(c: &Resource) -> Option<Moment>
-    ensures { result ≡ moved_end_spec c.now }
+    ensures { result ≡ moved_moment c.now }
 {
     end_if(may_move(c), first_end(c))
 }
@@ -232,16 +232,16 @@ fn of_vcpus(best: u64, vcpus: &[Vcpu]) -> u64
 /// Whether the domain is moving, and no unit of it is on a core.
 fn may_dom_move(pool: &Pool, d: DomId, x: &Domain) -> bool
     requires { length pool.now.resources ≤ 64 }
-    ensures { result ≡ may_dom_move_spec pool.now d.0 x.now }
+    ensures { result ≡ may_domain_move pool.now d.0 x.now }
 {
     x.moving.is_some() && !has_domain(0, pool.resources.as_slice(), d)
 }
 
 /// From when on the domain may move.
-#[tactic(auto, unfolding(crate::specs::Ready::dom_moved_end))]
+#[tactic(auto, unfolding(crate::specs::Ready::dom_moved_moment))]
 fn dom_moved_end(pool: &Pool, d: DomId, x: &Domain) -> Option<Moment>
     requires { length pool.now.resources ≤ 64 }
-    ensures { result ≡ dom_moved_end_spec pool.now d.0 x.now }
+    ensures { result ≡ dom_moved_moment pool.now d.0 x.now }
 {
     end_if(may_dom_move(pool, d, x), Some(Moment(0)))
 }
@@ -276,7 +276,7 @@ fn of_domains(d: u8, best: u64, pool: &Pool, domains: &[Option<Domain>]) -> u64
 /// The least so far, or from when on the domain may be refilled, which is not before this end.
 #[tactic(auto, unfolding(crate::specs::Ready::refill_end))]
 fn of_refill(best: u64, end: Moment, x: &Credit2Domain) -> u64
-    ensures { result ≡ lesser_spec best (refill_end end x.now) }
+    ensures { result ≡ lesser_moment best (refill_end end x.now) }
 {
     lesser(best, later(x.refill.map(Moment), Some(end)))
 }
@@ -296,7 +296,7 @@ fn of_refills(d: u8, best: u64, end: Moment, domains: &[Option<Credit2Domain>]) 
 /// Whether the unit waits or is on a core.
 fn is_about(pool: &Pool, u: UnitId) -> bool
     requires { length pool.now.resources ≤ 64 }
-    ensures { result ≡ is_about_spec pool.now u }
+    ensures { result ≡ is_waiting_or_on pool.now u }
 {
     has_unit(pool.scheduler.queue.as_slice(), u) || core_of(pool.resources.as_slice(), u).is_some()
 }
@@ -305,7 +305,7 @@ fn is_about(pool: &Pool, u: UnitId) -> bool
 /// asked only where its deadline comes before the least so far.
 fn of_unit(best: u64, end: Moment, pool: &Pool, u: UnitId, deadline: u64) -> u64
     requires { length pool.now.resources ≤ 64 }
-    ensures { result ≡ lesser_spec best (repl_end pool.now end u deadline) }
+    ensures { result ≡ lesser_moment best (repl_end pool.now end u deadline) }
 {
     let at = deadline.max(end.0);
     if best <= at {

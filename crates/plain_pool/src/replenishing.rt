@@ -5,7 +5,7 @@ ghost use Rattle.std.specs.Prelude.{◌≡◌, ◌≤◌, IsTrue, Some, length, 
 ghost use Rattle.sched_model.specs.declared.action.Action.TheVariants.{Repl, Refill};
 ghost use Rattle.sched_model.specs.declared.state.Resource.{Resource as ResourceRecord};
 ghost use Rattle.sched_model.specs.Places.{first_place, is_unit};
-ghost use Rattle.sched_model.specs.Policy.{replenish as replenish_spec, replenish_due, rtds_record as rtds_record_spec};
+ghost use Rattle.sched_model.specs.Policy.{records_after_replenish, is_replenish_due, unit_rtds_record};
 ghost use Rattle.sched_model.specs.Pool.{enabled_in, after_in, event_in};
 ghost use Rattle.scheduler_records.specs.Fits.{RecordsFit};
 ghost use Rattle.pool_records.specs.Fits.{PoolFits};
@@ -34,11 +34,11 @@ fn bring_due_of(u: UnitId, t: Moment, budget: u64, cores: &mut Row<Option<Resour
 
 /// The unit, whose deadline has come, is replenished: its record afterwards.
 fn renew(t: Moment, u: UnitId, records: &mut Records) -> RtdsUnit
-    requires due { replenish_due records.old t.0 u ≡ true }
+    requires due { is_replenish_due records.old t.0 u ≡ true }
     requires early { t.0 ≤ most_span }
     requires fits { RecordsFit t.0 records.old }
-    ensures unit { Some result ≡ rtds_record_spec (replenish_spec records.old t.0 u) u }
-    ensures records { records.new ≡ replenish_spec records.old t.0 u }
+    ensures unit { Some result ≡ unit_rtds_record (records_after_replenish records.old t.0 u) u }
+    ensures records { records.new ≡ records_after_replenish records.old t.0 u }
 {
     replenish_records(records, t, u);
     match rtds_record(records, u) {

@@ -8,7 +8,7 @@ ghost use Rattle.scheduler_records.specs.Fits.{RecordsFit};
 ghost use Rattle.pool_records.specs.Fits.{PoolFits};
 ghost use Rattle.plain_pool.specs.Looks.{Finds};
 
-use crate::look::{Look, better_waits, look_of};
+use crate::look::{BestWaiting, better_waits, look_of};
 use pool_records::cores::home_cores;
 use sched_base::{Cores, Moment, ResId};
 use sched_model::row::Row;
@@ -17,7 +17,7 @@ use sched_model::state::{Pool, Resource, Scheduler};
 /// The core is pending where it is not leaving and is to decide anew.
 fn reconsider(
     scheduler: &Scheduler,
-    look: &Look,
+    look: &BestWaiting,
     home: Cores,
     core: ResId,
     t: Moment,
@@ -37,7 +37,7 @@ fn reconsider(
 /// Each core is looked at.
 fn reconsider_all(
     scheduler: &Scheduler,
-    look: &Look,
+    look: &BestWaiting,
     home: Cores,
     t: Moment,
     cores: &mut Row<Option<Resource>>,

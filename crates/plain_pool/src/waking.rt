@@ -3,7 +3,7 @@
 ghost use Rattle.sched_model.specs.CheckedMachine.{most_span};
 ghost use Rattle.std.specs.Prelude.{◌≡◌, ◌<◌, ◌≤◌, length, IsTrue};
 ghost use Rattle.sched_model.specs.declared.action.Action.TheVariants.{Wake, Block};
-ghost use Rattle.sched_model.specs.Pool.{enabled_in, after_in, event_in, is_off as is_off_spec, joined_siblings};
+ghost use Rattle.sched_model.specs.Pool.{enabled_in, after_in, event_in, is_unit_off, joined_siblings};
 ghost use Rattle.pool_records.specs.Fits.{PoolFits};
 ghost use Rattle.plain_pool.specs.Wakes.{idles_at, after_placing};
 
@@ -21,7 +21,7 @@ use sched_model::state::{Doing, Pool};
 /// Whether the unit is in no queue, no cur and no saving.
 pub fn is_off(pool: &Pool, u: UnitId) -> bool
     requires { length pool.now.resources ≤ 64 }
-    ensures { result ≡ is_off_spec pool.now u }
+    ensures { result ≡ is_unit_off pool.now u }
 {
     !has_unit(pool.scheduler.queue.as_slice(), u) && !is_on_core(0, pool.resources.as_slice(), u)
 }

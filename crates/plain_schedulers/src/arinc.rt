@@ -4,8 +4,8 @@ ghost use Rattle.sched_model.specs.CheckedMachine.{most_span};
 ghost use Rattle.std.specs.Prelude.{◌≡◌, ◌<◌, ◌≤◌, []};
 ghost use Rattle.std.specs.Option.{ForSome};
 ghost use Rattle.sched_model.specs.declared.state.Records.TheVariants.{ArincPool};
-ghost use Rattle.sched_model.specs.EligibleUnits.{passes as passes_spec};
-ghost use Rattle.sched_model.specs.Policy.{choice_of_window as choice_of_window_spec, decision_by};
+ghost use Rattle.sched_model.specs.EligibleUnits.{may_have_core};
+ghost use Rattle.sched_model.specs.Policy.{window_choice, decision_by};
 ghost use Rattle.scheduler_records.specs.Fits.{IsFrame};
 ghost use Rattle.plain_schedulers.specs.Tells.{Tells};
 ghost use Rattle.scheduler_records.specs.Parts.{scheduler_of};
@@ -24,7 +24,7 @@ use scheduler_records::eligible::is_allowed;
 pub fn passes(records: &ArincRecords, t: Moment, u: UnitId) -> bool
     requires frame { ForSome records.now.frame IsFrame }
     requires early { t.0 ≤ most_span }
-    ensures { result ≡ passes_spec (ArincPool records.now)
+    ensures { result ≡ may_have_core (ArincPool records.now)
         (scheduler_of [] [] (ArincPool records.now)) 0 0 t.0 u }
 {
     match present_window(records, t) {
@@ -44,7 +44,7 @@ fn choice_of_window(
     requires frame { ForSome records.now.frame IsFrame }
     requires early { ask.now.at.0 ≤ most_span }
     requires core { ask.now.core.0 < 64 }
-    ensures { result ≡ choice_of_window_spec ask.now
+    ensures { result ≡ window_choice ask.now
         (scheduler_of queue.now affinity.now (ArincPool records.now)) unit }
 {
     let u = unit?;

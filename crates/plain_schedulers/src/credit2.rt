@@ -3,7 +3,7 @@
 ghost use Rattle.sched_model.specs.CheckedMachine.{most_span};
 ghost use Rattle.std.specs.Prelude.{◌≡◌, ◌<◌, ◌≤◌, Some, None};
 ghost use Rattle.sched_model.specs.declared.state.Records.TheVariants.{Credit2Pool};
-ghost use Rattle.sched_model.specs.Credit2.{domain_has_budget as domain_has_budget_spec, is_better as is_better_spec, decide as decide_spec, credit2_decision};
+ghost use Rattle.sched_model.specs.Credit2.{has_domain_budget, has_more_credit, credit2_decision_for, credit2_decision};
 ghost use Rattle.scheduler_records.specs.Fits.{Credit2Fits};
 ghost use Rattle.plain_schedulers.specs.Tells.{Tells};
 ghost use Rattle.scheduler_records.specs.Bounds.{PoolFits};
@@ -22,7 +22,7 @@ use scheduler_records::credit2_slice::{domain_has_budget, is_within_limit, reset
 
 /// Whether the cap lets the unit's domain run.
 pub fn passes(records: &Credit2Records, u: UnitId) -> bool
-    ensures { result ≡ domain_has_budget_spec records.now u }
+    ensures { result ≡ has_domain_budget records.now u }
 {
     domain_has_budget(records, u)
 }
@@ -31,7 +31,7 @@ pub fn passes(records: &Credit2Records, u: UnitId) -> bool
 pub fn is_better(records: &Credit2Records, cur: UnitId, since: Moment, t: Moment, u: UnitId) -> bool
     requires early { t.0 ≤ most_span }
     requires fits { Credit2Fits t.0 records.now }
-    ensures { result ≡ is_better_spec records.now cur since.0 t.0 u }
+    ensures { result ≡ has_more_credit records.now cur since.0 t.0 u }
 {
     !is_within_limit(records, since, t) && burned_credit_of(records, t, cur) < credit_of(records, u)
 }
@@ -43,10 +43,10 @@ fn idle(
     affinity: &[Option<Pins>],
     ask: &Ask,
 ) -> Decided
-    ensures decided { Tells result (decide_spec ask.now
+    ensures decided { Tells result (credit2_decision_for ask.now
         (credit2_scheduler queue.now affinity.now records.old) records.old None) }
     ensures records { Credit2Pool records.new
-        ≡ (decide_spec ask.now (credit2_scheduler queue.now affinity.now records.old) records.old
+        ≡ (credit2_decision_for ask.now (credit2_scheduler queue.now affinity.now records.old) records.old
         None).records }
 {
     switch_off(ask.cur, records);
@@ -69,10 +69,10 @@ fn run_unit(
     requires early { ask.now.at.0 ≤ most_span }
     requires fits { PoolFits ask.now.at.0 records.old }
     requires limit { records.old.limit ≤ 500000 }
-    ensures decided { Tells result (decide_spec ask.now
+    ensures decided { Tells result (credit2_decision_for ask.now
         (credit2_scheduler queue.now affinity.now records.old) records.old (Some u)) }
     ensures records { Credit2Pool records.new
-        ≡ (decide_spec ask.now (credit2_scheduler queue.now affinity.now records.old) records.old
+        ≡ (credit2_decision_for ask.now (credit2_scheduler queue.now affinity.now records.old) records.old
         (Some u)).records }
 {
     let resets = resets_for(ask.at, u, records);

@@ -1,10 +1,10 @@
 //! Credit2: which unit a core is to run, and for how long. Moments and spans are in nanoseconds.
 
 ghost use Rattle.std.specs.Prelude.{◌≡◌, ◌<◌, ◌≤◌, [], filter};
-ghost use Rattle.sched_model.specs.Credit2.{greatest_unit as greatest_spec, own_candidate as own_candidate_spec, choice as choice_spec, best_other as best_other_spec, slice_of as slice_of_spec};
+ghost use Rattle.sched_model.specs.Credit2.{richest_unit, credit2_candidate, credit2_choice, best_other_credit, chosen_slice};
 ghost use Rattle.scheduler_records.specs.Bounds.{PoolParamsFit};
 ghost use Rattle.scheduler_records.specs.Parts.{credit2_scheduler};
-ghost use Rattle.plain_schedulers.specs.WaitingUnits.{contends as contends_spec, richer_unit as richer_spec};
+ghost use Rattle.plain_schedulers.specs.WaitingUnits.{is_contender, richer_or_second};
 
 use sched_base::UnitId;
 use sched_model::ask::Ask;
@@ -18,7 +18,7 @@ use scheduler_records::eligible::is_allowed;
 
 /// The one of greater credit; the first where they have as much.
 fn richer(records: &Credit2Records, best: Option<UnitId>, u: UnitId) -> UnitId
-    ensures { result ≡ richer_spec records.now best u }
+    ensures { result ≡ richer_or_second records.now best u }
 {
     match best {
         None => u,
@@ -41,7 +41,7 @@ fn contends(
     u: UnitId,
 ) -> bool
     requires { ask.now.core.0 < 64 }
-    ensures { result ≡ contends_spec affinity.now ask.now records.now over u }
+    ensures { result ≡ is_contender affinity.now ask.now records.now over u }
 {
     !is_there(over, u)
         && is_allowed(affinity, ask.home, ask.core, u)
@@ -58,8 +58,8 @@ fn greatest(
     over: Option<UnitId>,
 ) -> Option<UnitId>
     requires { ask.now.core.0 < 64 }
-    ensures { result ≡ greatest_spec records.now best
-        (filter (contends_spec affinity.now ask.now records.now over) waiting.now) }
+    ensures { result ≡ richest_unit records.now best
+        (filter (is_contender affinity.now ask.now records.now over) waiting.now) }
 {
     match waiting {
         [] => best,
@@ -77,7 +77,7 @@ fn greatest(
 /// The core's own unit, where it may go on.
 fn own_candidate(ask: &Ask, affinity: &[Option<Pins>], records: &Credit2Records) -> Option<UnitId>
     requires { ask.now.core.0 < 64 }
-    ensures { result ≡ own_candidate_spec ask.now (credit2_scheduler [] affinity.now records.now)
+    ensures { result ≡ credit2_candidate ask.now (credit2_scheduler [] affinity.now records.now)
         records.now }
 {
     let u = ask.cur?;
@@ -99,7 +99,7 @@ pub fn choice(
     records: &Credit2Records,
 ) -> Option<UnitId>
     requires { ask.now.core.0 < 64 }
-    ensures { result ≡ choice_spec ask.now (credit2_scheduler queue.now affinity.now records.now)
+    ensures { result ≡ credit2_choice ask.now (credit2_scheduler queue.now affinity.now records.now)
         records.now }
 {
     if ask.leaving {
@@ -121,7 +121,7 @@ fn best_other(
     u: UnitId,
 ) -> i64
     requires { ask.now.core.0 < 64 }
-    ensures { result ≡ best_other_spec ask.now (credit2_scheduler queue.now affinity.now records.now)
+    ensures { result ≡ best_other_credit ask.now (credit2_scheduler queue.now affinity.now records.now)
         records.now u }
 {
     match greatest(records, None, queue, affinity, ask, Some(u)) {
@@ -141,7 +141,7 @@ pub fn slice_of(
     requires core { ask.now.core.0 < 64 }
     requires params { PoolParamsFit records.now }
     requires limit { records.now.limit ≤ 500000 }
-    ensures exact { result ≡ slice_of_spec ask.now (credit2_scheduler queue.now affinity.now records.now)
+    ensures exact { result ≡ chosen_slice ask.now (credit2_scheduler queue.now affinity.now records.now)
         records.now u }
     ensures few { result ≤ 500000000 }
 {

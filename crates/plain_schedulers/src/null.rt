@@ -2,7 +2,7 @@
 
 ghost use Rattle.std.specs.Prelude.{◌≡◌, ◌<◌, ◌≤◌, length};
 ghost use Rattle.sched_model.specs.declared.state.Records.TheVariants.{NullPool};
-ghost use Rattle.sched_model.specs.NullScheduler.{kept_for, placed_or_earliest, choice as choice_spec, null_decision};
+ghost use Rattle.sched_model.specs.NullScheduler.{kept_for, placed_or_earliest, null_choice, null_decision};
 ghost use Rattle.plain_schedulers.specs.Tells.{Tells};
 ghost use Rattle.scheduler_records.specs.Parts.{scheduler_of};
 
@@ -46,7 +46,7 @@ fn choice(
 ) -> Option<UnitId>
     requires core { ask.now.core.0 < 64 }
     requires few { length kept.now ≤ 64 }
-    ensures { result ≡ choice_spec ask.now (scheduler_of queue.now affinity.now (NullPool kept.now))
+    ensures { result ≡ null_choice ask.now (scheduler_of queue.now affinity.now (NullPool kept.now))
         kept.now }
 {
     if let Some(u) = ask.cur

@@ -2,7 +2,7 @@
 
 ghost use Rattle.sched_model.specs.CheckedMachine.{most_span};
 ghost use Rattle.std.specs.Prelude.{◌≡◌, ◌≤◌};
-ghost use Rattle.sched_model.specs.Policy.{default_dom_params as default_dom_params_spec, joined_records, join as join_spec, parted_records, part as part_spec, set_params as set_params_spec};
+ghost use Rattle.sched_model.specs.Policy.{standard_dom_params, joined_records, joined_scheduler, parted_records, parted_scheduler, changed_scheduler};
 ghost use Rattle.scheduler_records.specs.Fits.{RecordsFit};
 ghost use Rattle.plain_schedulers.specs.Parameters.{ParamsFit, ChangeFits};
 
@@ -18,7 +18,7 @@ use scheduler_records::rtds::{fresh_units, set_next};
 
 /// The parameters of a domain that moves to a pool with these records.
 pub fn default_dom_params(records: &Records) -> DomParams
-    ensures { result ≡ default_dom_params_spec records.now }
+    ensures { result ≡ standard_dom_params records.now }
 {
     match records {
         Records::Credit2Pool(_) => DomParams::Credit2 {
@@ -68,7 +68,7 @@ pub fn join(d: DomId, count: u8, params: &DomParams, t: Moment, scheduler: &mut 
     requires count { count ≤ 32 }
     requires params { ParamsFit params.now }
     requires early { t.0 ≤ most_span }
-    ensures { scheduler.new ≡ join_spec d.0 count params.now t.0 scheduler.old }
+    ensures { scheduler.new ≡ joined_scheduler d.0 count params.now t.0 scheduler.old }
 {
     let sets = copies(Cores(u64::MAX), count);
     set_place(&mut scheduler.affinity, d.0, Some(sets));
@@ -89,7 +89,7 @@ fn part_records(d: DomId, records: &mut Records)
 
 /// The domain parts.
 pub fn part(d: DomId, scheduler: &mut Scheduler)
-    ensures { scheduler.new ≡ part_spec d.0 scheduler.old }
+    ensures { scheduler.new ≡ parted_scheduler d.0 scheduler.old }
 {
     set_place(&mut scheduler.affinity, d.0, None);
     part_records(d, &mut scheduler.records);
@@ -100,7 +100,7 @@ pub fn set_params(change: ParamChange, t: Moment, scheduler: &mut Scheduler)
     requires change { ChangeFits change }
     requires records { RecordsFit t.0 scheduler.old.records }
     requires early { t.0 ≤ most_span }
-    ensures { scheduler.new ≡ set_params_spec change t.0 scheduler.old }
+    ensures { scheduler.new ≡ changed_scheduler change t.0 scheduler.old }
 {
     match (change, &mut scheduler.records) {
         (ParamChange::Pin { dom, unit, cores }, _) => {

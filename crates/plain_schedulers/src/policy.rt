@@ -3,8 +3,8 @@
 ghost use Rattle.sched_model.specs.CheckedMachine.{most_span};
 ghost use Rattle.std.specs.Prelude.{◌≡◌, ◌<◌, ◌≤◌, ◌&&◌};
 ghost use Rattle.std.specs.List.{list_any};
-ghost use Rattle.sched_model.specs.EligibleUnits.{passes as passes_spec, is_eligible as is_eligible_spec};
-ghost use Rattle.sched_model.specs.Policy.{decision_by, decision_of, after_decision, is_better as is_better_spec, better_waits as better_waits_spec, replenish as replenish_spec, refill as refill_spec};
+ghost use Rattle.sched_model.specs.EligibleUnits.{may_have_core, is_unit_eligible};
+ghost use Rattle.sched_model.specs.Policy.{decision_by, decision_of, after_decision, is_unit_better, has_better_waiting, records_after_replenish, records_after_refill};
 ghost use Rattle.scheduler_records.specs.Fits.{RecordsFit};
 ghost use Rattle.plain_schedulers.specs.Tells.{Tells};
 ghost use Rattle.scheduler_records.specs.Parts.{scheduler_of};
@@ -27,7 +27,7 @@ fn passes(scheduler: &Scheduler, home: Cores, core: ResId, t: Moment, u: UnitId)
     requires records { RecordsFit t.0 scheduler.now.records }
     requires early { t.0 ≤ most_span }
     requires core { core.0 < 64 }
-    ensures { result ≡ passes_spec scheduler.now.records scheduler.now home.0 core.0 t.0 u }
+    ensures { result ≡ may_have_core scheduler.now.records scheduler.now home.0 core.0 t.0 u }
 {
     match &scheduler.records {
         Records::Credit2Pool(records) => credit2::passes(records, u),
@@ -50,7 +50,7 @@ fn is_eligible(scheduler: &Scheduler, home: Cores, core: ResId, t: Moment, u: Un
     requires records { RecordsFit t.0 scheduler.now.records }
     requires early { t.0 ≤ most_span }
     requires core { core.0 < 64 }
-    ensures { result ≡ is_eligible_spec scheduler.now home.0 core.0 t.0 u }
+    ensures { result ≡ is_unit_eligible scheduler.now home.0 core.0 t.0 u }
 {
     is_allowed(scheduler.affinity.as_slice(), home, core, u) && passes(scheduler, home, core, t, u)
 }
@@ -59,7 +59,7 @@ fn is_eligible(scheduler: &Scheduler, home: Cores, core: ResId, t: Moment, u: Un
 fn is_better(scheduler: &Scheduler, cur: UnitId, since: Moment, t: Moment, u: UnitId) -> bool
     requires records { RecordsFit t.0 scheduler.now.records }
     requires early { t.0 ≤ most_span }
-    ensures { result ≡ is_better_spec scheduler.now.records cur since.0 t.0 u }
+    ensures { result ≡ is_unit_better scheduler.now.records cur since.0 t.0 u }
 {
     match &scheduler.records {
         Records::Credit2Pool(records) => credit2::is_better(records, cur, since, t, u),
@@ -74,7 +74,7 @@ fn some_waits(scheduler: &Scheduler, home: Cores, core: ResId, t: Moment) -> boo
     requires records { RecordsFit t.0 scheduler.now.records }
     requires early { t.0 ≤ most_span }
     requires core { core.0 < 64 }
-    ensures { result ≡ list_any (is_eligible_spec scheduler.now home.0 core.0 t.0)
+    ensures { result ≡ list_any (is_unit_eligible scheduler.now home.0 core.0 t.0)
         scheduler.now.queue }
 {
     let waiting = scheduler.queue.as_slice();
@@ -95,8 +95,8 @@ fn some_better_waits(
     requires records { RecordsFit t.0 scheduler.now.records }
     requires early { t.0 ≤ most_span }
     requires core { core.0 < 64 }
-    ensures { result ≡ list_any (λ u. is_eligible_spec scheduler.now home.0 core.0 t.0 u
-        && is_better_spec scheduler.now.records own since.0 t.0 u) scheduler.now.queue }
+    ensures { result ≡ list_any (λ u. is_unit_eligible scheduler.now home.0 core.0 t.0 u
+        && is_unit_better scheduler.now.records own since.0 t.0 u) scheduler.now.queue }
 {
     let waiting = scheduler.queue.as_slice();
     waiting.iter().any(|u| {
@@ -116,7 +116,7 @@ pub fn better_waits(
     requires records { RecordsFit t.0 scheduler.now.records }
     requires early { t.0 ≤ most_span }
     requires core { core.0 < 64 }
-    ensures { result ≡ better_waits_spec cur since.0 t.0 core.0 home.0 scheduler.now }
+    ensures { result ≡ has_better_waiting cur since.0 t.0 core.0 home.0 scheduler.now }
 {
     match cur {
         None => some_waits(scheduler, home, core, t),
@@ -175,7 +175,7 @@ pub fn decide(scheduler: &mut Scheduler, ask: &Ask) -> Decided
 pub fn replenish(records: &mut Records, t: Moment, u: UnitId)
     requires records { RecordsFit t.0 records.old }
     requires early { t.0 ≤ most_span }
-    ensures { records.new ≡ replenish_spec records.old t.0 u }
+    ensures { records.new ≡ records_after_replenish records.old t.0 u }
 {
     match records {
         Records::RtdsPool(domains) => replenish_unit(t, u, domains),
@@ -187,7 +187,7 @@ pub fn replenish(records: &mut Records, t: Moment, u: UnitId)
 pub fn refill(records: &mut Records, t: Moment, d: DomId)
     requires records { RecordsFit t.0 records.old }
     requires early { t.0 ≤ most_span }
-    ensures { records.new ≡ refill_spec records.old t.0 d.0 }
+    ensures { records.new ≡ records_after_refill records.old t.0 d.0 }
 {
     match records {
         Records::Credit2Pool(records) => refill_domain(t, d, records),

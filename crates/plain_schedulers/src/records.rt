@@ -2,8 +2,8 @@
 
 ghost use Rattle.std.specs.Prelude.{◌≡◌};
 ghost use Rattle.std.specs.Option.{option_copied};
-ghost use Rattle.sched_model.specs.Policy.{rate_of as rate_of_spec, replenish_due as replenish_due_spec, next_refill as next_refill_spec, rtds_record as rtds_record_spec, credit2_record as credit2_record_spec};
-ghost use Rattle.sched_model.specs.Machine.{is_null as is_null_spec};
+ghost use Rattle.sched_model.specs.Policy.{pool_rate_limit, is_replenish_due, next_refill_moment, unit_rtds_record, domain_credit2_record};
+ghost use Rattle.sched_model.specs.Machine.{is_null_pool};
 
 use sched_base::{DomId, Moment, UnitId};
 use sched_model::places::item_at;
@@ -12,7 +12,7 @@ use scheduler_records::rtds::rtds_unit;
 
 /// Whether it is the null scheduler.
 pub fn is_null(records: &Records) -> bool
-    ensures { result ≡ is_null_spec records.now }
+    ensures { result ≡ is_null_pool records.now }
 {
     match records {
         Records::NullPool(_) => true,
@@ -22,7 +22,7 @@ pub fn is_null(records: &Records) -> bool
 
 /// The pool's rate limit in microseconds, and 0 where its scheduler has none.
 pub fn rate_of(records: &Records) -> u32
-    ensures { result ≡ rate_of_spec records.now }
+    ensures { result ≡ pool_rate_limit records.now }
 {
     match records {
         Records::Credit2Pool(records) => records.limit,
@@ -32,7 +32,7 @@ pub fn rate_of(records: &Records) -> u32
 
 /// The unit's RTDS record.
 pub fn rtds_record(records: &Records, u: UnitId) -> Option<&RtdsUnit>
-    ensures { option_copied result ≡ rtds_record_spec records.now u }
+    ensures { option_copied result ≡ unit_rtds_record records.now u }
 {
     match records {
         Records::RtdsPool(domains) => rtds_unit(domains.as_slice(), u),
@@ -42,7 +42,7 @@ pub fn rtds_record(records: &Records, u: UnitId) -> Option<&RtdsUnit>
 
 /// The domain's Credit2 record.
 pub fn credit2_record(records: &Records, d: DomId) -> Option<&Credit2Domain>
-    ensures { option_copied result ≡ credit2_record_spec records.now d.0 }
+    ensures { option_copied result ≡ domain_credit2_record records.now d.0 }
 {
     match records {
         Records::Credit2Pool(records) => item_at(records.domains.as_slice(), d.0 as usize),
@@ -52,7 +52,7 @@ pub fn credit2_record(records: &Records, d: DomId) -> Option<&Credit2Domain>
 
 /// Whether the unit's deadline has come at t.
 pub fn replenish_due(records: &Records, t: Moment, u: UnitId) -> bool
-    ensures { result ≡ replenish_due_spec records.now t.0 u }
+    ensures { result ≡ is_replenish_due records.now t.0 u }
 {
     match rtds_record(records, u) {
         None => false,
@@ -62,7 +62,7 @@ pub fn replenish_due(records: &Records, t: Moment, u: UnitId) -> bool
 
 /// The moment of the domain's next refill.
 pub fn next_refill(records: &Records, d: DomId) -> Option<Moment>
-    ensures { result ≡ next_refill_spec records.now d.0 }
+    ensures { result ≡ next_refill_moment records.now d.0 }
 {
     match credit2_record(records, d) {
         None => None,

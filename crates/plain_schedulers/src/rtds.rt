@@ -4,8 +4,8 @@ ghost use Rattle.sched_model.specs.CheckedMachine.{most_span};
 ghost use Rattle.std.specs.Prelude.{◌≡◌, ◌<◌, ◌≤◌, [], ◌∷◌, Some};
 ghost use Rattle.sched_base.specs.declared.UnitId.{UnitId as UnitName};
 ghost use Rattle.sched_model.specs.declared.state.Records.TheVariants.{RtdsPool};
-ghost use Rattle.sched_model.specs.EligibleUnits.{passes as passes_spec, eligible_units};
-ghost use Rattle.sched_model.specs.Rtds.{foremost_unit as foremost_spec, budget_left as budget_left_spec, choice as choice_spec, decide as decide_spec, rtds_decision};
+ghost use Rattle.sched_model.specs.EligibleUnits.{may_have_core, eligible_units};
+ghost use Rattle.sched_model.specs.Rtds.{first_of_units, unit_left_budget, rtds_choice, rtds_decision_for, rtds_decision};
 ghost use Rattle.scheduler_records.specs.Fits.{RtdsFits};
 ghost use Rattle.plain_schedulers.specs.Tells.{Tells};
 ghost use Rattle.scheduler_records.specs.Parts.{scheduler_of};
@@ -21,7 +21,7 @@ use scheduler_records::rtds::{budget_left, burn_cur, own_candidate, set_running,
 
 /// Whether the unit has budget left.
 pub fn passes(domains: &[Option<RtdsUnits>], u: UnitId) -> bool
-    ensures { result ≡ passes_spec (RtdsPool domains.now)
+    ensures { result ≡ may_have_core (RtdsPool domains.now)
         (scheduler_of [] [] (RtdsPool domains.now)) 0 0 0 u }
 {
     budget_left(domains, u) > 0
@@ -29,7 +29,7 @@ pub fn passes(domains: &[Option<RtdsUnits>], u: UnitId) -> bool
 
 /// The unit that runs before the other: the one that is the best so far, where there is one and it is not after the other.
 fn better_of(domains: &[Option<RtdsUnits>], best: Option<UnitId>, u: UnitId) -> UnitId
-    ensures { Some result ≡ foremost_spec domains.now best (u ∷ []) }
+    ensures { Some result ≡ first_of_units domains.now best (u ∷ []) }
 {
     match best {
         None => u,
@@ -46,7 +46,7 @@ fn foremost(
     own: Option<UnitId>,
 ) -> Option<UnitId>
     requires { ask.now.core.0 < 64 }
-    ensures { result ≡ foremost_spec domains.now own
+    ensures { result ≡ first_of_units domains.now own
         (eligible_units (scheduler_of queue.now affinity.now (RtdsPool domains.now)) ask.now.home.0
         ask.now.core.0 ask.now.at.0) }
 {
@@ -67,7 +67,7 @@ fn choice(
     ask: &Ask,
 ) -> Option<UnitId>
     requires { ask.now.core.0 < 64 }
-    ensures { result ≡ choice_spec ask.now
+    ensures { result ≡ rtds_choice ask.now
         (scheduler_of queue.now affinity.now (RtdsPool domains.now)) domains.now }
 {
     if ask.leaving {
@@ -80,9 +80,9 @@ fn choice(
 /// The chosen unit runs from now on, and the core's own no more.
 fn run(chosen: Option<UnitId>, ask: &Ask, domains: &mut Row<Option<RtdsUnits>>) -> Decided
     requires early { ask.now.at.0 ≤ most_span }
-    requires left { (u : UnitName) → budget_left_spec domains.old u ≤ 1000000000000 }
-    ensures decided { Tells result (decide_spec ask.now domains.old chosen) }
-    ensures records { RtdsPool domains.new ≡ (decide_spec ask.now domains.old chosen).records }
+    requires left { (u : UnitName) → unit_left_budget domains.old u ≤ 1000000000000 }
+    ensures decided { Tells result (rtds_decision_for ask.now domains.old chosen) }
+    ensures records { RtdsPool domains.new ≡ (rtds_decision_for ask.now domains.old chosen).records }
 {
     let due = match chosen {
         None => None,

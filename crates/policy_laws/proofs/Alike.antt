@@ -11,14 +11,14 @@ use Rattle.sched_model.specs.declared.state.Records.TheVariants.{Credit2Pool}
 use Rattle.sched_model.specs.declared.state.Scheduler.{Scheduler}
 use Rattle.sched_model.specs.declared.state.Pool.{Pool}
 use Rattle.sched_model.specs.Places.{at_place, change_at, is_unit}
-use Rattle.sched_model.specs.Pool.{core_of, unit_count}
+use Rattle.sched_model.specs.Pool.{unit_core, domain_unit_count}
 use Rattle.sched_laws.specs.EachPlace.{EachPlace}
 use Rattle.sched_laws.proofs.Events.{LikePlaces, like_look, like_change_at}
 use Rattle.sched_laws.proofs.EachPlace.{found_at, none_found}
 use Rattle.sched_laws.proofs.Choices.{is_unit_same}
 use Rattle.sched_laws.proofs.Counts.{same_unit_refl}
 use Rattle.sched_base.proofs.Bools.{clash}
-use Rattle.sched_ops.specs.Conditions.{is_member, is_on, may_be_on}
+use Rattle.sched_ops.specs.Conditions.{is_member, is_on, may_unit_be_on}
 use Rattle.sched_ops.specs.Seen.{units_of}
 use Rattle.policy_laws.specs.Holds.{HasMembers, HasMember, AreOn}
 use Rattle.policy_laws.specs.RunningUnits.{keeps_records}
@@ -69,7 +69,7 @@ core_face c = record { cur = c.cur; saving = c.saving; since = c.since }
 -- two pools are alike: in the units of each domain, which of them are on, and what each core has
 pub record IsAlike (g : ℕ) (affinity : List (Option (List Cores))) (places : List (Option Domain)) (kept : Records) (resources : List (Option Resource)) (affinity2 : List (Option (List Cores))) (places2 : List (Option Domain)) (kept2 : Records) (resources2 : List (Option Resource)) : Type 0 where
   pub sets : AreAlike length affinity affinity2
-  pub domains : AreAlike (unit_count g) places places2
+  pub domains : AreAlike (domain_unit_count g) places places2
   pub on : (u : UnitId) → is_on kept2 u ≡ is_on kept u
   pub kind : keeps_records kept2 ≡ keeps_records kept
   pub cores : AreAlike core_face resources resources2
@@ -78,11 +78,11 @@ abbrev pub Alike : ℕ → Pool → Pool → Type 0
 Alike g pool next = IsAlike g pool.scheduler.affinity pool.domains pool.scheduler.records pool.resources next.scheduler.affinity next.domains next.scheduler.records next.resources
 
 -- a unit may be on where it is, or nothing is recorded
-pub may_is : (records : Records) (u : UnitId) → may_be_on records u ≡ (elim (keeps_records records) as (λ _. Bool) [ true ↦ is_on records u | false ↦ true ])
+pub may_is : (records : Records) (u : UnitId) → may_unit_be_on records u ≡ (elim (keeps_records records) as (λ _. Bool) [ true ↦ is_on records u | false ↦ true ])
 may_is (Credit2Pool records) u = refl
 may_is records u = refl
 
-pub may_same : (old next : Records) (u : UnitId) → is_on next u ≡ is_on old u → keeps_records next ≡ keeps_records old → may_be_on next u ≡ may_be_on old u
+pub may_same : (old next : Records) (u : UnitId) → is_on next u ≡ is_on old u → keeps_records next ≡ keeps_records old → may_unit_be_on next u ≡ may_unit_be_on old u
 may_same old next u on kind =
     may_is next u
     ∙ ap (λ (b : Bool). elim (keeps_records next) as (λ _. Bool) [ true ↦ b | false ↦ true ]) on
@@ -90,17 +90,17 @@ may_same old next u on kind =
     ∙ sym (may_is old u)
 
 -- a core that has the unit is found
-pub core_found : (pool : Pool) (r : ℕ) (c : Resource) (u : UnitId) → at_place pool.resources r ≡ Some c → c.cur ≡ Some u → is_some (core_of pool u) ≡ true
+pub core_found : (pool : Pool) (r : ℕ) (c : Resource) (u : UnitId) → at_place pool.resources r ≡ Some c → c.cur ≡ Some u → is_some (unit_core pool u) ≡ true
 core_found pool r c u at is =
-    elim (core_of pool u) as (λ o. core_of pool u ≡ o → is_some o ≡ true) [
+    elim (unit_core pool u) as (λ o. unit_core pool u ≡ o → is_some o ≡ true) [
       | None ↦ λ none. absurd (clash (is_unit c.cur u) (ap (λ (o : Option UnitId). is_unit o u) is ∙ same_unit_refl u) (none_found 0 r (λ (x : Resource). is_unit x.cur u) pool.resources c none at))
       | Some k ↦ λ some. refl
     ] refl
 
 -- a core is found only where it has the unit
-pub found_core : (pool : Pool) (u : UnitId) → is_some (core_of pool u) ≡ true → (r : ℕ) × (c : Resource) × (at_place pool.resources r ≡ Some c) × (c.cur ≡ Some u)
+pub found_core : (pool : Pool) (u : UnitId) → is_some (unit_core pool u) ≡ true → (r : ℕ) × (c : Resource) × (at_place pool.resources r ≡ Some c) × (c.cur ≡ Some u)
 found_core pool u found =
-    elim (core_of pool u) as (λ o. core_of pool u ≡ o → is_some o ≡ true → (r : ℕ) × (c : Resource) × (at_place pool.resources r ≡ Some c) × (c.cur ≡ Some u)) [
+    elim (unit_core pool u) as (λ o. unit_core pool u ≡ o → is_some o ≡ true → (r : ℕ) × (c : Resource) × (at_place pool.resources r ≡ Some c) × (c.cur ≡ Some u)) [
       | None ↦ λ is e. absurd (cc)
       | Some r ↦ λ is e. (let f = found_at r (λ (x : Resource). is_unit x.cur u) pool.resources is in (r, f.0, f.1, is_unit_same f.0.cur u f.2))
     ] refl found
@@ -119,12 +119,12 @@ units_of_is scheduler d = of (at_place scheduler.affinity d)
 
 module _ (g : ℕ) where
   pub is_alike_refl : (pool : Pool) → Alike g pool pool
-  is_alike_refl pool = record { sets = alike_refl length _; domains = alike_refl (unit_count g) _; on = λ u. refl; kind = refl; cores = alike_refl core_face _ }
+  is_alike_refl pool = record { sets = alike_refl length _; domains = alike_refl (domain_unit_count g) _; on = λ u. refl; kind = refl; cores = alike_refl core_face _ }
 
   pub is_alike_trans : (a b c : Pool) → Alike g a b → Alike g b c → Alike g a c
   is_alike_trans a b c one two = record {
     sets = alike_trans length a.scheduler.affinity b.scheduler.affinity c.scheduler.affinity one.sets two.sets;
-    domains = alike_trans (unit_count g) a.domains b.domains c.domains one.domains two.domains;
+    domains = alike_trans (domain_unit_count g) a.domains b.domains c.domains one.domains two.domains;
     on = λ u. two.on u ∙ one.on u;
     kind = two.kind ∙ one.kind;
     cores = alike_trans core_face a.resources b.resources c.resources one.cores two.cores;

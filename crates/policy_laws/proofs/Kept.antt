@@ -19,12 +19,12 @@ use Rattle.sched_model.specs.declared.state.Processor.{Processor}
 use Rattle.sched_model.specs.declared.state.Resource.{Resource}
 use Rattle.sched_model.specs.declared.state.Pool.{Pool}
 use Rattle.sched_model.specs.Places.{at_place, put_at, clear_at, change_at, numbers_from}
-use Rattle.sched_model.specs.State.{is_runnable, unit_runnable}
+use Rattle.sched_model.specs.State.{may_unit_run, unit_runnable}
 use Rattle.sched_model.specs.EligibleUnits.{Decision}
-use Rattle.sched_model.specs.Opening.{fresh_core}
-use Rattle.sched_model.specs.Policy.{decision_of, fresh_records}
+use Rattle.sched_model.specs.Opening.{joined_core}
+use Rattle.sched_model.specs.Policy.{decision_of, empty_records}
 use Rattle.sched_model.specs.Pool as pools
-use Rattle.sched_model.specs.Pool.{after_in, ask_of, change_processor, decided_core, enabled_in, pause, same_choice, set_leaving, set_moving, set_params, settled_pool, unit_count, unpause, vcpu_of, with_domain, without_domain}
+use Rattle.sched_model.specs.Pool.{after_in, core_ask, change_processor, decided_core, enabled_in, paused_pool, same_choice, pool_with_leaving, pool_with_moving, changed_pool, settled_pool, domain_unit_count, unpaused_pool, pool_vcpu, pool_with_domain, pool_without_domain}
 use Rattle.sched_laws.specs.EachPlace.{EachPlace}
 use Rattle.sched_laws.proofs.EachPlace.{EachPlace-empty, EachPlace-change_at, EachPlace-put_at, EachPlace-clear_at, by_option, by_test, by_cond, at_place-replicate}
 use Rattle.sched_laws.proofs.Kept.{IsKept}
@@ -40,7 +40,7 @@ use Rattle.state_ranges.proofs.Counts.{keeps_parted}
 use Rattle.state_ranges.specs.Counts.{Matches, KeepsPool}
 use Rattle.state_ranges.proofs.RecordsWalk.{AnyEnds, SomeUnit, k_set_params, k_with_domain, keeps_empty, records_steps}
 use Rattle.sched_laws.proofs.Ready.{NoEnd}
-use Rattle.sched_ops.specs.Conditions.{may_be_on}
+use Rattle.sched_ops.specs.Conditions.{may_unit_be_on}
 use Rattle.policy_laws.specs.Holds.{Holds, HasMembers, HasMember, AreOn, HaveProcessors}
 use Rattle.policy_laws.proofs.Alike.{Alike, is_alike_refl, alike_members, alike_units, alike_on, alike_since}
 use Rattle.policy_laws.proofs.Steps as steps
@@ -74,14 +74,14 @@ rest_alike g t pool next alike r = record {
 
 since_decide : (g t r : ℕ) (c : Resource) (pool : Pool) → at_place pool.resources r ≡ Some c → HaveCome t pool → HaveCome t (pools.after_decide g t r c pool)
 since_decide g t r c pool at since =
-    let decision : Decision = decision_of (ask_of g t pool r c) pool.scheduler in
+    let decision : Decision = decision_of (core_ask g t pool r c) pool.scheduler in
     EachPlace-put_at (λ (x : Resource). x.since.0 ≤ t) r (decided_core t decision c) pool.resources since
     (by_test (λ (x : Resource). x.since.0 ≤ t) (same_choice decision.unit c.cur) _ _ (λ is. since r c at) (λ is. omega arith))
 
 since_save : (g t r : ℕ) (u : UnitId) (pool : Pool) → HaveCome t pool → HaveCome t (pools.after_save g r u pool)
 since_save g t r u pool since =
     let here : EachPlace (λ (x : Resource). x.since.0 ≤ t) (change_at r pools.saved_core pool.resources) = EachPlace-change_at (λ (x : Resource). x.since.0 ≤ t) r pools.saved_core pool.resources since (λ x at come. come) in
-    by_cond (HaveCome t) (is_runnable g pool u) _ _ (λ runs. here) (λ runs. here)
+    by_cond (HaveCome t) (may_unit_run g pool u) _ _ (λ runs. here) (λ runs. here)
 
 rest_decide : (g t r : ℕ) (c : Resource) (pool : Pool) → at_place pool.resources r ≡ Some c → Holds g t pool → Rest g t (pools.after_decide g t r c pool)
 rest_decide g t r c pool at h =
@@ -95,7 +95,7 @@ rest_decide g t r c pool at h =
 
 rest_save : (g t r : ℕ) (u : UnitId) (pool : Pool) → Holds g t pool → Rest g t (pools.after_save g r u pool)
 rest_save g t r u pool h = record {
-  members = by_cond (HasMembers g) (is_runnable g pool u) _ _ (λ runs. members_stay g _ _ pool refl h.members) (λ runs. members_stay g _ _ pool refl h.members);
+  members = by_cond (HasMembers g) (may_unit_run g pool u) _ _ (λ runs. members_stay g _ _ pool refl h.members) (λ runs. members_stay g _ _ pool refl h.members);
   units = units.units_save g r u pool h.units;
   on = on.on_save g r u pool h.on;
   since = since_save g t r u pool h.since;
@@ -138,38 +138,38 @@ module _ (g t : ℕ) where
       join (change_processor g p f pool) h.some ((known h.some).inside.stalls p end pool h.known) h.records (rest_alike g t pool (change_processor g p f pool) (kept_processor (steps.like_parts g t pool) p f pool (is_alike_refl g pool)) (rest_of g t pool h))
       (started.started_stalls g p end pool h.started)
 
-  pub leaves : (r : ℕ) (pool : Pool) → H pool → H (set_leaving r pool)
+  pub leaves : (r : ℕ) (pool : Pool) → H pool → H (pool_with_leaving r pool)
   leaves r pool h =
-      join (set_leaving r pool) h.some ((known h.some).inside.leaves r pool h.known) h.records (rest_alike g t pool (set_leaving r pool) (kept_set_leaving (steps.like_commands g pool) r pool (is_alike_refl g pool)) (rest_of g t pool h)) (kept_set_leaving (started.started_commands g) r pool h.started)
+      join (pool_with_leaving r pool) h.some ((known h.some).inside.leaves r pool h.known) h.records (rest_alike g t pool (pool_with_leaving r pool) (kept_set_leaving (steps.like_commands g pool) r pool (is_alike_refl g pool)) (rest_of g t pool h)) (kept_set_leaving (started.started_commands g) r pool h.started)
 
-  pub moves : (d i : ℕ) (pool : Pool) → H pool → H (set_moving d i pool)
+  pub moves : (d i : ℕ) (pool : Pool) → H pool → H (pool_with_moving d i pool)
   moves d i pool h =
-      join (set_moving d i pool) h.some ((known h.some).inside.moves d i pool h.known) (records.moves d i pool h.records) (rest_alike g t pool (set_moving d i pool) (steps.like_set_moving g d i pool) (rest_of g t pool h))
+      join (pool_with_moving d i pool) h.some ((known h.some).inside.moves d i pool h.known) (records.moves d i pool h.records) (rest_alike g t pool (pool_with_moving d i pool) (steps.like_set_moving g d i pool) (rest_of g t pool h))
       (started.started_set_moving g d i pool h.started)
 
-  pub pauses : (d : ℕ) (pool : Pool) → H pool → H (pause d pool)
+  pub pauses : (d : ℕ) (pool : Pool) → H pool → H (paused_pool d pool)
   pauses d pool h =
-      join (pause d pool) h.some ((known h.some).inside.pauses d pool h.known) (records.pauses d pool h.records) (rest_alike g t pool (pause d pool) (kept_pause (steps.like_commands g pool) d pool (is_alike_refl g pool)) (rest_of g t pool h)) (kept_pause (started.started_commands g) d pool h.started)
+      join (paused_pool d pool) h.some ((known h.some).inside.pauses d pool h.known) (records.pauses d pool h.records) (rest_alike g t pool (paused_pool d pool) (kept_pause (steps.like_commands g pool) d pool (is_alike_refl g pool)) (rest_of g t pool h)) (kept_pause (started.started_commands g) d pool h.started)
 
-  pub unpauses : (d : ℕ) (pool : Pool) → H pool → H (unpause g d pool)
+  pub unpauses : (d : ℕ) (pool : Pool) → H pool → H (unpaused_pool g d pool)
   unpauses d pool h =
-      join (unpause g d pool) h.some ((known h.some).inside.unpauses d pool h.known) (records.unpauses d pool h.records) (rest_alike g t pool (unpause g d pool) (kept_unpause (steps.like_commands g pool) d pool (is_alike_refl g pool)) (rest_of g t pool h)) (kept_unpause (started.started_commands g) d pool h.started)
+      join (unpaused_pool g d pool) h.some ((known h.some).inside.unpauses d pool h.known) (records.unpauses d pool h.records) (rest_alike g t pool (unpaused_pool g d pool) (kept_unpause (steps.like_commands g pool) d pool (is_alike_refl g pool)) (rest_of g t pool h)) (kept_unpause (started.started_commands g) d pool h.started)
 
-  pub changes : (change : ParamChange) (pool : Pool) → H pool → H (set_params change t pool)
+  pub changes : (change : ParamChange) (pool : Pool) → H pool → H (changed_pool change t pool)
   changes change pool h =
-      join (set_params change t pool) h.some ((known h.some).inside.changes change t pool h.known) (k_set_params g change t pool h.records)
-      (rest_alike g t pool (set_params change t pool) (steps.like_set_params g change t pool) (rest_of g t pool h)) (started.started_set_params g change t pool h.started)
+      join (changed_pool change t pool) h.some ((known h.some).inside.changes change t pool h.known) (k_set_params g change t pool h.records)
+      (rest_alike g t pool (changed_pool change t pool) (steps.like_set_params g change t pool) (rest_of g t pool h)) (started.started_set_params g change t pool h.started)
 
   -- what comes and goes
-  pub core_comes : (r : ℕ) (ends : List Moment) (pool : Pool) → at_place pool.resources r ≡ None → H pool → H (record pool { resources = put_at r (fresh_core ends) pool.resources })
+  pub core_comes : (r : ℕ) (ends : List Moment) (pool : Pool) → at_place pool.resources r ≡ None → H pool → H (record pool { resources = put_at r (joined_core ends) pool.resources })
   core_comes r ends pool none h =
-      let next : Pool = record pool { resources = put_at r (fresh_core ends) pool.resources } in
+      let next : Pool = record pool { resources = put_at r (joined_core ends) pool.resources } in
       join next h.some ((known h.some).core_comes r ends pool none h.known) h.records
       (record {
         members = members_stay g pool.scheduler next.resources pool refl h.members;
         units = units.units_core_comes g r ends pool h.units;
         on = on.on_core_comes r ends pool none h.on;
-        since = EachPlace-put_at (λ (c : Resource). c.since.0 ≤ t) r (fresh_core ends) pool.resources h.since (omega arith);
+        since = EachPlace-put_at (λ (c : Resource). c.since.0 ≤ t) r (joined_core ends) pool.resources h.since (omega arith);
       })
       (started.started_core_comes g r ends pool none h.started)
 
@@ -185,13 +185,13 @@ module _ (g t : ℕ) where
       })
       (started.started_core_goes g t r pool on_goes h.known.sound h.started)
 
-  pub domain_comes : (d : ℕ) (domain : Domain) (params : DomParams) (pool : Pool) → domain.moving ≡ None → ((n : ℕ) (x : Vcpu) → slice_get domain.vcpus n ≡ Some x → x.started ≡ None) → at_place pool.domains d ≡ None → d < length pool.domains → 1 ≤ unit_count g domain
-      → Matches pool.scheduler.records params → H pool → H (with_domain g t d domain params pool)
+  pub domain_comes : (d : ℕ) (domain : Domain) (params : DomParams) (pool : Pool) → domain.moving ≡ None → ((n : ℕ) (x : Vcpu) → slice_get domain.vcpus n ≡ Some x → x.started ≡ None) → at_place pool.domains d ≡ None → d < length pool.domains → 1 ≤ domain_unit_count g domain
+      → Matches pool.scheduler.records params → H pool → H (pool_with_domain g t d domain params pool)
   domain_comes d domain params pool stays none_started none low count fits h =
       let base : Pool = joined g t d domain params pool in
-      let next : Pool = with_domain g t d domain params pool in
+      let next : Pool = pool_with_domain g t d domain params pool in
       join next h.some ((known h.some).domain_comes t d domain params pool stays none h.known) (k_with_domain g t d domain params pool fits count h.records).0
-      (rest_alike g t base next (kept_queue_units (steps.like_commands g base) d (numbers_from 0 (unit_count g domain)) base (is_alike_refl g base))
+      (rest_alike g t base next (kept_queue_units (steps.like_commands g base) d (numbers_from 0 (domain_unit_count g domain)) base (is_alike_refl g base))
       (record {
         members = members_joined g t d domain params pool low h.members;
         units = units.units_joined g t d domain params pool none h.members h.units;
@@ -200,9 +200,9 @@ module _ (g t : ℕ) where
       }))
       (started.started_with_domain g t d domain params pool none_started h.started)
 
-  pub domain_goes : (d : ℕ) (pool : Pool) → enabled_in g t pool (DomMoved (domain_number d)) ≡ true → H pool → H (without_domain d pool)
+  pub domain_goes : (d : ℕ) (pool : Pool) → enabled_in g t pool (DomMoved (domain_number d)) ≡ true → H pool → H (pool_without_domain d pool)
   domain_goes d pool on_goes h =
-      join (without_domain d pool) h.some ((known h.some).domain_goes t d pool on_goes h.known) (keeps_parted g d pool.domains pool.scheduler.records h.records)
+      join (pool_without_domain d pool) h.some ((known h.some).domain_goes t d pool on_goes h.known) (keeps_parted g d pool.domains pool.scheduler.records h.records)
       (record {
         members = members_parted g d pool h.members;
         units = units.units_parted g t d pool on_goes h.units;
@@ -213,9 +213,9 @@ module _ (g t : ℕ) where
 
   -- a pool that has nothing yet
   pub opened : (domains cores places : ℕ) (params : PoolParams) → 0 < g
-      → H (record { scheduler = record { queue = []; affinity = replicate domains None; records = fresh_records params domains cores }; domains = replicate domains None; resources = replicate places None })
+      → H (record { scheduler = record { queue = []; affinity = replicate domains None; records = empty_records params domains cores }; domains = replicate domains None; resources = replicate places None })
   opened domains cores places params some =
-      let pool : Pool = record { scheduler = record { queue = []; affinity = replicate domains None; records = fresh_records params domains cores }; domains = replicate domains None; resources = replicate places None } in
+      let pool : Pool = record { scheduler = record { queue = []; affinity = replicate domains None; records = empty_records params domains cores }; domains = replicate domains None; resources = replicate places None } in
       let no_domain : (d : ℕ) → at_place pool.domains d ≡ None = at_place-replicate {X = Domain} domains in
       join pool some
       (record {
@@ -232,16 +232,16 @@ module _ (g t : ℕ) where
       (record {
         members = record {
           places = length-replicate domains None ∙ sym (length-replicate domains None);
-          units = λ d. ap (option_map length) (at_place-replicate {X = List Cores} domains d) ∙ sym (ap (option_map (unit_count g)) (no_domain d));
+          units = λ d. ap (option_map length) (at_place-replicate {X = List Cores} domains d) ∙ sym (ap (option_map (domain_unit_count g)) (no_domain d));
         };
         units = EachPlace-empty (HasMember pool) places;
         on = record {
-          own = EachPlace-empty (λ (c : Resource). ForSome c.cur (λ u. may_be_on pool.scheduler.records u ≡ true)) places;
+          own = EachPlace-empty (λ (c : Resource). ForSome c.cur (λ u. may_unit_be_on pool.scheduler.records u ≡ true)) places;
           off = λ u is. absurd (let none = on.none_on params domains cores u in cc);
         };
         since = EachPlace-empty (λ (c : Resource). c.since.0 ≤ t) places;
       })
-      (λ v x from is begun. absurd (let none : vcpu_of pool v ≡ None = ap (λ (o : Option Domain). elim o as (λ _. Option Vcpu) [ None ↦ None | Some d ↦ slice_get d.vcpus v.n ]) (no_domain v.dom.0) in cc))
+      (λ v x from is begun. absurd (let none : pool_vcpu pool v ≡ None = ap (λ (o : Option Domain). elim o as (λ _. Option Vcpu) [ None ↦ None | Some d ↦ slice_get d.vcpus v.n ]) (no_domain v.dom.0) in cc))
 
 pub later : (g s t : ℕ) (pool : Pool) → s ≤ t → Holds g s pool → Holds g t pool
 later g s t pool before h = record {

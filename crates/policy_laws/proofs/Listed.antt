@@ -10,8 +10,8 @@ use Rattle.sched_model.specs.declared.state.RtdsUnit.{RtdsUnit}
 use Rattle.sched_model.specs.declared.state.Records.{Records}
 use Rattle.sched_model.specs.declared.state.Records.TheVariants.{Credit2Pool, RtdsPool, ArincPool, NullPool}
 use Rattle.sched_model.specs.declared.state.Scheduler.{Scheduler}
-use Rattle.sched_model.specs.Places.{at_place, numbered_items, has_unit}
-use Rattle.sched_model.specs.EligibleUnits.{rtds_unit}
+use Rattle.sched_model.specs.Places.{at_place, numbered_items, has_listed_unit}
+use Rattle.sched_model.specs.EligibleUnits.{rtds_unit_at}
 use Rattle.sched_ops.specs.Conditions.{is_on}
 use Rattle.sched_ops.specs.declared.timer.Timer.{Timer}
 use Rattle.sched_ops.specs.declared.timer.Timer.TheVariants.{Repl, Refill}
@@ -39,7 +39,7 @@ of_numbered P n (Some y ∷ places) each (suc i) m x e at = of_numbered P (suc n
 
 -- whether the unit waits or is on
 abbrev pub is_busy : List UnitId → UnitId → RtdsUnit → Bool
-is_busy queue u x = has_unit queue u || is_some x.burned
+is_busy queue u x = has_listed_unit queue u || is_some x.burned
 
 module _ (P : Armed → Type 0) where
   module _ (queue : List UnitId) where
@@ -102,7 +102,7 @@ module _ (P : Armed → Type 0) where
       ] refl each
 
 -- what each RTDS unit and its place give the timer of that unit
-unit_there : (domains : List (Option (List RtdsUnit))) (u : UnitId) (units : List RtdsUnit) (x : RtdsUnit) → at_place domains u.dom.0 ≡ Some units → slice_get units u.n ≡ Some x → rtds_unit domains u ≡ Some x
+unit_there : (domains : List (Option (List RtdsUnit))) (u : UnitId) (units : List RtdsUnit) (x : RtdsUnit) → at_place domains u.dom.0 ≡ Some units → slice_get units u.n ≡ Some x → rtds_unit_at domains u ≡ Some x
 unit_there domains u units x at get = ap (λ (o : Option (List RtdsUnit)). elim o as (λ _. Option RtdsUnit) [ None ↦ None | Some us ↦ slice_get us u.n ]) at ∙ get
 
 record IsThere (domains : List (Option (List RtdsUnit))) (u : UnitId) (x : RtdsUnit) : Type 0 where
@@ -110,7 +110,7 @@ record IsThere (domains : List (Option (List RtdsUnit))) (u : UnitId) (x : RtdsU
   at : at_place domains u.dom.0 ≡ Some units
   get : slice_get units u.n ≡ Some x
 
-there_unit : (domains : List (Option (List RtdsUnit))) (u : UnitId) (x : RtdsUnit) → rtds_unit domains u ≡ Some x → IsThere domains u x
+there_unit : (domains : List (Option (List RtdsUnit))) (u : UnitId) (x : RtdsUnit) → rtds_unit_at domains u ≡ Some x → IsThere domains u x
 there_unit domains u x is =
     elim (at_place domains u.dom.0) as (λ o. at_place domains u.dom.0 ≡ o → elim o as (λ _. Option RtdsUnit) [ None ↦ None | Some us ↦ slice_get us u.n ] ≡ Some x → IsThere domains u x) [
       | None ↦ λ at e. absurd (cc)
@@ -171,8 +171,8 @@ module _ (P : Armed → Type 0) (scheduler : Scheduler) where
       let d : i ≡ m = omega (arith, e) in
       let k : j ≡ n = omega (arith, e2) in
       let u : UnitId = unit_id m n in
-      let there : rtds_unit domains u ≡ Some x = unit_there domains u units x (ap (at_place domains) (sym d) ∙ at) (ap (slice_get units) (sym k) ∙ get) in
-      each (Repl u) (moment x.deadline) (ap (moment_of (has_unit scheduler.queue u)) there ∙ ap (λ (b : Bool). cond b (Some (moment x.deadline)) None) on))))
+      let there : rtds_unit_at domains u ≡ Some x = unit_there domains u units x (ap (at_place domains) (sym d) ∙ at) (ap (slice_get units) (sym k) ∙ get) in
+      each (Repl u) (moment x.deadline) (ap (moment_of (has_listed_unit scheduler.queue u)) there ∙ ap (λ (b : Bool). cond b (Some (moment x.deadline)) None) on))))
   to_list_of (ArincPool records) each = tt
   to_list_of (NullPool kept) each = tt
 
@@ -182,11 +182,11 @@ module _ (P : Armed → Type 0) (scheduler : Scheduler) where
       let all : AllByRecursion (OfRefill P) (numbered_items 0 records.domains) = of_refills P (numbered_items 0 records.domains) each in
       subst (λ (m : Moment). P (m, Refill d)) f.4 (of_numbered (OfRefill P) 0 records.domains all d.0 d.0 f.0 (omega arith) f.2 f.1 f.3)
   of_list_of (RtdsPool domains) each (Repl u) at is =
-      let f = some_moment (has_unit scheduler.queue u) (rtds_unit domains u) at is in
+      let f = some_moment (has_listed_unit scheduler.queue u) (rtds_unit_at domains u) at is in
       let there = there_unit domains u f.unit f.is in
       let all = of_numbered (λ (e : ℕ × List RtdsUnit). AllByRecursion P (unit_timers scheduler.queue e.0 0 e.1)) 0 domains (of_replenishments P scheduler.queue (numbered_items 0 domains) each) u.dom.0 u.dom.0 there.units (omega arith) there.at in
       subst (λ (m : Moment). P (m, Repl u)) f.moment (of_units P scheduler.queue u.dom.0 0 there.units all u.n u.n f.unit (omega arith) there.get f.on)
-  of_list_of any each (Repl u) at is = absurd (no_moment (has_unit scheduler.queue u || is_on any u) at is)
+  of_list_of any each (Repl u) at is = absurd (no_moment (has_listed_unit scheduler.queue u || is_on any u) at is)
   of_list_of records each (Refill d) at is = absurd (cc)
 
   -- what holds of each armed timer and its moment holds of each of the list, and back

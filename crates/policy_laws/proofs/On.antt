@@ -18,12 +18,12 @@ use Rattle.sched_model.specs.declared.state.Resource.{Resource}
 use Rattle.sched_model.specs.declared.state.Records.{Records}
 use Rattle.sched_model.specs.declared.state.Pool.{Pool}
 use Rattle.sched_model.specs.Places.{at_place, put_at, clear_at, change_at, is_unit}
-use Rattle.sched_model.specs.State.{is_runnable}
+use Rattle.sched_model.specs.State.{may_unit_run}
 use Rattle.sched_model.specs.EligibleUnits.{Decision}
-use Rattle.sched_model.specs.Opening.{fresh_core}
-use Rattle.sched_model.specs.Policy.{decision_of, fresh_records}
+use Rattle.sched_model.specs.Opening.{joined_core}
+use Rattle.sched_model.specs.Policy.{decision_of, empty_records}
 use Rattle.sched_model.specs.Pool as pools
-use Rattle.sched_model.specs.Pool.{ask_of, change_core, core_of, decided_core, enabled_in, is_of_domain, unit_count, without_domain}
+use Rattle.sched_model.specs.Pool.{core_ask, change_core, unit_core, decided_core, enabled_in, is_domain_unit, domain_unit_count, pool_without_domain}
 use Rattle.sched_laws.specs.EachPlace.{EachPlace}
 use Rattle.sched_laws.proofs.EachPlace.{EachPlace-change_at, EachPlace-put_at, EachPlace-clear_at, place_below, at_place-put_at, at_place-put_at_other, at_place-clear_at_other, by_cond, at_place-replicate}
 use Rattle.sched_laws.proofs.Choices.{is_unit_same}
@@ -33,7 +33,7 @@ use Rattle.sched_laws.proofs.OnePlace.{one_same, decided_cur}
 use Rattle.sched_laws.specs.PoolFacts.{core_places, places}
 use Rattle.sched_base.proofs.Bools.{and_left, and_right, clash, or_left, or_more}
 use Rattle.state_ranges.specs.Counts.{KeepsPool}
-use Rattle.sched_ops.specs.Conditions.{is_member, is_on, may_be_on}
+use Rattle.sched_ops.specs.Conditions.{is_member, is_on, may_unit_be_on}
 use Rattle.policy_laws.specs.Holds.{HasMembers, HasMember, AreOn}
 use Rattle.policy_laws.proofs.RunningLaw as running
 use Rattle.policy_laws.specs.RunningUnits.{keeps_records, has_record, is_on_after}
@@ -43,12 +43,12 @@ use Rattle.policy_laws.proofs.Units.{goes_empty, none_of_domain, other_domain}
 use Rattle.sched_laws.proofs.Counts.{is_that_unit}
 
 -- a unit is on where it may be, as far as the scheduler keeps records
-may_of : (records : Records) (u : UnitId) → (keeps_records records ≡ true → is_on records u ≡ true) → may_be_on records u ≡ true
+may_of : (records : Records) (u : UnitId) → (keeps_records records ≡ true → is_on records u ≡ true) → may_unit_be_on records u ≡ true
 may_of records u on =
     may_is records u
     ∙ elim (keeps_records records) as (λ k. keeps_records records ≡ k → elim k as (λ _. Bool) [ true ↦ is_on records u | false ↦ true ] ≡ true) [ true ↦ λ is. on is | false ↦ λ is. refl ] refl
 
-on_of : (records : Records) (u : UnitId) → keeps_records records ≡ true → may_be_on records u ≡ true → is_on records u ≡ true
+on_of : (records : Records) (u : UnitId) → keeps_records records ≡ true → may_unit_be_on records u ≡ true → is_on records u ≡ true
 on_of records u keeps may = sym (ap (λ (k : Bool). elim k as (λ _. Bool) [ true ↦ is_on records u | false ↦ true ]) keeps) ∙ sym (may_is records u) ∙ may
 
 module _ (g : ℕ) (t r : ℕ) (c : Resource) (pool : Pool) (at : at_place pool.resources r ≡ Some c) where
@@ -66,9 +66,9 @@ module _ (g : ℕ) (t r : ℕ) (c : Resource) (pool : Pool) (at : at_place pool.
       ] refl
 
   pub on_decide : ((u : UnitId) → places pool u ≤ 1) → HasMembers g pool → KeepsPool g pool
-      → ForSome (decision_of (ask_of g t pool r c) pool.scheduler).unit (λ u. is_member pool.scheduler u ≡ true) → AreOn pool → AreOn (pools.after_decide g t r c pool)
+      → ForSome (decision_of (core_ask g t pool r c) pool.scheduler).unit (λ u. is_member pool.scheduler u ≡ true) → AreOn pool → AreOn (pools.after_decide g t r c pool)
   on_decide most has keeps chosen on =
-      let ask = ask_of g t pool r c in
+      let ask = core_ask g t pool r c in
       let decision : Decision = decision_of ask pool.scheduler in
       let next : Pool = pools.after_decide g t r c pool in
       let old : Records = pool.scheduler.records in
@@ -102,13 +102,13 @@ module _ (g : ℕ) (t r : ℕ) (c : Resource) (pool : Pool) (at : at_place pool.
       }
 
 -- a core that comes has no unit
-pub on_core_comes : (r : ℕ) (ends : List Moment) (pool : Pool) → at_place pool.resources r ≡ None → AreOn pool → AreOn (record pool { resources = put_at r (fresh_core ends) pool.resources })
+pub on_core_comes : (r : ℕ) (ends : List Moment) (pool : Pool) → at_place pool.resources r ≡ None → AreOn pool → AreOn (record pool { resources = put_at r (joined_core ends) pool.resources })
 on_core_comes r ends pool none on = record {
-  own = EachPlace-put_at (λ (c : Resource). ForSome c.cur (λ u. may_be_on pool.scheduler.records u ≡ true)) r (fresh_core ends) pool.resources on.own (λ u is. absurd (cc));
+  own = EachPlace-put_at (λ (c : Resource). ForSome c.cur (λ u. may_unit_be_on pool.scheduler.records u ≡ true)) r (joined_core ends) pool.resources on.own (λ u is. absurd (cc));
   off = λ u is.
       let found = found_core pool u (on.off u is) in
       let other : found.0 ≢ r = λ e. (let at_r : at_place pool.resources r ≡ Some found.1 = subst (λ (j : ℕ). at_place pool.resources j ≡ Some found.1) e found.2 in cc) in
-      core_found (record pool { resources = put_at r (fresh_core ends) pool.resources }) found.0 found.1 u (at_place-put_at_other r found.0 (fresh_core ends) pool.resources other ∙ found.2) found.3;
+      core_found (record pool { resources = put_at r (joined_core ends) pool.resources }) found.0 found.1 u (at_place-put_at_other r found.0 (joined_core ends) pool.resources other ∙ found.2) found.3;
 }
 
 -- nor has one that goes
@@ -116,7 +116,7 @@ pub on_core_goes : (g t r : ℕ) (pool : Pool) → enabled_in g t pool (Moved (c
 on_core_goes g t r pool enabled on =
     let goes = goes_empty g t r pool enabled in
     record {
-      own = EachPlace-clear_at (λ (c : Resource). ForSome c.cur (λ u. may_be_on pool.scheduler.records u ≡ true)) r pool.resources on.own;
+      own = EachPlace-clear_at (λ (c : Resource). ForSome c.cur (λ u. may_unit_be_on pool.scheduler.records u ≡ true)) r pool.resources on.own;
       off = λ u is.
           let found = found_core pool u (on.off u is) in
           let other : found.0 ≢ r = λ e. (
@@ -136,21 +136,21 @@ on_joined g t d domain params pool none has units on =
     record {
       own = λ k x at_k u is.
           let other : u.dom.0 ≢ d = member_elsewhere g pool d u has none ((units k x at_k).cur u is) in
-          may_same old next.scheduler.records u (running.joins old params d (unit_count g domain) t u other) (running.joins_kind old params d (unit_count g domain) t) ∙ on.own k x at_k u is;
+          may_same old next.scheduler.records u (running.joins old params d (domain_unit_count g domain) t u other) (running.joins_kind old params d (domain_unit_count g domain) t) ∙ on.own k x at_k u is;
       off = λ u is. elim (ℕ_discrete u.dom.0 d) [
-        | yes own ↦ on.off u (running.joins_off old params d (unit_count g domain) t u own is)
-        | no other ↦ on.off u (sym (running.joins old params d (unit_count g domain) t u other) ∙ is)
+        | yes own ↦ on.off u (running.joins_off old params d (domain_unit_count g domain) t u own is)
+        | no other ↦ on.off u (sym (running.joins old params d (domain_unit_count g domain) t u other) ∙ is)
       ];
     }
 
 -- a domain that parts leaves the units of the others as they are
-pub on_parted : (g t d : ℕ) (pool : Pool) → enabled_in g t pool (DomMoved (domain_number d)) ≡ true → AreOn pool → AreOn (without_domain d pool)
+pub on_parted : (g t d : ℕ) (pool : Pool) → enabled_in g t pool (DomMoved (domain_number d)) ≡ true → AreOn pool → AreOn (pool_without_domain d pool)
 on_parted g t d pool enabled on =
     let old : Records = pool.scheduler.records in
     record {
       own = λ k x at_k u is.
-          let other : u.dom.0 ≢ d = other_domain d x.cur u (or_left (is_of_domain d x.cur) (is_of_domain d x.saving) (none_of_domain g t d pool enabled k x at_k)) is in
-          may_same old (without_domain d pool).scheduler.records u (running.parts old d u other) (running.parts_kind old d) ∙ on.own k x at_k u is;
+          let other : u.dom.0 ≢ d = other_domain d x.cur u (or_left (is_domain_unit d x.cur) (is_domain_unit d x.saving) (none_of_domain g t d pool enabled k x at_k)) is in
+          may_same old (pool_without_domain d pool).scheduler.records u (running.parts old d u other) (running.parts_kind old d) ∙ on.own k x at_k u is;
       off = λ u is. elim (ℕ_discrete u.dom.0 d) [
         | yes own ↦ on.off u (running.parts_off old d u own is)
         | no other ↦ on.off u (sym (running.parts old d u other) ∙ is)
@@ -158,7 +158,7 @@ on_parted g t d pool enabled on =
     }
 
 -- where no domain has joined, no unit is on
-pub none_on : (params : PoolParams) (domains cores : ℕ) (u : UnitId) → is_on (fresh_records params domains cores) u ≡ false
+pub none_on : (params : PoolParams) (domains cores : ℕ) (u : UnitId) → is_on (empty_records params domains cores) u ≡ false
 none_on (pool_params.Credit2 limit) domains cores u =
     ap (λ (o : Option Credit2Domain). elim o as (λ _. Bool) [ None ↦ false | Some d ↦ elim (slice_get d.units u.n) as (λ _. Bool) [ None ↦ false | Some x ↦ is_some x.burned ] ]) (at_place-replicate {X = Credit2Domain} domains u.dom.0)
 none_on pool_params.Rtds domains cores u =
@@ -168,15 +168,15 @@ none_on other domains cores u = refl
 -- a save leaves each core its own unit
 pub on_save : (g r : ℕ) (u : UnitId) (pool : Pool) → AreOn pool → AreOn (pools.after_save g r u pool)
 on_save g r u pool on =
-    by_cond AreOn (is_runnable g pool u) _ _ (λ runs. record { own = own; off = off }) (λ runs. record { own = own; off = off })
+    by_cond AreOn (may_unit_run g pool u) _ _ (λ runs. record { own = own; off = off }) (λ runs. record { own = own; off = off })
   where
     next : Pool
     next = change_core r pools.saved_core pool
 
-    own : EachPlace (λ (c : Resource). ForSome c.cur (λ w. may_be_on pool.scheduler.records w ≡ true)) (change_at r pools.saved_core pool.resources)
-    own = EachPlace-change_at (λ (c : Resource). ForSome c.cur (λ w. may_be_on pool.scheduler.records w ≡ true)) r pools.saved_core pool.resources on.own (λ x at here. here)
+    own : EachPlace (λ (c : Resource). ForSome c.cur (λ w. may_unit_be_on pool.scheduler.records w ≡ true)) (change_at r pools.saved_core pool.resources)
+    own = EachPlace-change_at (λ (c : Resource). ForSome c.cur (λ w. may_unit_be_on pool.scheduler.records w ≡ true)) r pools.saved_core pool.resources on.own (λ x at here. here)
 
-    off : (w : UnitId) → is_on pool.scheduler.records w ≡ true → is_some (core_of next w) ≡ true
+    off : (w : UnitId) → is_on pool.scheduler.records w ≡ true → is_some (unit_core next w) ≡ true
     off w is =
         let found = found_core pool w (on.off w is) in
         let now = alike_is (λ (c : Resource). c.cur) pool.resources next.resources found.0 found.1 (alike_change_at (λ (c : Resource). c.cur) r pools.saved_core pool.resources (λ c. refl)) found.2 in

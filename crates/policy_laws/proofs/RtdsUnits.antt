@@ -4,7 +4,7 @@ use Rattle.std.specs.Prelude.{Option, Some, None, is_some}
 use Rattle.sched_base.specs.declared.UnitId.{UnitId}
 use Rattle.sched_model.specs.declared.state.RtdsUnit.{RtdsUnit}
 use Rattle.sched_model.specs.Places.{change_item, same_unit, is_unit}
-use Rattle.sched_model.specs.Rtds.{burn_to, burn_cur, replenish, change_unit, set_running, switch_off}
+use Rattle.sched_model.specs.Rtds.{unit_burned_to, own_burned_domains, unit_after_replenish, change_unit, running_domains, off_domains}
 use Rattle.sched_laws.proofs.Lists.{test_at-change_at}
 use Rattle.sched_laws.proofs.RtdsUnits.{burned_on}
 use Rattle.policy_laws.proofs.OneUnit.{test_item, test_unit, test_item-change_item, test_item-change_to, test_unit-change}
@@ -22,19 +22,19 @@ module _ (says : Bool → Bool) (w : UnitId) where
   kept_unit u f domains on =
       test_at-change_at u.dom.0 w.dom.0 (change_item u.n f) (λ units. test_item units w.n (λ x. says (is_some x.burned))) domains (λ units. test_item-change_item u.n w.n f (λ x. says (is_some x.burned)) units (λ x. ap says (on x)))
 
-  pub kept_burn_cur : (cur : Option UnitId) (t : ℕ) (domains : List (Option (List RtdsUnit))) → rtds_word says (burn_cur cur t domains) w ≡ rtds_word says domains w
+  pub kept_burn_cur : (cur : Option UnitId) (t : ℕ) (domains : List (Option (List RtdsUnit))) → rtds_word says (own_burned_domains cur t domains) w ≡ rtds_word says domains w
   kept_burn_cur None t domains = refl
-  kept_burn_cur (Some u) t domains = kept_unit u (burn_to t) domains (burned_on t)
+  kept_burn_cur (Some u) t domains = kept_unit u (unit_burned_to t) domains (burned_on t)
 
-  pub kept_replenished : (t : ℕ) (u : UnitId) (domains : List (Option (List RtdsUnit))) → rtds_word says (change_unit u (replenish t) domains) w ≡ rtds_word says domains w
-  kept_replenished t u domains = kept_unit u (replenish t) domains (burned_on t)
+  pub kept_replenished : (t : ℕ) (u : UnitId) (domains : List (Option (List RtdsUnit))) → rtds_word says (change_unit u (unit_after_replenish t) domains) w ≡ rtds_word says domains w
+  kept_replenished t u domains = kept_unit u (unit_after_replenish t) domains (burned_on t)
 
   -- the unit runs from a moment, or runs no more
-  pub word_running : (from : Option ℕ) (u : UnitId) (domains : List (Option (List RtdsUnit))) → rtds_word says (set_running from u domains) w ≡ cond (same_unit u w) (rtds_word (λ on. says (is_some from)) domains w) (rtds_word says domains w)
+  pub word_running : (from : Option ℕ) (u : UnitId) (domains : List (Option (List RtdsUnit))) → rtds_word says (running_domains from u domains) w ≡ cond (same_unit u w) (rtds_word (λ on. says (is_some from)) domains w) (rtds_word says domains w)
   word_running from u domains =
       let runs : RtdsUnit → RtdsUnit = λ (x : RtdsUnit). record x { burned = from } in
       test_unit-change units_in u w (change_item u.n runs) (λ x. says (is_some x.burned)) (λ x. says (is_some from)) domains (λ units. test_item-change_to u.n w.n runs (λ x. says (is_some x.burned)) (λ x. says (is_some from)) units (λ x. refl))
 
-  pub word_off : (cur : Option UnitId) (domains : List (Option (List RtdsUnit))) → rtds_word says (switch_off cur domains) w ≡ cond (is_unit cur w) (rtds_word (λ on. says false) domains w) (rtds_word says domains w)
+  pub word_off : (cur : Option UnitId) (domains : List (Option (List RtdsUnit))) → rtds_word says (off_domains cur domains) w ≡ cond (is_unit cur w) (rtds_word (λ on. says false) domains w) (rtds_word says domains w)
   word_off None domains = refl
   word_off (Some u) domains = word_running None u domains

@@ -11,7 +11,7 @@ use Rattle.sched_model.specs.declared.state.Records.TheVariants.{Credit2Pool, Rt
 use Rattle.sched_model.specs.declared.state.Scheduler.{Scheduler}
 use Rattle.sched_model.specs.Places.{put_at, clear_at, test_at, is_unit}
 use Rattle.sched_model.specs.EligibleUnits.{Decision}
-use Rattle.sched_model.specs.Policy.{decision_of, replenish, refill, changed_records, joined_records, parted_records}
+use Rattle.sched_model.specs.Policy.{decision_of, records_after_replenish, records_after_refill, changed_records, joined_records, parted_records}
 use Rattle.sched_model.specs.Credit2 as credit2
 use Rattle.sched_model.specs.Rtds as rtds
 use Rattle.sched_base.proofs.Bools.{clash}
@@ -56,11 +56,11 @@ decides_records ask scheduler w =
 as_before : (w : UnitId) (next old : Records) → word_on itself next w ≡ word_on itself old w → is_on next w ≡ is_on old w
 as_before w next old same = on_is w next ∙ same ∙ sym (on_is w old)
 
-pub replenishes : (records : Records) (t : ℕ) (u w : UnitId) → is_on (replenish records t u) w ≡ is_on records w
-replenishes records t u w = as_before w (replenish records t u) records (word_replenished itself w records t u)
+pub replenishes : (records : Records) (t : ℕ) (u w : UnitId) → is_on (records_after_replenish records t u) w ≡ is_on records w
+replenishes records t u w = as_before w (records_after_replenish records t u) records (word_replenished itself w records t u)
 
-pub refills : (records : Records) (t d : ℕ) (w : UnitId) → is_on (refill records t d) w ≡ is_on records w
-refills records t d w = as_before w (refill records t d) records (word_refilled itself w records t d)
+pub refills : (records : Records) (t d : ℕ) (w : UnitId) → is_on (records_after_refill records t d) w ≡ is_on records w
+refills records t d w = as_before w (records_after_refill records t d) records (word_refilled itself w records t d)
 
 pub changes : (records : Records) (change : ParamChange) (t : ℕ) (w : UnitId) → is_on (changed_records records change t) w ≡ is_on records w
 changes records change t w = as_before w (changed_records records change t) records (word_changed itself w records change t)
@@ -76,9 +76,9 @@ off_put i j x test places off on =
 
 word_put : (records : Records) (params : DomParams) (d count t : ℕ) (w : UnitId) → word_on itself (joined_records records params d count t) w ≡ true → word_on itself records w ≡ true
 word_put (Credit2Pool records) (dom_params.Credit2 weight percent) d count t w =
-    off_put d w.dom.0 (credit2.fresh_domain weight percent count t) (λ x. test_item x.units w.n (λ y. is_some y.burned)) records.domains (test_item-replicate count w.n _ (λ y. is_some y.burned) refl)
+    off_put d w.dom.0 (credit2.fresh_credit2_domain weight percent count t) (λ x. test_item x.units w.n (λ y. is_some y.burned)) records.domains (test_item-replicate count w.n _ (λ y. is_some y.burned) refl)
 word_put (RtdsPool domains) (dom_params.Rtds period budget extra) d count t w =
-    off_put d w.dom.0 (rtds.fresh_units period.0 budget.0 extra count t) (λ units. test_item units w.n (λ y. is_some y.burned)) domains (test_item-replicate count w.n _ (λ y. is_some y.burned) refl)
+    off_put d w.dom.0 (rtds.fresh_rtds_units period.0 budget.0 extra count t) (λ units. test_item units w.n (λ y. is_some y.burned)) domains (test_item-replicate count w.n _ (λ y. is_some y.burned) refl)
 word_put records params d count t w = λ on. on
 
 pub joins : (records : Records) (params : DomParams) (d count t : ℕ) (w : UnitId) → w.dom.0 ≢ d → is_on (joined_records records params d count t) w ≡ is_on records w
@@ -126,11 +126,11 @@ same_kind next old same = kept_shape next ∙ ap is_some same ∙ sym (kept_shap
 pub decides_kind : (ask : Ask) (scheduler : Scheduler) → keeps_records (decision_of ask scheduler).records ≡ keeps_records scheduler.records
 decides_kind ask scheduler = same_kind (decision_of ask scheduler).records scheduler.records (shape_decision scheduler.records ask scheduler refl)
 
-pub replenishes_kind : (records : Records) (t : ℕ) (u : UnitId) → keeps_records (replenish records t u) ≡ keeps_records records
-replenishes_kind records t u = same_kind (replenish records t u) records (shape_replenished records t u)
+pub replenishes_kind : (records : Records) (t : ℕ) (u : UnitId) → keeps_records (records_after_replenish records t u) ≡ keeps_records records
+replenishes_kind records t u = same_kind (records_after_replenish records t u) records (shape_replenished records t u)
 
-pub refills_kind : (records : Records) (t d : ℕ) → keeps_records (refill records t d) ≡ keeps_records records
-refills_kind records t d = same_kind (refill records t d) records (shape_refilled records t d)
+pub refills_kind : (records : Records) (t d : ℕ) → keeps_records (records_after_refill records t d) ≡ keeps_records records
+refills_kind records t d = same_kind (records_after_refill records t d) records (shape_refilled records t d)
 
 pub changes_kind : (records : Records) (change : ParamChange) (t : ℕ) → keeps_records (changed_records records change t) ≡ keeps_records records
 changes_kind records change t = same_kind (changed_records records change t) records (shape_changed records change t)

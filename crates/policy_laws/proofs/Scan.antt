@@ -4,7 +4,7 @@ use Rattle.std.specs.Prelude.{Option, Some, None, nat_le, nat_lt}
 use Rattle.std.specs.List.{AllByRecursion}
 use Rattle.std.proofs.lemmas.Bool.{leb-true, leb-false, ltb-true, ltb-false}
 use Rattle.sched_base.proofs.Lists.{AllByRecursion-map}
-use Rattle.sched_ops.specs.Timers.{Armed, first_due, soonest_timer, next_of}
+use Rattle.sched_ops.specs.Timers.{Armed, first_due_timer, soonest_timer, next_armed}
 use Rattle.policy_laws.specs.TimerOrder.{IsNotAfter}
 
 -- what holds of each of two lists holds of both, one after the other, and back
@@ -23,37 +23,37 @@ in_order-append (x ∷ xs) ys front back each = (each-append (λ (e : Armed). Is
 
 module _ (t : ℕ) where
   -- the first whose moment has come is one of the list
-  pub first_one : (P : Armed → Type 0) (xs : List Armed) (x : Armed) → AllByRecursion P xs → first_due t xs ≡ Some x → P x
+  pub first_one : (P : Armed → Type 0) (xs : List Armed) (x : Armed) → AllByRecursion P xs → first_due_timer t xs ≡ Some x → P x
   first_one P [] x each is = absurd (cc)
   first_one P (y ∷ xs) x each is =
-      elim (nat_le y.0.0 t) as (λ b. cond b (Some y) (first_due t xs) ≡ Some x → P x) [
+      elim (nat_le y.0.0 t) as (λ b. cond b (Some y) (first_due_timer t xs) ≡ Some x → P x) [
         | true ↦ λ e. (let same : y ≡ x = cc in subst P same each.0)
         | false ↦ λ e. first_one P xs x each.1 e
       ] is
 
   -- its moment has come
-  pub come_first : (xs : List Armed) (x : Armed) → first_due t xs ≡ Some x → x.0.0 ≤ t
+  pub come_first : (xs : List Armed) (x : Armed) → first_due_timer t xs ≡ Some x → x.0.0 ≤ t
   come_first [] x is = absurd (cc)
   come_first (y ∷ xs) x is =
-      elim (nat_le y.0.0 t) as (λ b. nat_le y.0.0 t ≡ b → cond b (Some y) (first_due t xs) ≡ Some x → x.0.0 ≤ t) [
+      elim (nat_le y.0.0 t) as (λ b. nat_le y.0.0 t ≡ b → cond b (Some y) (first_due_timer t xs) ≡ Some x → x.0.0 ≤ t) [
         | true ↦ λ b e. (let same : y ≡ x = cc in subst (λ (z : Armed). z.0.0 ≤ t) same (leb-true y.0.0 t b))
         | false ↦ λ b e. come_first xs x e
       ] refl is
 
   -- none has come where there is no such
-  pub all_later : (xs : List Armed) → first_due t xs ≡ None → AllByRecursion (λ (e : Armed). t < e.0.0) xs
+  pub all_later : (xs : List Armed) → first_due_timer t xs ≡ None → AllByRecursion (λ (e : Armed). t < e.0.0) xs
   all_later [] is = tt
   all_later (y ∷ xs) is =
-      elim (nat_le y.0.0 t) as (λ b. nat_le y.0.0 t ≡ b → cond b (Some y) (first_due t xs) ≡ None → AllByRecursion (λ (e : Armed). t < e.0.0) (y ∷ xs)) [
+      elim (nat_le y.0.0 t) as (λ b. nat_le y.0.0 t ≡ b → cond b (Some y) (first_due_timer t xs) ≡ None → AllByRecursion (λ (e : Armed). t < e.0.0) (y ∷ xs)) [
         | true ↦ λ b e. absurd (cc)
         | false ↦ λ b e. (leb-false y.0.0 t b, all_later xs e)
       ] refl is
 
   -- it comes after none that has come
-  pub first_of_come : (xs : List Armed) (x : Armed) → AreInOrder xs → first_due t xs ≡ Some x → AllByRecursion (λ (e : Armed). e.0.0 ≤ t → IsNotAfter x.1 e.1) xs
+  pub first_of_come : (xs : List Armed) (x : Armed) → AreInOrder xs → first_due_timer t xs ≡ Some x → AllByRecursion (λ (e : Armed). e.0.0 ≤ t → IsNotAfter x.1 e.1) xs
   first_of_come [] x order is = tt
   first_of_come (y ∷ xs) x order is =
-      elim (nat_le y.0.0 t) as (λ b. nat_le y.0.0 t ≡ b → cond b (Some y) (first_due t xs) ≡ Some x → AllByRecursion (λ (e : Armed). e.0.0 ≤ t → IsNotAfter x.1 e.1) (y ∷ xs)) [
+      elim (nat_le y.0.0 t) as (λ b. nat_le y.0.0 t ≡ b → cond b (Some y) (first_due_timer t xs) ≡ Some x → AllByRecursion (λ (e : Armed). e.0.0 ≤ t → IsNotAfter x.1 e.1) (y ∷ xs)) [
         | true ↦ λ b e.
             let same : y ≡ x = cc in
             subst (λ (z : Armed). AllByRecursion (λ (e : Armed). e.0.0 ≤ t → IsNotAfter z.1 e.1) (y ∷ xs)) same
@@ -90,33 +90,33 @@ next_cases None soon x is = inr (refl, is)
 next_cases (Some y) soon x is = inl is
 
 module _ (t : ℕ) where
-  pub next_none : (xs : List Armed) → next_of t xs ≡ None → xs ≡ []
+  pub next_none : (xs : List Armed) → next_armed t xs ≡ None → xs ≡ []
   next_none [] is = refl
   next_none (y ∷ xs) is =
-      elim (first_due t (y ∷ xs)) as (λ o. elim o as (λ _. Option Armed) [ Some z ↦ Some z | None ↦ soonest_timer (Some y) xs ] ≡ None → (y ∷ xs) ≡ []) [
+      elim (first_due_timer t (y ∷ xs)) as (λ o. elim o as (λ _. Option Armed) [ Some z ↦ Some z | None ↦ soonest_timer (Some y) xs ] ≡ None → (y ∷ xs) ≡ []) [
         | None ↦ λ e. absurd (soonest_some y xs e)
         | Some z ↦ λ e. absurd (cc)
       ] is
 
-  pub next_one : (P : Armed → Type 0) (xs : List Armed) (x : Armed) → AllByRecursion P xs → next_of t xs ≡ Some x → P x
+  pub next_one : (P : Armed → Type 0) (xs : List Armed) (x : Armed) → AllByRecursion P xs → next_armed t xs ≡ Some x → P x
   next_one P [] x each is = absurd (cc)
   next_one P (y ∷ xs) x each is =
-      elim (next_cases (first_due t (y ∷ xs)) (soonest_timer (Some y) xs) x is) [
+      elim (next_cases (first_due_timer t (y ∷ xs)) (soonest_timer (Some y) xs) x is) [
         | inl first ↦ first_one t P (y ∷ xs) x each first
         | inr later ↦ soonest_one P y xs x each.0 each.1 later.1
       ]
 
-  pub next_first : (xs : List Armed) (x : Armed) → AreInOrder xs → next_of t xs ≡ Some x → AllByRecursion (λ (e : Armed). e.0.0 ≤ t → (x.0.0 ≤ t) × IsNotAfter x.1 e.1) xs
+  pub next_first : (xs : List Armed) (x : Armed) → AreInOrder xs → next_armed t xs ≡ Some x → AllByRecursion (λ (e : Armed). e.0.0 ≤ t → (x.0.0 ≤ t) × IsNotAfter x.1 e.1) xs
   next_first xs x order is =
-      elim (next_cases (first_due t xs) (soonest_timer None xs) x is) [
+      elim (next_cases (first_due_timer t xs) (soonest_timer None xs) x is) [
         | inl first ↦ AllByRecursion-map (λ (e : Armed). e.0.0 ≤ t → IsNotAfter x.1 e.1) (λ (e : Armed). e.0.0 ≤ t → (x.0.0 ≤ t) × IsNotAfter x.1 e.1) (λ e after has. (come_first t xs x first, after has)) xs (first_of_come t xs x order first)
         | inr later ↦ AllByRecursion-map (λ (e : Armed). t < e.0.0) (λ (e : Armed). e.0.0 ≤ t → (x.0.0 ≤ t) × IsNotAfter x.1 e.1) (λ e late has. absurd (omega (arith, late, has))) xs (all_later t xs later.0)
       ]
 
-  pub next_least : (xs : List Armed) (x : Armed) → next_of t xs ≡ Some x → (x.0.0 ≤ t) ⊎ AllByRecursion (λ (e : Armed). x.0.0 ≤ e.0.0) xs
+  pub next_least : (xs : List Armed) (x : Armed) → next_armed t xs ≡ Some x → (x.0.0 ≤ t) ⊎ AllByRecursion (λ (e : Armed). x.0.0 ≤ e.0.0) xs
   next_least [] x is = inr tt
   next_least (y ∷ xs) x is =
-      elim (next_cases (first_due t (y ∷ xs)) (soonest_timer (Some y) xs) x is) [
+      elim (next_cases (first_due_timer t (y ∷ xs)) (soonest_timer (Some y) xs) x is) [
         | inl first ↦ inl (come_first t (y ∷ xs) x first)
         | inr later ↦ inr (soonest_least y xs x later.1)
       ]

@@ -16,13 +16,13 @@ use Rattle.sched_model.specs.declared.state.Processor.{Processor}
 use Rattle.sched_model.specs.declared.state.Resource.{Resource}
 use Rattle.sched_model.specs.declared.state.Pool.{Pool}
 use Rattle.sched_model.specs.Places.{at_place, put_at, clear_at, change_at, change_item, numbers_from, test_at}
-use Rattle.sched_model.specs.State.{is_up}
+use Rattle.sched_model.specs.State.{is_not_stalled}
 use Rattle.sched_model.specs.EligibleUnits.{Decision}
-use Rattle.sched_model.specs.Opening.{fresh_core}
+use Rattle.sched_model.specs.Opening.{joined_core}
 use Rattle.sched_model.specs.Policy as policy
 use Rattle.sched_model.specs.Policy.{decision_of}
 use Rattle.sched_model.specs.Pool as pools
-use Rattle.sched_model.specs.Pool.{ask_of, change_core, change_domain, change_processor, change_vcpu, decided_core, with_doing, enabled_in, guest_of, same_choice, set_moving, set_params, started_on, unit_count, with_domain, without_domain}
+use Rattle.sched_model.specs.Pool.{core_ask, change_core, change_domain, change_processor, change_vcpu, decided_core, with_doing, enabled_in, running_guest, same_choice, pool_with_moving, changed_pool, started_on, domain_unit_count, pool_with_domain, pool_without_domain}
 use Rattle.sched_laws.proofs.EachPlace.{read_change_at, read_clear_at, read_put_at, at_place-put_at, place_below, at_place-put_at_other, at_place-clear_at_other, by_option, by_test}
 use Rattle.sched_laws.proofs.Sound.{read_change_item, processor_of_is, guest_of_is}
 use Rattle.sched_laws.specs.PoolFacts.{AreSound}
@@ -51,7 +51,7 @@ abbrev guest_in : Option Doing → Option VcpuId
 guest_in None = None
 guest_in (Some doing) = elim doing [ Guest v ↦ Some v | Idle ↦ None | Held ↦ None ]
 
-guest_is : (g : ℕ) (pool : Pool) (p : ℕ) → guest_of g pool p ≡ guest_in (doing_at pool.resources (p / g) (p % g))
+guest_is : (g : ℕ) (pool : Pool) (p : ℕ) → running_guest g pool p ≡ guest_in (doing_at pool.resources (p / g) (p % g))
 guest_is g pool p = of (at_place pool.resources (p / g))
   where
     of_processor : (o : Option Processor) → elim o as (λ _. Option VcpuId) [ None ↦ None | Some q ↦ elim q.doing as (λ _. Option VcpuId) [ Guest v ↦ Some v | Idle ↦ None | Held ↦ None ] ] ≡ guest_in (option_map (λ (q : Processor). q.doing) o)
@@ -144,17 +144,17 @@ read_vcpu v w f domains x is =
         let b : ◌≡◌ {A = VcpuId} (record { dom = v.dom; n = w.n }) v = ap (λ (k : ℕ). record { dom = v.dom; n = k }) n in
         a ∙ b
 
-not_guest_if_idle : (q : Processor) → pools.is_idle q ≡ true → (w : VcpuId) → q.doing ≡ Guest w → ⊥
-not_guest_if_idle q idle w is = (let e : pools.is_idle q ≡ false = ap (λ (doing : Doing). elim doing as (λ _. Bool) [ Guest v ↦ false | Idle ↦ true | Held ↦ false ]) is in cc)
+not_guest_if_idle : (q : Processor) → pools.is_idling q ≡ true → (w : VcpuId) → q.doing ≡ Guest w → ⊥
+not_guest_if_idle q idle w is = (let e : pools.is_idling q ≡ false = ap (λ (doing : Doing). elim doing as (λ _. Bool) [ Guest v ↦ false | Idle ↦ true | Held ↦ false ]) is in cc)
 
-not_guest_if_held : (q : Processor) → pools.is_held q ≡ true → (w : VcpuId) → q.doing ≡ Guest w → ⊥
-not_guest_if_held q held w is = (let e : pools.is_held q ≡ false = ap (λ (doing : Doing). elim doing as (λ _. Bool) [ Guest v ↦ false | Idle ↦ false | Held ↦ true ]) is in cc)
+not_guest_if_held : (q : Processor) → pools.is_held_back q ≡ true → (w : VcpuId) → q.doing ≡ Guest w → ⊥
+not_guest_if_held q held w is = (let e : pools.is_held_back q ≡ false = ap (λ (doing : Doing). elim doing as (λ _. Bool) [ Guest v ↦ false | Idle ↦ false | Held ↦ true ]) is in cc)
 
 -- the processor that leaves is held
-leaver : (g t p : ℕ) (pool : Pool) → enabled_in g t pool (Leave (processor p)) ≡ true → (q : Processor) × (pools.processor_of g pool p ≡ Some q) × (pools.is_held q ≡ true)
+leaver : (g t p : ℕ) (pool : Pool) → enabled_in g t pool (Leave (processor p)) ≡ true → (q : Processor) × (pools.pool_processor g pool p ≡ Some q) × (pools.is_held_back q ≡ true)
 leaver g t p pool on =
-    by_option (λ (b : Bool). b ≡ true → (q : Processor) × (pools.processor_of g pool p ≡ Some q) × (pools.is_held q ≡ true)) (pools.processor_of g pool p) false (λ q. pools.is_held q && is_up t q)
-    (λ none e. absurd (cc)) (λ q is e. (q, is, and_left (pools.is_held q) (is_up t q) e)) (and_right (test_at pool.resources (p / g) (λ (x : Resource). not (pools.is_open x))) _ on)
+    by_option (λ (b : Bool). b ≡ true → (q : Processor) × (pools.pool_processor g pool p ≡ Some q) × (pools.is_held_back q ≡ true)) (pools.pool_processor g pool p) false (λ q. pools.is_held_back q && is_not_stalled t q)
+    (λ none e. absurd (cc)) (λ q is e. (q, is, and_left (pools.is_held_back q) (is_not_stalled t q) e)) (and_right (test_at pool.resources (p / g) (λ (x : Resource). not (pools.is_gathering x))) _ on)
 
 module _ (g : ℕ) where
   -- each vCPU that is started is run by a processor, where these are the domains and cores
@@ -258,7 +258,7 @@ module _ (g : ℕ) where
   }
 
   -- the events
-  started_takes : (t p : ℕ) (v : VcpuId) (q : Processor) (pool : Pool) → pools.processor_of g pool p ≡ Some q → ((w : VcpuId) → q.doing ≡ Guest w → ⊥) → HaveProcessors g pool → HaveProcessors g (started_on g t p v pool)
+  started_takes : (t p : ℕ) (v : VcpuId) (q : Processor) (pool : Pool) → pools.pool_processor g pool p ≡ Some q → ((w : VcpuId) → q.doing ≡ Guest w → ⊥) → HaveProcessors g pool → HaveProcessors g (started_on g t p v pool)
   started_takes t p v q pool is none have =
       let found = processor_of_is g pool p q is in
       from_have (started_on g t p v pool) (have_takes p v (λ x. record x { started = Some (moment t) }) pool.domains pool.resources q.doing (doing_there pool.resources (p / g) (p % g) found.0 q found.1 found.2) none (to_have pool have))
@@ -271,24 +271,24 @@ module _ (g : ℕ) where
         | inr r ↦ (r.0, subst (λ (u : VcpuId). vcpu_among pool.domains u ≡ Some r.0) (sym r.1) r.2, ap (λ (y : Vcpu). y.started) r.3 ∙ started)
       ]) (to_have pool have))
 
-  started_frees : (p : ℕ) (v : VcpuId) (f : Vcpu → Vcpu) (doing : Doing) (pool : Pool) → guest_of g pool p ≡ Some v → ((x : Vcpu) → (f x).started ≡ None) → HaveProcessors g pool → HaveProcessors g (change_processor g p (with_doing doing) (change_vcpu v f pool))
+  started_frees : (p : ℕ) (v : VcpuId) (f : Vcpu → Vcpu) (doing : Doing) (pool : Pool) → running_guest g pool p ≡ Some v → ((x : Vcpu) → (f x).started ≡ None) → HaveProcessors g pool → HaveProcessors g (change_processor g p (with_doing doing) (change_vcpu v f pool))
   started_frees p v f doing pool guest none have =
       from_have (change_processor g p (with_doing doing) (change_vcpu v f pool)) (have_frees p v f doing pool.domains pool.resources (guest_doing (doing_at pool.resources (p / g) (p % g)) v (sym (guest_is g pool p) ∙ guest)) none (to_have pool have))
 
-  started_idle : (p : ℕ) (doing : Doing) (pool : Pool) → ((v : VcpuId) → guest_of g pool p ≡ Some v → ⊥) → HaveProcessors g pool → HaveProcessors g (change_processor g p (with_doing doing) pool)
+  started_idle : (p : ℕ) (doing : Doing) (pool : Pool) → ((v : VcpuId) → running_guest g pool p ≡ Some v → ⊥) → HaveProcessors g pool → HaveProcessors g (change_processor g p (with_doing doing) pool)
   started_idle p doing pool none have =
       from_have (change_processor g p (with_doing doing) pool) (have_idle p doing pool.domains pool.resources (λ v is. none v (guest_is g pool p ∙ ap guest_in is)) (to_have pool have))
 
   started_after_arrive : (t p : ℕ) (pool : Pool) → HaveProcessors g pool → HaveProcessors g (pools.after_arrive g t p pool)
   started_after_arrive t p pool have =
-      by_option (λ (next : Pool). HaveProcessors g (change_processor g p (with_doing Held) next)) (guest_of g pool p) _ _ (λ is. started_idle p Held pool (λ v guest. absurd (cc)) have)
+      by_option (λ (next : Pool). HaveProcessors g (change_processor g p (with_doing Held) next)) (running_guest g pool p) _ _ (λ is. started_idle p Held pool (λ v guest. absurd (cc)) have)
       (λ v is. started_frees p v (pools.stopped_vcpu t) Held pool is (λ x. by_option (λ (y : Vcpu). y.started ≡ None) x.started _ _ (λ ended. ended) (λ from ended. refl)) have)
 
   started_after_leave : (t p : ℕ) (c : Resource) (pool : Pool) → enabled_in g t pool (Leave (processor p)) ≡ true → HaveProcessors g pool → HaveProcessors g (pools.after_leave g t p c pool)
   started_after_leave t p c pool on have =
       let held = leaver g t p pool on in
       let none : (v : VcpuId) → held.0.doing ≡ Guest v → ⊥ = not_guest_if_held held.0 held.2 in
-      by_option (λ (next : Pool). HaveProcessors g (change_core (p / g) pools.open_if_left next)) (pools.vcpu_for g pool c (p % g)) _ _
+      by_option (λ (next : Pool). HaveProcessors g (change_core (p / g) pools.reopened_core next)) (pools.vcpu_to_run g pool c (p % g)) _ _
       (λ is. kept_opened started_commands (p / g) (change_processor g p (with_doing Idle) pool) (started_idle p Idle pool (λ v guest.
       let found = guest_of_is g pool p v guest in
       let mine = processor_of_is g pool p held.0 held.1 in
@@ -301,7 +301,7 @@ module _ (g : ℕ) where
 
   started_after_decide : (t r : ℕ) (c : Resource) (pool : Pool) → at_place pool.resources r ≡ Some c → HaveProcessors g pool → HaveProcessors g (pools.after_decide g t r c pool)
   started_after_decide t r c pool at have =
-      let decision : Decision = decision_of (ask_of g t pool r c) pool.scheduler in
+      let decision : Decision = decision_of (core_ask g t pool r c) pool.scheduler in
       let now : Resource = decided_core t decision c in
       let same : now.processors ≡ c.processors = by_test (λ (d : Resource). d.processors ≡ c.processors) (same_choice decision.unit c.cur) _ _ (λ is. refl) (λ is. refl) in
       from_have (pools.after_decide g t r c pool) (have_cores pool.domains pool.resources (put_at r now pool.resources)
@@ -334,25 +334,25 @@ module _ (g : ℕ) where
   }
 
   -- the commands
-  pub started_set_moving : (d i : ℕ) (pool : Pool) → HaveProcessors g pool → HaveProcessors g (set_moving d i pool)
+  pub started_set_moving : (d i : ℕ) (pool : Pool) → HaveProcessors g pool → HaveProcessors g (pool_with_moving d i pool)
   started_set_moving d i pool have =
       let f : Domain → Domain = λ domain. record domain { moving = Some (pool_number i) } in
       kept_withdrawn started_commands d (change_domain d f pool) (started_change_domain d f pool (λ x. refl) have)
 
-  pub started_set_params : (change : ParamChange) (t : ℕ) (pool : Pool) → HaveProcessors g pool → HaveProcessors g (set_params change t pool)
+  pub started_set_params : (change : ParamChange) (t : ℕ) (pool : Pool) → HaveProcessors g pool → HaveProcessors g (changed_pool change t pool)
   started_set_params change t pool have =
       kept_marked started_commands t
       (λ d next. started_like _ next (like_of_domain SameProcessors d (capped t) next.resources (λ c. refl) (λ c. refl)))
-      change (record pool { scheduler = policy.set_params change t pool.scheduler }) have
+      change (record pool { scheduler = policy.changed_scheduler change t pool.scheduler }) have
 
   -- what comes and goes
-  pub started_core_comes : (r : ℕ) (ends : List Moment) (pool : Pool) → at_place pool.resources r ≡ None → HaveProcessors g pool → HaveProcessors g (record pool { resources = put_at r (fresh_core ends) pool.resources })
+  pub started_core_comes : (r : ℕ) (ends : List Moment) (pool : Pool) → at_place pool.resources r ≡ None → HaveProcessors g pool → HaveProcessors g (record pool { resources = put_at r (joined_core ends) pool.resources })
   started_core_comes r ends pool none have =
-      from_have (record pool { resources = put_at r (fresh_core ends) pool.resources }) (have_cores pool.domains pool.resources (put_at r (fresh_core ends) pool.resources)
+      from_have (record pool { resources = put_at r (joined_core ends) pool.resources }) (have_cores pool.domains pool.resources (put_at r (joined_core ends) pool.resources)
       (λ k i v is.
       let found = doing_is pool.resources k i (Guest v) is in
       let other : k ≢ r = λ e. (let at_r : at_place pool.resources r ≡ Some found.0 = subst (λ (j : ℕ). at_place pool.resources j ≡ Some found.0) e found.2 in cc) in
-      ap (λ (o : Option Resource). flat (option_map (doing_in i) o)) (at_place-put_at_other r k (fresh_core ends) pool.resources other) ∙ is) (to_have pool have))
+      ap (λ (o : Option Resource). flat (option_map (doing_in i) o)) (at_place-put_at_other r k (joined_core ends) pool.resources other) ∙ is) (to_have pool have))
 
   pub started_core_goes : (t r : ℕ) (pool : Pool) → enabled_in g t pool (Moved (core r)) ≡ true → AreSound g pool → HaveProcessors g pool → HaveProcessors g (record pool { resources = clear_at r pool.resources })
   started_core_goes t r pool on sound have =
@@ -364,13 +364,13 @@ module _ (g : ℕ) where
       let at_r : at_place pool.resources r ≡ Some found.0 = subst (λ (j : ℕ). at_place pool.resources j ≡ Some found.0) e found.2 in
       let same : goes.0 ≡ found.0 = cc in
       let none : found.0.cur ≡ None = subst (λ (x : Resource). x.cur ≡ None) same goes.2 in
-      let own : found.0.cur ≡ Some (pools.unit_of g v) = ((sound k found.0 found.2).guests i found.1 v found.3 found.4).0 in
+      let own : found.0.cur ≡ Some (pools.vcpu_unit g v) = ((sound k found.0 found.2).guests i found.1 v found.3 found.4).0 in
       cc) in
       ap (λ (o : Option Resource). flat (option_map (doing_in i) o)) (at_place-clear_at_other r k pool.resources other) ∙ is) (to_have pool have))
 
-  pub started_with_domain : (t d : ℕ) (domain : Domain) (params : DomParams) (pool : Pool) → ((n : ℕ) (x : Vcpu) → slice_get domain.vcpus n ≡ Some x → x.started ≡ None) → HaveProcessors g pool → HaveProcessors g (with_domain g t d domain params pool)
+  pub started_with_domain : (t d : ℕ) (domain : Domain) (params : DomParams) (pool : Pool) → ((n : ℕ) (x : Vcpu) → slice_get domain.vcpus n ≡ Some x → x.started ≡ None) → HaveProcessors g pool → HaveProcessors g (pool_with_domain g t d domain params pool)
   started_with_domain t d domain params pool none have =
-      kept_queue_units started_commands d (numbers_from 0 (unit_count g domain)) (joined g t d domain params pool) (from_have (joined g t d domain params pool) (have_domains pool.domains (put_at d domain pool.domains) pool.resources
+      kept_queue_units started_commands d (numbers_from 0 (domain_unit_count g domain)) (joined g t d domain params pool) (from_have (joined g t d domain params pool) (have_domains pool.domains (put_at d domain pool.domains) pool.resources
       (λ v x from is started.
       let now = vcpu_is (put_at d domain pool.domains) v x is in
       elim (read_put_at d v.dom.0 domain pool.domains now.0 now.1) [
@@ -378,7 +378,7 @@ module _ (g : ℕ) where
         | inr r ↦ absurd (let ended : x.started ≡ None = none v.n x (subst (λ (y : Domain). slice_get y.vcpus v.n ≡ Some x) (sym r.1) now.2) in cc)
       ]) (to_have pool have)))
 
-  pub started_without_domain : (d : ℕ) (pool : Pool) → HaveProcessors g pool → HaveProcessors g (without_domain d pool)
+  pub started_without_domain : (d : ℕ) (pool : Pool) → HaveProcessors g pool → HaveProcessors g (pool_without_domain d pool)
   started_without_domain d pool have =
-      from_have (without_domain d pool) (have_domains pool.domains (clear_at d pool.domains) pool.resources
+      from_have (pool_without_domain d pool) (have_domains pool.domains (clear_at d pool.domains) pool.resources
       (λ v x from is started. (let now = vcpu_is (clear_at d pool.domains) v x is in let was = read_clear_at d v.dom.0 pool.domains now.0 now.1 in (x, vcpu_there pool.domains v now.0 x was.1 now.2, started))) (to_have pool have))

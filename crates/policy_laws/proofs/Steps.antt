@@ -13,9 +13,9 @@ use Rattle.sched_model.specs.declared.state.Resource.{Resource}
 use Rattle.sched_model.specs.declared.state.Records.{Records}
 use Rattle.sched_model.specs.declared.state.Pool.{Pool}
 use Rattle.sched_model.specs.Policy as policy
-use Rattle.sched_model.specs.Policy.{rtds_record, pinned_cores, changed_affinity}
+use Rattle.sched_model.specs.Policy.{unit_rtds_record, pinned_cores, changed_affinity}
 use Rattle.sched_model.specs.Pool as pools
-use Rattle.sched_model.specs.Pool.{after_in, settled_pool, home_cores, reconsidered_core, change_core, change_processor, change_vcpu, change_domain, change_cores_of, set_pending, with_doing, started_on, set_leaving, set_moving, pause, unpause, set_params, with_records, is_of_domain, unit_count}
+use Rattle.sched_model.specs.Pool.{after_in, settled_pool, pool_core_set, reconsidered_core, change_core, change_processor, change_vcpu, change_domain, change_cores_of, pending_core, with_doing, started_on, pool_with_leaving, pool_with_moving, paused_pool, unpaused_pool, changed_pool, with_records, is_domain_unit, domain_unit_count}
 use Rattle.sched_laws.proofs.Events.{capped, like_of_domain, KeepsCore, KeptByCommands, KeptByParts, commands_of, kept_by_parts, kept_withdrawn, kept_marked}
 use Rattle.sched_laws.proofs.Lists.{length-pinned_cores}
 use Rattle.sched_ops.specs.Conditions.{is_on}
@@ -30,7 +30,7 @@ changed_sets change affinity = alike_refl length affinity
 module _ (g : ℕ) where
   -- cores that keep their units and the moment since which they run them
   like_cores : (cores : List (Option Resource)) (pool : Pool) → AreAlike core_face pool.resources cores → Alike g pool (record pool { resources = cores })
-  like_cores cores pool same = record { sets = alike_refl length _; domains = alike_refl (unit_count g) _; on = λ u. refl; kind = refl; cores = same }
+  like_cores cores pool same = record { sets = alike_refl length _; domains = alike_refl (domain_unit_count g) _; on = λ u. refl; kind = refl; cores = same }
 
   like_change_core : (r : ℕ) (f : Resource → Resource) (pool : Pool) → ((c : Resource) → core_face (f c) ≡ core_face c) → Alike g pool (change_core r f pool)
   like_change_core r f pool same = like_cores _ pool (alike_change_at core_face r f pool.resources same)
@@ -39,7 +39,7 @@ module _ (g : ℕ) where
   like_change_domain : (d : ℕ) (f : Domain → Domain) (pool : Pool) → ((x : Domain) → length (f x).vcpus ≡ length x.vcpus) → Alike g pool (change_domain d f pool)
   like_change_domain d f pool same = record {
     sets = alike_refl length _;
-    domains = alike_change_at (unit_count g) d f pool.domains (λ x. ap (λ (n : ℕ). (n + g - 1) / g) (same x));
+    domains = alike_change_at (domain_unit_count g) d f pool.domains (λ x. ap (λ (n : ℕ). (n + g - 1) / g) (same x));
     on = λ u. refl;
     kind = refl;
     cores = alike_refl core_face _;
@@ -47,7 +47,7 @@ module _ (g : ℕ) where
 
   -- records that have the same units on
   like_records : (records : Records) (pool : Pool) → ((u : UnitId) → is_on records u ≡ is_on pool.scheduler.records u) → keeps_records records ≡ keeps_records pool.scheduler.records → Alike g pool (with_records records pool)
-  like_records records pool on kind = record { sets = alike_refl length _; domains = alike_refl (unit_count g) _; on = on; kind = kind; cores = alike_refl core_face _ }
+  like_records records pool on kind = record { sets = alike_refl length _; domains = alike_refl (domain_unit_count g) _; on = on; kind = kind; cores = alike_refl core_face _ }
 
   -- all events but a Decide and a Save
   abbrev pub IsEven : Action → Type 0
@@ -66,9 +66,9 @@ module _ (g : ℕ) where
     dequeues = λ d pool here. here;
     decides = λ r c pool at even. absurd even;
     saves = λ r c u pool at is even. absurd even;
-    replenishes = λ u pool even here. is_alike_trans g old pool (with_records (policy.replenish pool.scheduler.records t u) pool) here (like_records (policy.replenish pool.scheduler.records t u) pool (running.replenishes pool.scheduler.records t u) (running.replenishes_kind pool.scheduler.records t u));
+    replenishes = λ u pool even here. is_alike_trans g old pool (with_records (policy.records_after_replenish pool.scheduler.records t u) pool) here (like_records (policy.records_after_replenish pool.scheduler.records t u) pool (running.replenishes pool.scheduler.records t u) (running.replenishes_kind pool.scheduler.records t u));
     dues = λ r u x first pool even is here. is_alike_trans g old pool (change_core r (pools.due_within t x.budget) pool) here (like_change_core r (pools.due_within t x.budget) pool (λ c. refl));
-    refills = λ d pool even here. is_alike_trans g old pool (with_records (policy.refill pool.scheduler.records t d) pool) here (like_records (policy.refill pool.scheduler.records t d) pool (running.refills pool.scheduler.records t d) (running.refills_kind pool.scheduler.records t d));
+    refills = λ d pool even here. is_alike_trans g old pool (with_records (policy.records_after_refill pool.scheduler.records t d) pool) here (like_records (policy.records_after_refill pool.scheduler.records t d) pool (running.refills pool.scheduler.records t d) (running.refills_kind pool.scheduler.records t d));
   }
 
   pub like_commands : (old : Pool) → KeptByCommands g (Alike g old)
@@ -77,18 +77,18 @@ module _ (g : ℕ) where
   pub like_acts : (t : ℕ) (pool : Pool) (action : Action) → IsEven action → Alike g pool (after_in g t pool action)
   like_acts t pool action even = kept_by_parts (like_parts t pool) pool action even (is_alike_refl g pool)
 
-  pub like_set_moving : (d i : ℕ) (pool : Pool) → Alike g pool (set_moving d i pool)
+  pub like_set_moving : (d i : ℕ) (pool : Pool) → Alike g pool (pool_with_moving d i pool)
   like_set_moving d i pool =
       let f : Domain → Domain = λ domain. record domain { moving = Some (pool_number i) } in
       kept_withdrawn (like_commands pool) d (change_domain d f pool) (like_change_domain d f pool (λ x. refl))
 
-  pub like_set_params : (change : ParamChange) (t : ℕ) (pool : Pool) → Alike g pool (set_params change t pool)
+  pub like_set_params : (change : ParamChange) (t : ℕ) (pool : Pool) → Alike g pool (changed_pool change t pool)
   like_set_params change t pool =
-      let next : Pool = record pool { scheduler = policy.set_params change t pool.scheduler } in
+      let next : Pool = record pool { scheduler = policy.changed_scheduler change t pool.scheduler } in
       kept_marked (like_commands pool) t caps change next
       (record {
         sets = changed_sets change pool.scheduler.affinity;
-        domains = alike_refl (unit_count g) _;
+        domains = alike_refl (domain_unit_count g) _;
         on = running.changes pool.scheduler.records change t;
         kind = running.changes_kind pool.scheduler.records change t;
         cores = alike_refl core_face _;

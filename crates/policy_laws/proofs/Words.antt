@@ -13,9 +13,9 @@ use Rattle.sched_model.specs.declared.state.Records.{Records}
 use Rattle.sched_model.specs.declared.state.Records.TheVariants.{Credit2Pool, RtdsPool, ArincPool, NullPool}
 use Rattle.sched_model.specs.declared.state.Scheduler.{Scheduler}
 use Rattle.sched_model.specs.Places.{at_place, clear_at, is_unit}
-use Rattle.sched_model.specs.Arinc.{Window, present_window}
+use Rattle.sched_model.specs.Arinc.{Window, current_window}
 use Rattle.sched_model.specs.EligibleUnits.{Decision}
-use Rattle.sched_model.specs.Policy.{decision_by, arinc_decision, replenish, refill, changed_records, joined_records, parted_records}
+use Rattle.sched_model.specs.Policy.{decision_by, arinc_decision, records_after_replenish, records_after_refill, changed_records, joined_records, parted_records}
 use Rattle.sched_model.specs.Credit2 as credit2
 use Rattle.sched_model.specs.Rtds as rtds
 use Rattle.sched_model.specs.NullScheduler as null
@@ -95,21 +95,21 @@ nothing_said says false own = sym (cond_same own false)
 module _ (says : Bool → Bool) (w : UnitId) where
   -- a decision
   credit2_decides : (ask : Ask) (scheduler : Scheduler) (records : Credit2Records) (chosen : Option UnitId)
-      → word_on says (credit2.decide ask scheduler records chosen).records w ≡ word_after says (is_unit (credit2.decide ask scheduler records chosen).unit w) (is_unit ask.cur w) (λ k. credit2_word k records w)
+      → word_on says (credit2.credit2_decision_for ask scheduler records chosen).records w ≡ word_after says (is_unit (credit2.credit2_decision_for ask scheduler records chosen).unit w) (is_unit ask.cur w) (λ k. credit2_word k records w)
   credit2_decides ask scheduler records None = of_credit2.word_off says w ask.cur records
   credit2_decides ask scheduler records (Some u) =
-      let m : ℕ = credit2.resets_for ask.at.0 u records in
-      let taken : Credit2Records = credit2.change_domain u.dom.0 (credit2.take_budget u.n) (credit2.reset ask.at.0 m records) in
-      let off : Credit2Records = credit2.switch_off ask.cur taken in
+      let m : ℕ = credit2.reset_count ask.at.0 u records in
+      let taken : Credit2Records = credit2.change_domain u.dom.0 (credit2.domain_after_take u.n) (credit2.reset_records ask.at.0 m records) in
+      let off : Credit2Records = credit2.off_records ask.cur taken in
       of_credit2.word_running says w (Some ask.at.0) u off
       ∙ put_on says (is_unit (Some u) w) (is_unit ask.cur w) (λ k. credit2_word k off w) (λ k. credit2_word k taken w) (λ k. of_credit2.word_off k w ask.cur taken)
-      ∙ word_after_same says (is_unit (Some u) w) (is_unit ask.cur w) (λ k. credit2_word k taken w) (λ k. credit2_word k records w) (λ k. of_credit2.kept_take k w u (credit2.reset ask.at.0 m records) ∙ of_credit2.kept_reset k w ask.at.0 m records)
+      ∙ word_after_same says (is_unit (Some u) w) (is_unit ask.cur w) (λ k. credit2_word k taken w) (λ k. credit2_word k records w) (λ k. of_credit2.kept_take k w u (credit2.reset_records ask.at.0 m records) ∙ of_credit2.kept_reset k w ask.at.0 m records)
 
   rtds_decides : (ask : Ask) (domains : List (Option (List RtdsUnit))) (chosen : Option UnitId)
-      → word_on says (rtds.decide ask domains chosen).records w ≡ word_after says (is_unit (rtds.decide ask domains chosen).unit w) (is_unit ask.cur w) (λ k. rtds_word k domains w)
+      → word_on says (rtds.rtds_decision_for ask domains chosen).records w ≡ word_after says (is_unit (rtds.rtds_decision_for ask domains chosen).unit w) (is_unit ask.cur w) (λ k. rtds_word k domains w)
   rtds_decides ask domains None = of_rtds.word_off says w ask.cur domains
   rtds_decides ask domains (Some u) =
-      let off : List (Option (List RtdsUnit)) = rtds.switch_off ask.cur domains in
+      let off : List (Option (List RtdsUnit)) = rtds.off_domains ask.cur domains in
       of_rtds.word_running says w (Some ask.at.0) u off
       ∙ put_on says (is_unit (Some u) w) (is_unit ask.cur w) (λ k. rtds_word k off w) (λ k. rtds_word k domains w) (λ k. of_rtds.word_off k w ask.cur domains)
 
@@ -117,36 +117,36 @@ module _ (says : Bool → Bool) (w : UnitId) where
   window_records ask scheduler None = refl
   window_records ask scheduler (Some window) = refl
 
-  null_silent : (core : ℕ) (kept : List (Option UnitId)) (chosen : Option UnitId) → word_on says (null.decide core kept chosen).records w ≡ false
+  null_silent : (core : ℕ) (kept : List (Option UnitId)) (chosen : Option UnitId) → word_on says (null.null_decision_for core kept chosen).records w ≡ false
   null_silent core kept None = refl
   null_silent core kept (Some u) = refl
 
   pub word_decides : (records : Records) (ask : Ask) (scheduler : Scheduler) → scheduler.records ≡ records
       → word_on says (decision_by records ask scheduler).records w ≡ word_after says (is_unit (decision_by records ask scheduler).unit w) (is_unit ask.cur w) (λ k. word_on k records w)
   word_decides (Credit2Pool records) ask scheduler is =
-      let burned : Credit2Records = credit2.burn_cur ask.cur ask.at.0 records in
-      let chosen : Option UnitId = credit2.choice ask scheduler burned in
+      let burned : Credit2Records = credit2.own_burned_records ask.cur ask.at.0 records in
+      let chosen : Option UnitId = credit2.credit2_choice ask scheduler burned in
       credit2_decides ask scheduler burned chosen
-      ∙ word_after_same says (is_unit (credit2.decide ask scheduler burned chosen).unit w) (is_unit ask.cur w) (λ k. credit2_word k burned w) (λ k. credit2_word k records w) (λ k. of_credit2.kept_burn_cur k w ask.cur ask.at.0 records)
+      ∙ word_after_same says (is_unit (credit2.credit2_decision_for ask scheduler burned chosen).unit w) (is_unit ask.cur w) (λ k. credit2_word k burned w) (λ k. credit2_word k records w) (λ k. of_credit2.kept_burn_cur k w ask.cur ask.at.0 records)
   word_decides (RtdsPool domains) ask scheduler is =
-      let burned : List (Option (List RtdsUnit)) = rtds.burn_cur ask.cur ask.at.0 domains in
-      let chosen : Option UnitId = rtds.choice ask scheduler burned in
+      let burned : List (Option (List RtdsUnit)) = rtds.own_burned_domains ask.cur ask.at.0 domains in
+      let chosen : Option UnitId = rtds.rtds_choice ask scheduler burned in
       rtds_decides ask burned chosen
-      ∙ word_after_same says (is_unit (rtds.decide ask burned chosen).unit w) (is_unit ask.cur w) (λ k. rtds_word k burned w) (λ k. rtds_word k domains w) (λ k. of_rtds.kept_burn_cur k w ask.cur ask.at.0 domains)
+      ∙ word_after_same says (is_unit (rtds.rtds_decision_for ask burned chosen).unit w) (is_unit ask.cur w) (λ k. rtds_word k burned w) (λ k. rtds_word k domains w) (λ k. of_rtds.kept_burn_cur k w ask.cur ask.at.0 domains)
   word_decides (ArincPool records) ask scheduler is =
-      let window : Option Window = cond ask.leaving None (present_window records ask.at.0) in
+      let window : Option Window = cond ask.leaving None (current_window records ask.at.0) in
       ap (λ r. word_on says r w) (window_records ask scheduler window ∙ is) ∙ nothing_said says (is_unit (arinc_decision ask scheduler window).unit w) (is_unit ask.cur w)
   word_decides (NullPool kept) ask scheduler is =
-      by_cond (λ (d : Decision). word_on says d.records w ≡ false) ask.leaving (null.decide ask.core.0 (clear_at ask.core.0 kept) None) (null.decide ask.core.0 kept (null.choice ask scheduler kept))
-      (λ leaves. refl) (λ stays. null_silent ask.core.0 kept (null.choice ask scheduler kept))
+      by_cond (λ (d : Decision). word_on says d.records w ≡ false) ask.leaving (null.null_decision_for ask.core.0 (clear_at ask.core.0 kept) None) (null.null_decision_for ask.core.0 kept (null.null_choice ask scheduler kept))
+      (λ leaves. refl) (λ stays. null_silent ask.core.0 kept (null.null_choice ask scheduler kept))
       ∙ nothing_said says (is_unit (null.null_decision ask scheduler kept).unit w) (is_unit ask.cur w)
 
   -- what leaves each unit on or off
-  pub word_replenished : (records : Records) (t : ℕ) (u : UnitId) → word_on says (replenish records t u) w ≡ word_on says records w
+  pub word_replenished : (records : Records) (t : ℕ) (u : UnitId) → word_on says (records_after_replenish records t u) w ≡ word_on says records w
   word_replenished (RtdsPool domains) t u = of_rtds.kept_replenished says w t u domains
   word_replenished any t u = refl
 
-  pub word_refilled : (records : Records) (t d : ℕ) → word_on says (refill records t d) w ≡ word_on says records w
+  pub word_refilled : (records : Records) (t d : ℕ) → word_on says (records_after_refill records t d) w ≡ word_on says records w
   word_refilled (Credit2Pool records) t d = of_credit2.kept_refilled says w t d records
   word_refilled records t d = refl
 
@@ -159,9 +159,9 @@ module _ (says : Bool → Bool) (w : UnitId) where
   -- a domain joins or parts: the units of others
   pub word_joined : (records : Records) (params : DomParams) (d count t : ℕ) → w.dom.0 ≢ d → word_on says (joined_records records params d count t) w ≡ word_on says records w
   word_joined (Credit2Pool records) (dom_params.Credit2 weight percent) d count t other =
-      test_at-put_at_other d w.dom.0 (credit2.fresh_domain weight percent count t) (λ x. test_item x.units w.n (λ x. says (is_some x.burned))) records.domains other
+      test_at-put_at_other d w.dom.0 (credit2.fresh_credit2_domain weight percent count t) (λ x. test_item x.units w.n (λ x. says (is_some x.burned))) records.domains other
   word_joined (RtdsPool domains) (dom_params.Rtds period budget extra) d count t other =
-      test_at-put_at_other d w.dom.0 (rtds.fresh_units period.0 budget.0 extra count t) (λ units. test_item units w.n (λ x. says (is_some x.burned))) domains other
+      test_at-put_at_other d w.dom.0 (rtds.fresh_rtds_units period.0 budget.0 extra count t) (λ units. test_item units w.n (λ x. says (is_some x.burned))) domains other
   word_joined records params d count t other = refl
 
   pub word_parted : (records : Records) (d : ℕ) → w.dom.0 ≢ d → word_on says (parted_records records d) w ≡ word_on says records w

@@ -8,16 +8,16 @@ use Rattle.sched_model.specs.declared.state.Resource.{Resource}
 use Rattle.sched_model.specs.declared.state.Vcpu.{Vcpu}
 use Rattle.sched_model.specs.declared.state.Pool.{Pool}
 use Rattle.sched_model.specs.Places.{at_place}
-use Rattle.sched_model.specs.Pool.{core_of, guest_of, unit_count, vcpu_of}
+use Rattle.sched_model.specs.Pool.{unit_core, running_guest, domain_unit_count, pool_vcpu}
 use Rattle.sched_laws.specs.EachPlace.{EachPlace}
 use Rattle.sched_laws.specs.PoolFacts.{IsKnownPool}
 use Rattle.state_ranges.specs.Counts.{KeepsPool}
-use Rattle.sched_ops.specs.Conditions.{is_member, is_on, may_be_on}
+use Rattle.sched_ops.specs.Conditions.{is_member, is_on, may_unit_be_on}
 
 -- the scheduler knows each domain of the pool with all its units, and no other
 pub record HasMembers (g : ℕ) (pool : Pool) : Type 0 where
   pub places : length pool.scheduler.affinity ≡ length pool.domains
-  pub units : (d : ℕ) → option_map length (at_place pool.scheduler.affinity d) ≡ option_map (unit_count g) (at_place pool.domains d)
+  pub units : (d : ℕ) → option_map length (at_place pool.scheduler.affinity d) ≡ option_map (domain_unit_count g) (at_place pool.domains d)
 
 -- a core's own unit and the one that it saves are units of domains that have joined
 pub record HasMember (pool : Pool) (c : Resource) : Type 0 where
@@ -26,12 +26,12 @@ pub record HasMember (pool : Pool) (c : Resource) : Type 0 where
 
 -- a core's own unit is on in the records, where they tell, and no other unit is
 pub record AreOn (pool : Pool) : Type 0 where
-  pub own : EachPlace (λ (c : Resource). ForSome c.cur (λ u. may_be_on pool.scheduler.records u ≡ true)) pool.resources
-  pub off : (u : UnitId) → is_on pool.scheduler.records u ≡ true → is_some (core_of pool u) ≡ true
+  pub own : EachPlace (λ (c : Resource). ForSome c.cur (λ u. may_unit_be_on pool.scheduler.records u ≡ true)) pool.resources
+  pub off : (u : UnitId) → is_on pool.scheduler.records u ≡ true → is_some (unit_core pool u) ≡ true
 
 -- a vCPU that is started is run by a processor
 abbrev pub HaveProcessors : ℕ → Pool → Type 0
-HaveProcessors g pool = (v : VcpuId) (x : Vcpu) (from : Moment) → vcpu_of pool v ≡ Some x → x.started ≡ Some from → (p : ℕ) × (guest_of g pool p ≡ Some v)
+HaveProcessors g pool = (v : VcpuId) (x : Vcpu) (from : Moment) → pool_vcpu pool v ≡ Some x → x.started ≡ Some from → (p : ℕ) × (running_guest g pool p ≡ Some v)
 
 -- what is kept of a pool at t; g is the number of a core's processors
 pub record Holds (g t : ℕ) (pool : Pool) : Type 0 where

@@ -5,7 +5,7 @@ use Rattle.sched_model.specs.declared.ask.Ask.{Ask}
 use Rattle.sched_model.specs.declared.state.Records.{Records}
 use Rattle.sched_model.specs.declared.state.Records.TheVariants.{Credit2Pool, RtdsPool, ArincPool, NullPool}
 use Rattle.sched_model.specs.Places.{at_place, is_unit}
-use Rattle.sched_model.specs.EligibleUnits.{Decision, rtds_unit}
+use Rattle.sched_model.specs.EligibleUnits.{Decision, rtds_unit_at}
 use Rattle.sched_ops.specs.Conditions.{is_on}
 
 -- whether the scheduler keeps a record of each unit: Credit2 and RTDS do
@@ -18,7 +18,7 @@ keeps_records (NullPool kept) = false
 -- whether it has a record of the unit
 abbrev pub has_record : Records → UnitId → Bool
 has_record (Credit2Pool records) u = elim (at_place records.domains u.dom.0) [ None ↦ false | Some d ↦ is_some (slice_get d.units u.n) ]
-has_record (RtdsPool domains) u = is_some (rtds_unit domains u)
+has_record (RtdsPool domains) u = is_some (rtds_unit_at domains u)
 has_record (ArincPool records) u = false
 has_record (NullPool kept) u = false
 

@@ -12,9 +12,9 @@ ghost use Rattle.sched_model.specs.declared.state.Domain.{Domain};
 ghost use Rattle.sched_model.specs.declared.state.Vcpu.{Vcpu};
 ghost use Rattle.sched_model.specs.declared.state.Pool.{Pool};
 ghost use Rattle.sched_model.specs.Places.{at_place, put_at, clear_at};
-ghost use Rattle.sched_model.specs.Opening.{fresh_core};
-ghost use Rattle.sched_model.specs.Policy.{fresh_records};
-ghost use Rattle.sched_model.specs.Pool.{enabled_in, after_in, settled_pool, change_processor, set_leaving, set_moving, pause, unpause, set_params, with_domain, without_domain, unit_count};
+ghost use Rattle.sched_model.specs.Opening.{joined_core};
+ghost use Rattle.sched_model.specs.Policy.{empty_records};
+ghost use Rattle.sched_model.specs.Pool.{enabled_in, after_in, settled_pool, change_processor, pool_with_leaving, pool_with_moving, paused_pool, unpaused_pool, changed_pool, pool_with_domain, pool_without_domain, domain_unit_count};
 ghost use Rattle.state_ranges.specs.Counts.{Matches};
 ghost use Rattle.policy_laws.specs.Holds.{Holds};
 
@@ -27,31 +27,31 @@ pub fn law_pool_kept()
         ≡ true → Holds g t pool → Holds g t (after_in g t pool action) }
     ensures stalls { (g t p end : ℕ) → (pool : Pool) → Holds g t pool →
         Holds g t (change_processor g p (λ q. record q { stall_end = moment end }) pool) }
-    ensures leaves { (g t r : ℕ) → (pool : Pool) → Holds g t pool → Holds g t (set_leaving r pool) }
+    ensures leaves { (g t r : ℕ) → (pool : Pool) → Holds g t pool → Holds g t (pool_with_leaving r pool) }
     ensures moves { (g t d i : ℕ) → (pool : Pool) → Holds g t pool →
-        Holds g t (set_moving d i pool) }
-    ensures pauses { (g t d : ℕ) → (pool : Pool) → Holds g t pool → Holds g t (pause d pool) }
-    ensures unpauses { (g t d : ℕ) → (pool : Pool) → Holds g t pool → Holds g t (unpause g d pool) }
+        Holds g t (pool_with_moving d i pool) }
+    ensures pauses { (g t d : ℕ) → (pool : Pool) → Holds g t pool → Holds g t (paused_pool d pool) }
+    ensures unpauses { (g t d : ℕ) → (pool : Pool) → Holds g t pool → Holds g t (unpaused_pool g d pool) }
     ensures changes { (g t : ℕ) → (change : ParamChange) → (pool : Pool) → Holds g t pool →
-        Holds g t (set_params change t pool) }
+        Holds g t (changed_pool change t pool) }
     ensures core_comes { (g t r : ℕ) → (ends : List Moment) → (pool : Pool) →
         at_place pool.resources r ≡ None → Holds g t pool →
-        Holds g t (record pool { resources = put_at r (fresh_core ends) pool.resources }) }
+        Holds g t (record pool { resources = put_at r (joined_core ends) pool.resources }) }
     ensures core_goes { (g t r : ℕ) → (pool : Pool) → enabled_in g t pool (Moved (core r)) ≡ true →
         Holds g t pool → Holds g t (record pool { resources = clear_at r pool.resources }) }
     ensures domain_comes { (g t d : ℕ) → (domain : Domain) → (params : DomParams) → (pool : Pool) →
         domain.moving ≡ None → ((n : ℕ) → (x : Vcpu) → slice_get domain.vcpus n ≡ Some x → x.started
         ≡ None) → at_place pool.domains d ≡ None → d < length pool.domains → 1
-        ≤ unit_count g domain → Matches pool.scheduler.records params → Holds g t pool →
-        Holds g t (with_domain g t d domain params pool) }
+        ≤ domain_unit_count g domain → Matches pool.scheduler.records params → Holds g t pool →
+        Holds g t (pool_with_domain g t d domain params pool) }
     ensures domain_goes { (g t d : ℕ) → (pool : Pool) → enabled_in g t pool (DomMoved (domain d))
-        ≡ true → Holds g t pool → Holds g t (without_domain d pool) }
+        ≡ true → Holds g t pool → Holds g t (pool_without_domain d pool) }
     ensures opened { (g t domains cores places : ℕ) → (params : PoolParams) → 0 < g →
         Holds g t (record {
           scheduler = record {
             queue = [];
             affinity = replicate domains None;
-            records = fresh_records params domains cores;
+            records = empty_records params domains cores;
           };
           domains = replicate domains None;
           resources = replicate places None;

@@ -7,7 +7,7 @@ ghost use Rattle.sched_model.specs.declared.config.DomParams.{DomParams};
 ghost use Rattle.sched_model.specs.declared.config.ParamChange.{ParamChange};
 ghost use Rattle.sched_model.specs.declared.state.Records.{Records};
 ghost use Rattle.sched_model.specs.declared.state.Scheduler.{Scheduler};
-ghost use Rattle.sched_model.specs.Policy.{decision_of, replenish, refill, changed_records, joined_records, parted_records};
+ghost use Rattle.sched_model.specs.Policy.{decision_of, records_after_replenish, records_after_refill, changed_records, joined_records, parted_records};
 ghost use Rattle.state_ranges.specs.Records.{IsRecorded};
 ghost use Rattle.sched_ops.specs.Conditions.{is_on};
 ghost use Rattle.policy_laws.specs.RunningUnits.{keeps_records, has_record, is_on_after};
@@ -25,8 +25,8 @@ pub fn law_running()
         has_record (decision_of ask scheduler).records w ≡ has_record scheduler.records w }
     // What leaves each unit on or off.
     ensures replenishes { (records : Records) → (t : ℕ) → (u w : UnitId) →
-        is_on (replenish records t u) w ≡ is_on records w }
-    ensures refills { (records : Records) → (t d : ℕ) → (w : UnitId) → is_on (refill records t d) w
+        is_on (records_after_replenish records t u) w ≡ is_on records w }
+    ensures refills { (records : Records) → (t d : ℕ) → (w : UnitId) → is_on (records_after_refill records t d) w
         ≡ is_on records w }
     ensures changes { (records : Records) → (change : ParamChange) → (t : ℕ) → (w : UnitId) →
         is_on (changed_records records change t) w ≡ is_on records w }
@@ -49,8 +49,8 @@ pub fn law_running()
     ensures decides_kind { (ask : Ask) → (scheduler : Scheduler) →
         keeps_records (decision_of ask scheduler).records ≡ keeps_records scheduler.records }
     ensures replenishes_kind { (records : Records) → (t : ℕ) → (u : UnitId) →
-        keeps_records (replenish records t u) ≡ keeps_records records }
-    ensures refills_kind { (records : Records) → (t d : ℕ) → keeps_records (refill records t d)
+        keeps_records (records_after_replenish records t u) ≡ keeps_records records }
+    ensures refills_kind { (records : Records) → (t d : ℕ) → keeps_records (records_after_refill records t d)
         ≡ keeps_records records }
     ensures changes_kind { (records : Records) → (change : ParamChange) → (t : ℕ) →
         keeps_records (changed_records records change t) ≡ keeps_records records }

@@ -1,5 +1,5 @@
 -- What a pool's state keeps after an event, and after its cores were looked at.
-use Rattle.sched_base.specs.Numbers.{processor, has_come}
+use Rattle.sched_base.specs.Numbers.{processor, has_moment_come}
 use Rattle.std.proofs.Common.{◌≡◌, ◌≤◌, ℕ, Bool, true, false, List, refl, sym, ap, subst, ◌∙◌, arith}
 use Rattle.std.specs.Prelude.{Option, Some, None}
 use Rattle.sched_base.specs.declared.Moment.{Moment}
@@ -12,7 +12,7 @@ use Rattle.sched_model.specs.declared.state.Vcpu.{Vcpu}
 use Rattle.sched_model.specs.CheckedMachine.{most_span}
 use Rattle.sched_model.specs.Places.{change_each}
 use Rattle.sched_model.specs.declared.state.Doing.TheVariants.{Held}
-use Rattle.sched_model.specs.Pool.{after_arrive, after_block, after_in, change_processor, change_vcpu, with_doing, stopped_vcpu, cores_from, done_at, enabled_in, guest_of, reconsidered_core, settled_pool, vcpu_of, vcpu_among}
+use Rattle.sched_model.specs.Pool.{after_arrive, after_block, after_in, change_processor, change_vcpu, with_doing, stopped_vcpu, cores_from, done_moment, enabled_in, running_guest, reconsidered_core, settled_pool, pool_vcpu, vcpu_among}
 use Rattle.sched_base.proofs.Bools.{and_left}
 use Rattle.sched_laws.proofs.EachPlace.{by_cond, vcpu_is}
 use Rattle.sched_laws.proofs.Lists.{has_come-le}
@@ -87,21 +87,21 @@ pub unmoved : (t0 t : ℕ) (guests : GuestsSeen) (cores after : CoresSeen) (s : 
 unmoved t0 t guests cores after s keeps past same = record { granularity = refl; spare = refl; latest = (let l = keeps.linked.guests_latest in omega (arith, l, past)); processors = same }
 
 -- a vCPU that may block has done its work
-pub block_done : (g t p : ℕ) (v : VcpuId) (pool : Pool) → enabled_in g t pool (Block (processor p)) ≡ true → guest_of g pool p ≡ Some v → has_come t (done_among pool.domains v) ≡ true
+pub block_done : (g t p : ℕ) (v : VcpuId) (pool : Pool) → enabled_in g t pool (Block (processor p)) ≡ true → running_guest g pool p ≡ Some v → has_moment_come t (done_among pool.domains v) ≡ true
 block_done g t p v pool on guest =
-    by_vcpu (vcpu_of pool v)
-    (subst (λ (o : Option VcpuId). elim o as (λ _. Bool) [ None ↦ false | Some w ↦ elim (vcpu_of pool w) as (λ _. Bool) [ None ↦ false | Some x ↦ has_come t (done_at x) ] ] ≡ true) guest
-    (and_left (elim (guest_of g pool p) as (λ _. Bool) [ None ↦ false | Some w ↦ elim (vcpu_of pool w) as (λ _. Bool) [ None ↦ false | Some x ↦ has_come t (done_at x) ] ]) _ on))
+    by_vcpu (pool_vcpu pool v)
+    (subst (λ (o : Option VcpuId). elim o as (λ _. Bool) [ None ↦ false | Some w ↦ elim (pool_vcpu pool w) as (λ _. Bool) [ None ↦ false | Some x ↦ has_moment_come t (done_moment x) ] ] ≡ true) guest
+    (and_left (elim (running_guest g pool p) as (λ _. Bool) [ None ↦ false | Some w ↦ elim (pool_vcpu pool w) as (λ _. Bool) [ None ↦ false | Some x ↦ has_moment_come t (done_moment x) ] ]) _ on))
   where
-    by_vcpu : (o : Option Vcpu) → elim o as (λ _. Bool) [ None ↦ false | Some x ↦ has_come t (done_at x) ] ≡ true → has_come t (elim o as (λ _. Option Moment) [ None ↦ None | Some x ↦ done_at x ]) ≡ true
+    by_vcpu : (o : Option Vcpu) → elim o as (λ _. Bool) [ None ↦ false | Some x ↦ has_moment_come t (done_moment x) ] ≡ true → has_moment_come t (elim o as (λ _. Option Moment) [ None ↦ None | Some x ↦ done_moment x ]) ≡ true
     by_vcpu None e = absurd (cc)
     by_vcpu (Some x) e = e
 
 -- a vCPU that may wake sleeps, and its wake moment has come
 pub wake_due : (g t : ℕ) (v : VcpuId) (pool : Pool) → enabled_in g t pool (Wake v) ≡ true → is_due_among t pool.domains v ≡ true
-wake_due g t v pool on = by_vcpu (vcpu_of pool v) on
+wake_due g t v pool on = by_vcpu (pool_vcpu pool v) on
   where
-    by_vcpu : (o : Option Vcpu) → elim o as (λ _. Bool) [ None ↦ false | Some x ↦ has_come t x.asleep_until ] ≡ true → has_come t (elim o as (λ _. Option Moment) [ None ↦ None | Some x ↦ x.asleep_until ]) ≡ true
+    by_vcpu : (o : Option Vcpu) → elim o as (λ _. Bool) [ None ↦ false | Some x ↦ has_moment_come t x.asleep_until ] ≡ true → has_moment_come t (elim o as (λ _. Option Moment) [ None ↦ None | Some x ↦ x.asleep_until ]) ≡ true
     by_vcpu None e = absurd (cc)
     by_vcpu (Some x) e = e
 
@@ -109,12 +109,12 @@ wake_due g t v pool on = by_vcpu (vcpu_of pool v) on
 pub wake_still : (t : ℕ) (v : VcpuId) (guests : GuestsSeen) → KeepsGuests guests → is_due_among t guests.domains v ≡ true → (x : Vcpu) → vcpu_among guests.domains v ≡ Some x → x.started ≡ None
 wake_still t v guests keeps due x there =
     let at = vcpu_is guests.domains v x there in
-    let sleeps : has_come t x.asleep_until ≡ true = subst (λ (o : Option Vcpu). has_come t (elim o as (λ _. Option Moment) [ None ↦ None | Some y ↦ y.asleep_until ]) ≡ true) there due in
+    let sleeps : has_moment_come t x.asleep_until ≡ true = subst (λ (o : Option Vcpu). has_moment_come t (elim o as (λ _. Option Moment) [ None ↦ None | Some y ↦ y.asleep_until ]) ≡ true) there due in
     let until = has_come-le t x.asleep_until sleeps in
     ((keeps.guests v.dom.0 at.0 at.1).vcpus v.n x at.2).still until.0 until.1
 
 -- the event of a processor that runs the vCPU
-pub block_happens : (g t p : ℕ) (v : VcpuId) (pool : Pool) → guest_of g pool p ≡ Some v → after_block g t p v pool ≡ after_in g t pool (Block (processor p))
+pub block_happens : (g t p : ℕ) (v : VcpuId) (pool : Pool) → running_guest g pool p ≡ Some v → after_block g t p v pool ≡ after_in g t pool (Block (processor p))
 block_happens g t p v pool guest = ap (λ (o : Option VcpuId). elim o as (λ _. Pool) [ None ↦ pool | Some w ↦ after_block g t p w pool ]) (sym guest)
 
 -- what is seen after an event and after the cores were looked at
@@ -135,8 +135,8 @@ happened_is t guests next cores after s s2 latest used action before pool moved 
     a ∙ b ∙ d ∙ ap (λ (x : Seen). seen_after t action x) is
 
 -- a processor that arrives, where it ran nothing and where it ran a vCPU
-pub arrived_alone : (g t p : ℕ) (pool : Pool) → guest_of g pool p ≡ None → change_processor g p (with_doing Held) pool ≡ after_arrive g t p pool
+pub arrived_alone : (g t p : ℕ) (pool : Pool) → running_guest g pool p ≡ None → change_processor g p (with_doing Held) pool ≡ after_arrive g t p pool
 arrived_alone g t p pool guest = ap (λ (o : Option VcpuId). change_processor g p (with_doing Held) (elim o as (λ _. Pool) [ None ↦ pool | Some w ↦ change_vcpu w (stopped_vcpu t) pool ])) (sym guest)
 
-pub arrived_with : (g t p : ℕ) (v : VcpuId) (pool : Pool) → guest_of g pool p ≡ Some v → change_processor g p (with_doing Held) (change_vcpu v (stopped_vcpu t) pool) ≡ after_arrive g t p pool
+pub arrived_with : (g t p : ℕ) (v : VcpuId) (pool : Pool) → running_guest g pool p ≡ Some v → change_processor g p (with_doing Held) (change_vcpu v (stopped_vcpu t) pool) ≡ after_arrive g t p pool
 arrived_with g t p v pool guest = ap (λ (o : Option VcpuId). change_processor g p (with_doing Held) (elim o as (λ _. Pool) [ None ↦ pool | Some w ↦ change_vcpu w (stopped_vcpu t) pool ])) (sym guest)

@@ -8,9 +8,9 @@ use Rattle.sched_model.specs.declared.state.Pool.{Pool}
 use Rattle.sched_model.specs.declared.state.Resource.{Resource}
 use Rattle.sched_model.specs.declared.state.Domain.{Domain}
 use Rattle.sched_model.specs.declared.state.Vcpu.{Vcpu}
-use Rattle.sched_model.specs.Places.{at_place, change_item, has_unit, is_unit}
-use Rattle.sched_model.specs.Pool.{change_vcpu, guest_of, is_off, saving_among, unit_count, unit_of}
-use Rattle.sched_model.specs.State.{is_runnable}
+use Rattle.sched_model.specs.Places.{at_place, change_item, has_listed_unit, is_unit}
+use Rattle.sched_model.specs.Pool.{change_vcpu, running_guest, is_unit_off, saving_among, domain_unit_count, vcpu_unit}
+use Rattle.sched_model.specs.State.{may_unit_run}
 use Rattle.sched_laws.specs.EachPlace.{EachPlace}
 use Rattle.sched_base.proofs.Bools.{or_left}
 use Rattle.sched_laws.proofs.Counts.{total_at, total_two, times_has, times_some, same_unit_refl}
@@ -38,8 +38,8 @@ saved_place : (u : UnitId) (c : Resource) → c.saving ≡ Some u → 1 ≤ core
 saved_place u c is = let e : one_at u c.saving ≡ 1 = ap (one_at u) is ∙ one_same u in omega (arith, e)
 
 -- a unit with a place on a core does not wait
-pub waits_not : (g : ℕ) (pool : Pool) (u : UnitId) (r : ℕ) (c : Resource) → OnePlace g pool → at_place pool.resources r ≡ Some c → 1 ≤ core_places u c → has_unit pool.scheduler.queue u ≡ false
-waits_not g pool u r c one at has = false_from_ne_true (has_unit pool.scheduler.queue u) (λ is.
+pub waits_not : (g : ℕ) (pool : Pool) (u : UnitId) (r : ℕ) (c : Resource) → OnePlace g pool → at_place pool.resources r ≡ Some c → 1 ≤ core_places u c → has_listed_unit pool.scheduler.queue u ≡ false
+waits_not g pool u r c one at has = false_from_ne_true (has_listed_unit pool.scheduler.queue u) (λ is.
     let waits = times_some u pool.scheduler.queue is in
     let on = total_at (core_places u) r c pool.resources at in
     let most = one.most u in
@@ -58,20 +58,20 @@ one_core g pool u r s c d one at is at2 is2 = elim (ℕ_discrete r s) [
 ]
 
 -- the core and the place of a processor that runs the vCPU
-pub guest_at : (g : ℕ) (pool : Pool) (p : ℕ) (v : VcpuId) → IsKnownPool g pool → guest_of g pool p ≡ Some v → (c : Resource) × (at_place pool.resources (p / g) ≡ Some c) × (c.cur ≡ Some (unit_of g v)) × (v.n % g ≡ p % g)
+pub guest_at : (g : ℕ) (pool : Pool) (p : ℕ) (v : VcpuId) → IsKnownPool g pool → running_guest g pool p ≡ Some v → (c : Resource) × (at_place pool.resources (p / g) ≡ Some c) × (c.cur ≡ Some (vcpu_unit g v)) × (v.n % g ≡ p % g)
 guest_at g pool p v known runs =
     let found = guest_of_is g pool p v runs in
     let sound = (known.sound (p / g) found.0 found.2).guests (p % g) found.1 v found.3 found.4 in
     (found.0, found.2, sound.0, sound.1)
 
 -- a vCPU whose unit is the own one of a processor's core, and whose place is that of the processor, is run by no other
-pub only_there : (g : ℕ) (pool : Pool) (p : ℕ) (c : Resource) (v : VcpuId) → IsKnownPool g pool → at_place pool.resources (p / g) ≡ Some c → c.cur ≡ Some (unit_of g v) → v.n % g ≡ p % g → (q : ℕ) → guest_of g pool q ≡ Some v → q ≡ p
+pub only_there : (g : ℕ) (pool : Pool) (p : ℕ) (c : Resource) (v : VcpuId) → IsKnownPool g pool → at_place pool.resources (p / g) ≡ Some c → c.cur ≡ Some (vcpu_unit g v) → v.n % g ≡ p % g → (q : ℕ) → running_guest g pool q ≡ Some v → q ≡ p
 only_there g pool p c v known at own place q runs =
     let there = guest_at g pool q v known runs in
-    same_number g q p (one_core g pool (unit_of g v) (q / g) (p / g) there.0 c known.one there.1 there.2 at own) (sym there.3 ∙ place)
+    same_number g q p (one_core g pool (vcpu_unit g v) (q / g) (p / g) there.0 c known.one there.1 there.2 at own) (sym there.3 ∙ place)
 
 -- a vCPU that a processor runs is run by no other
-pub only_guest : (g : ℕ) (pool : Pool) (p : ℕ) (v : VcpuId) → IsKnownPool g pool → guest_of g pool p ≡ Some v → (q : ℕ) → guest_of g pool q ≡ Some v → q ≡ p
+pub only_guest : (g : ℕ) (pool : Pool) (p : ℕ) (v : VcpuId) → IsKnownPool g pool → running_guest g pool p ≡ Some v → (q : ℕ) → running_guest g pool q ≡ Some v → q ≡ p
 only_guest g pool p v known runs = let there = guest_at g pool p v known runs in only_there g pool p there.0 v known there.1 there.2 there.3
 
 -- each core may ask its scheduler
@@ -125,25 +125,25 @@ no_core_has pool u none r c at is =
     absurd (cc)
 
 -- a unit that waits is runnable
-waiting_runs : (g : ℕ) (pool : Pool) (u : UnitId) → OnePlace g pool → has_unit pool.scheduler.queue u ≡ true → is_runnable g pool u ≡ true
-waiting_runs g pool u one waits = times_has (λ (w : UnitId). is_runnable g pool w ≡ true) u pool.scheduler.queue one.waits (times_some u pool.scheduler.queue waits)
+waiting_runs : (g : ℕ) (pool : Pool) (u : UnitId) → OnePlace g pool → has_listed_unit pool.scheduler.queue u ≡ true → may_unit_run g pool u ≡ true
+waiting_runs g pool u one waits = times_has (λ (w : UnitId). may_unit_run g pool w ≡ true) u pool.scheduler.queue one.waits (times_some u pool.scheduler.queue waits)
 
 -- a unit that was not runnable does not wait
-idle_waits_not : (g : ℕ) (pool : Pool) (u : UnitId) → OnePlace g pool → is_runnable g pool u ≡ false → has_unit pool.scheduler.queue u ≡ false
-idle_waits_not g pool u one idle = false_from_ne_true (has_unit pool.scheduler.queue u) (λ is. let runs = waiting_runs g pool u one is in cc)
+idle_waits_not : (g : ℕ) (pool : Pool) (u : UnitId) → OnePlace g pool → may_unit_run g pool u ≡ false → has_listed_unit pool.scheduler.queue u ≡ false
+idle_waits_not g pool u one idle = false_from_ne_true (has_listed_unit pool.scheduler.queue u) (λ is. let runs = waiting_runs g pool u one is in cc)
 
 -- a change of a vCPU leaves units and cores alike
 changed_alike : (g : ℕ) (v : VcpuId) (f : Vcpu → Vcpu) (pool : Pool) → Alike g pool (change_vcpu v f pool)
 changed_alike g v f pool = record {
   sets = alike_refl length pool.scheduler.affinity;
-  domains = alike_change_at (unit_count g) v.dom.0 (λ (d : Domain). record d { vcpus = change_item v.n f d.vcpus }) pool.domains (λ d. ap (λ (n : ℕ). (n + g - 1) / g) (length_change_item v.n f d.vcpus));
+  domains = alike_change_at (domain_unit_count g) v.dom.0 (λ (d : Domain). record d { vcpus = change_item v.n f d.vcpus }) pool.domains (λ d. ap (λ (n : ℕ). (n + g - 1) / g) (length_change_item v.n f d.vcpus));
   on = λ u. refl;
   kind = refl;
   cores = alike_refl core_face pool.resources;
 }
 
 -- a unit that was not runnable, and that no core has, neither waits nor is on; after its vCPU woke it is one of the scheduler's
-pub woken_away : (g t : ℕ) (pool : Pool) (v : VcpuId) (f : Vcpu → Vcpu) (u : UnitId) → Holds g t pool → is_runnable g pool u ≡ false → is_held_among pool.resources u ≡ false → is_runnable g (change_vcpu v f pool) u ≡ true → IsAway pool.scheduler u
+pub woken_away : (g t : ℕ) (pool : Pool) (v : VcpuId) (f : Vcpu → Vcpu) (u : UnitId) → Holds g t pool → may_unit_run g pool u ≡ false → is_held_among pool.resources u ≡ false → may_unit_run g (change_vcpu v f pool) u ≡ true → IsAway pool.scheduler u
 woken_away g t pool v f u holds idle none runs = record {
   member = runnable_member g holds.some (change_vcpu v f pool) u (alike_members g pool (change_vcpu v f pool) (changed_alike g v f pool) holds.members) runs;
   waits_not = idle_waits_not g pool u holds.known.one idle;
@@ -151,18 +151,18 @@ woken_away g t pool v f u holds idle none runs = record {
 }
 
 -- whether a unit is nowhere, by whether it is runnable and whether a core has it
-pub off_by : (g : ℕ) (pool : Pool) (u : UnitId) → OnePlace g pool → is_off pool u ≡ not (is_runnable g pool u || is_held_among pool.resources u)
-off_by g pool u one = by_both (is_runnable g pool u) (is_held_among pool.resources u) refl refl
+pub off_by : (g : ℕ) (pool : Pool) (u : UnitId) → OnePlace g pool → is_unit_off pool u ≡ not (may_unit_run g pool u || is_held_among pool.resources u)
+off_by g pool u one = by_both (may_unit_run g pool u) (is_held_among pool.resources u) refl refl
   where
-    by_both : (runs held : Bool) → is_runnable g pool u ≡ runs → is_held_among pool.resources u ≡ held → is_off pool u ≡ not (runs || held)
-    by_both true held is has = by_off (is_off pool u) refl
+    by_both : (runs held : Bool) → may_unit_run g pool u ≡ runs → is_held_among pool.resources u ≡ held → is_unit_off pool u ≡ not (runs || held)
+    by_both true held is has = by_off (is_unit_off pool u) refl
       where
-        by_off : (b : Bool) → is_off pool u ≡ b → is_off pool u ≡ false
+        by_off : (b : Bool) → is_unit_off pool u ≡ b → is_unit_off pool u ≡ false
         by_off false e = e
         by_off true e = absurd (
             let none = off_is pool u e in
             elim (one.runs u is) [ inl some ↦ omega (arith, none, some) | inr nobody ↦ nobody ])
-    by_both false true is has = let e : (not (has_unit pool.scheduler.queue u) && not true) ≡ false = and-false (not (has_unit pool.scheduler.queue u)) in ap (λ (b : Bool). not (has_unit pool.scheduler.queue u) && not b) has ∙ e
+    by_both false true is has = let e : (not (has_listed_unit pool.scheduler.queue u) && not true) ≡ false = and-false (not (has_listed_unit pool.scheduler.queue u)) in ap (λ (b : Bool). not (has_listed_unit pool.scheduler.queue u) && not b) has ∙ e
     by_both false false is has = ap (λ (b : Bool). not b && not (is_held_among pool.resources u)) (idle_waits_not g pool u one is) ∙ ap (λ (b : Bool). not false && not b) has
 
 -- the core that saves a unit

@@ -8,7 +8,7 @@ use Rattle.sched_base.specs.declared.DomId.{DomId}
 use Rattle.sched_base.specs.declared.Moment.{Moment}
 use Rattle.sched_base.specs.declared.ProcId.{ProcId}
 use Rattle.sched_base.specs.declared.VcpuId.{VcpuId}
-use Rattle.sched_base.specs.Numbers.{domain, core, processor, has_come}
+use Rattle.sched_base.specs.Numbers.{domain, core, processor, has_moment_come}
 use Rattle.sched_model.specs.declared.action.Action.{Action}
 use Rattle.sched_model.specs.declared.action.Action.TheVariants.{Wake, Block, Slice, Arrive, Decide, Leave, Save}
 use Rattle.sched_model.specs.declared.action.Actor.{Actor}
@@ -17,7 +17,7 @@ use Rattle.sched_model.specs.declared.state.Domain.{Domain}
 use Rattle.sched_model.specs.declared.state.Pool.{Pool}
 use Rattle.sched_model.specs.declared.state.Vcpu.{Vcpu}
 use Rattle.sched_model.specs.Places.{first_place}
-use Rattle.sched_model.specs.Pool.{done_at, enabled_in, vcpu_of, vcpu_among}
+use Rattle.sched_model.specs.Pool.{done_moment, enabled_in, pool_vcpu, vcpu_among}
 use Rattle.sched_base.proofs.Bools.{clash}
 use Rattle.pool_laws.proofs.Readiness.{ready}
 use Rattle.unit_state.specs.Guests.{KeepsGuests}
@@ -42,12 +42,12 @@ and_stop false b is = refl
 
 -- whether the work of the vCPU is done, if there is one
 abbrev pub done_test : ℕ → Pool → Option VcpuId → Bool
-done_test t pool o = elim o [ None ↦ false | Some v ↦ elim (vcpu_of pool v) [ None ↦ false | Some x ↦ has_come t (done_at x) ] ]
+done_test t pool o = elim o [ None ↦ false | Some v ↦ elim (pool_vcpu pool v) [ None ↦ false | Some x ↦ has_moment_come t (done_moment x) ] ]
 
-pub done_is : (t : ℕ) (domains : List (Option Domain)) (v : VcpuId) → has_come t (done_among domains v) ≡ (elim (vcpu_among domains v) [ None ↦ false | Some x ↦ has_come t (done_at x) ])
+pub done_is : (t : ℕ) (domains : List (Option Domain)) (v : VcpuId) → has_moment_come t (done_among domains v) ≡ (elim (vcpu_among domains v) [ None ↦ false | Some x ↦ has_moment_come t (done_moment x) ])
 done_is t domains v = by (vcpu_among domains v)
   where
-    by : (o : Option Vcpu) → has_come t (elim o as (λ _. Option Moment) [ None ↦ None | Some x ↦ done_at x ]) ≡ (elim o as (λ _. Bool) [ None ↦ false | Some x ↦ has_come t (done_at x) ])
+    by : (o : Option Vcpu) → has_moment_come t (elim o as (λ _. Option Moment) [ None ↦ None | Some x ↦ done_moment x ]) ≡ (elim o as (λ _. Bool) [ None ↦ false | Some x ↦ has_moment_come t (done_moment x) ])
     by None = refl
     by (Some x) = refl
 
@@ -211,7 +211,7 @@ wakes_alone d a from own = absurd (cc)
 due_below : (t : ℕ) (guests : GuestsSeen) (v : VcpuId) → KeepsGuests guests → is_due_among t guests.domains v ≡ true → v.n < 32
 due_below t guests v keeps due = by (vcpu_among guests.domains v) refl due
   where
-    by : (o : Option Vcpu) → vcpu_among guests.domains v ≡ o → has_come t (elim o as (λ _. Option Moment) [ None ↦ None | Some x ↦ x.asleep_until ]) ≡ true → v.n < 32
+    by : (o : Option Vcpu) → vcpu_among guests.domains v ≡ o → has_moment_come t (elim o as (λ _. Option Moment) [ None ↦ None | Some x ↦ x.asleep_until ]) ≡ true → v.n < 32
     by None is come = absurd (cc)
     by (Some x) is come = (vcpu_bounds guests v x keeps is).1
 

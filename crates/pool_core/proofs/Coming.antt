@@ -14,12 +14,12 @@ use Rattle.sched_model.specs.declared.state.Pool.{Pool}
 use Rattle.sched_model.specs.declared.state.Processor.{Processor}
 use Rattle.sched_model.specs.declared.state.Resource.{Resource}
 use Rattle.sched_model.specs.CheckedMachine.{most_span}
-use Rattle.sched_model.specs.Opening.{fresh_core}
+use Rattle.sched_model.specs.Opening.{joined_core}
 use Rattle.sched_model.specs.Places.{at_place, clear_at, put_at}
-use Rattle.sched_model.specs.Pool.{unit_count}
+use Rattle.sched_model.specs.Pool.{domain_unit_count}
 use Rattle.sched_laws.proofs.EachPlace.{at_place-clear_at, at_place-clear_at_other, at_place-put_at, at_place-put_at_other, at_place-replicate}
 use Rattle.pool_records.specs.Cores.{fresh_processor}
-use Rattle.core_state.specs.Seen.{Seen as CoresSeen, processor_among, stalled_to, vacant_cores as vacant_cores, without_works}
+use Rattle.core_state.specs.Seen.{Seen as CoresSeen, processor_among, stalled_to, vacant_cores, cleared_works}
 use Rattle.core_state.proofs.ChangeLemmas.{without_works-other, without_works-own}
 use Rattle.policy_laws.specs.Holds.{Holds}
 use Rattle.policy_laws.proofs.Kept.{opened}
@@ -61,22 +61,22 @@ in_core g r q other = elim (cases_lt q (r * g)) [
 ]
 
 -- the moments at which the works are done after a core came
-pub works_come : (g r : ℕ) (ends : List Moment) (works : List (Option Moment)) (pool : Pool) → 0 < g → r < length pool.resources → AreWorks g works pool → AreWorks g (without_works (r * g) g works) (with_core r ends pool)
+pub works_come : (g r : ℕ) (ends : List Moment) (works : List (Option Moment)) (pool : Pool) → 0 < g → r < length pool.resources → AreWorks g works pool → AreWorks g (cleared_works (r * g) g works) (with_core r ends pool)
 works_come g r ends works pool some inside are q = elim (ℕ_discrete (q / g) r) [
   | yes core ↦
       let e : q / g * g + q % g ≡ q = div-add-mod' q g in
       let low : q % g < g = mod_below q g some in
       let place : r * g + q % g ≡ q = ap (λ (k : ℕ). k * g + q % g) (sym core) ∙ e in
-      let at : at_place (put_at r (fresh_core ends) pool.resources) (q / g) ≡ Some (fresh_core ends) = subst (λ (k : ℕ). at_place (put_at r (fresh_core ends) pool.resources) k ≡ Some (fresh_core ends)) (sym core) (at_place-put_at r (fresh_core ends) pool.resources inside) in
+      let at : at_place (put_at r (joined_core ends) pool.resources) (q / g) ≡ Some (joined_core ends) = subst (λ (k : ℕ). at_place (put_at r (joined_core ends) pool.resources) k ≡ Some (joined_core ends)) (sym core) (at_place-put_at r (joined_core ends) pool.resources inside) in
       let runs : guest_among g (with_core r ends pool).resources q ≡ None = ap (λ (o : Option Resource). run_by (elim o as (λ _. Option Processor) [ None ↦ None | Some c ↦ slice_get c.processors (q % g) ])) at ∙ fresh_runs_none ends (q % g) in
       without_works-own (r * g) g q works (omega (arith, place)) (omega (arith, place, low)) ∙ sym (ap (done_by pool.domains) runs)
   | no other ↦
       without_works-other (r * g) g q works (in_core g r q other) ∙ are q
-      ∙ sym (ap (λ (o : Option Resource). done_by pool.domains (run_by (elim o as (λ _. Option Processor) [ None ↦ None | Some c ↦ slice_get c.processors (q % g) ]))) (at_place-put_at_other r (q / g) (fresh_core ends) pool.resources other))
+      ∙ sym (ap (λ (o : Option Resource). done_by pool.domains (run_by (elim o as (λ _. Option Processor) [ None ↦ None | Some c ↦ slice_get c.processors (q % g) ]))) (at_place-put_at_other r (q / g) (joined_core ends) pool.resources other))
 ]
 
 -- after a core went
-pub works_go : (g r : ℕ) (works : List (Option Moment)) (pool : Pool) → 0 < g → AreWorks g works pool → AreWorks g (without_works (r * g) g works) (without_core r pool)
+pub works_go : (g r : ℕ) (works : List (Option Moment)) (pool : Pool) → 0 < g → AreWorks g works pool → AreWorks g (cleared_works (r * g) g works) (without_core r pool)
 works_go g r works pool some are q = elim (ℕ_discrete (q / g) r) [
   | yes core ↦
       let e : q / g * g + q % g ≡ q = div-add-mod' q g in
@@ -149,7 +149,7 @@ open_kept t params guests cores s s2 keeps empty is =
 
 -- no domain has joined the scheduler of a pool without domains
 pub is_vacant_if : (t : ℕ) (guests : GuestsSeen) (cores : CoresSeen) (s : SchedulerSeen) → IsKept t guests cores s → IsEmpty (pool_of guests cores s) → is_vacant s.scheduler ≡ true
-is_vacant_if t guests cores s keeps empty = ap not (nothing_there s.scheduler.affinity (λ d. by_units (at_place s.scheduler.affinity d) (keeps.pool.members.units d ∙ ap (option_map (unit_count guests.granularity)) (empty.domains d))))
+is_vacant_if t guests cores s keeps empty = ap not (nothing_there s.scheduler.affinity (λ d. by_units (at_place s.scheduler.affinity d) (keeps.pool.members.units d ∙ ap (option_map (domain_unit_count guests.granularity)) (empty.domains d))))
   where
     by_units : (o : Option (List Cores)) → option_map length o ≡ None → o ≡ None
     by_units None e = refl

@@ -13,9 +13,9 @@ use Rattle.sched_model.specs.declared.action.Action.TheVariants.{DomMoved}
 use Rattle.sched_model.specs.declared.state.Domain.{Domain}
 use Rattle.sched_model.specs.declared.state.Pool.{Pool}
 use Rattle.sched_model.specs.declared.state.Vcpu.{Vcpu}
-use Rattle.sched_model.specs.Places.{at_place, has_unit, test_at}
-use Rattle.sched_model.specs.Pool.{enabled_in, is_of_domain, is_off, unit_count, unit_of, vcpu_of}
-use Rattle.sched_model.specs.State.{is_awake, is_runnable, unit_runnable, vcpus_of_unit}
+use Rattle.sched_model.specs.Places.{at_place, has_listed_unit, test_at}
+use Rattle.sched_model.specs.Pool.{enabled_in, is_domain_unit, is_unit_off, domain_unit_count, vcpu_unit, pool_vcpu}
+use Rattle.sched_model.specs.State.{is_awake, may_unit_run, unit_runnable, vcpus_of_unit}
 use Rattle.sched_base.proofs.Bools.{and_left, or_left}
 use Rattle.sched_laws.proofs.Counts.{times_has, times_some, total_at}
 use Rattle.sched_laws.specs.Counts.{one_at}
@@ -24,7 +24,7 @@ use Rattle.sched_laws.proofs.OnePlace.{off_is, one_same}
 use Rattle.sched_laws.specs.PoolFacts.{OnePlace, core_places}
 use Rattle.sched_laws.proofs.OwnUnits.{moving_not_staying}
 use Rattle.sched_laws.specs.PoolFacts.{IsStaying}
-use Rattle.sched_ops.specs.Conditions.{HasNoneBusy, has_joined, is_on}
+use Rattle.sched_ops.specs.Conditions.{HasNoneBusy, has_joined_domain, is_on}
 use Rattle.sched_ops.specs.Seen.{units_of}
 use Rattle.unit_state.specs.Parts.{IsStill}
 use Rattle.unit_state.specs.Seen.{is_paused_among, units_at}
@@ -38,9 +38,9 @@ use Rattle.pool_core.proofs.Asking.{guest_at}
 use Rattle.pool_core.proofs.Withdrawing.{units_known, waits_by}
 
 -- a unit that has no place is not on
-nowhere_off : (g : ℕ) (pool : Pool) (u : UnitId) → AreOn pool → has_unit pool.scheduler.queue u ≡ false → is_held_among pool.resources u ≡ false → is_on pool.scheduler.records u ≡ false
+nowhere_off : (g : ℕ) (pool : Pool) (u : UnitId) → AreOn pool → has_listed_unit pool.scheduler.queue u ≡ false → is_held_among pool.resources u ≡ false → is_on pool.scheduler.records u ≡ false
 nowhere_off g pool u on waits_not none = false_from_ne_true (is_on pool.scheduler.records u) (λ is.
-    let off : is_off pool u ≡ true = and_from (not (has_unit pool.scheduler.queue u)) (not (is_held_among pool.resources u)) (ap not waits_not) (ap not none) in
+    let off : is_unit_off pool u ≡ true = and_from (not (has_listed_unit pool.scheduler.queue u)) (not (is_held_among pool.resources u)) (ap not waits_not) (ap not none) in
     let found = found_core pool u (on.off u is) in
     let here : one_at u found.1.cur ≡ 1 = ap (one_at u) found.3 ∙ one_same u in
     let some = total_at (core_places u) found.0 found.1 pool.resources found.2 in
@@ -49,7 +49,7 @@ nowhere_off g pool u on waits_not none = false_from_ne_true (is_on pool.schedule
 
 module _ (g d : ℕ) (pool : Pool) where
   -- no unit of a paused domain is runnable
-  paused_idle : (n : ℕ) → is_paused_among pool.domains d ≡ true → is_runnable g pool (unit_id d n) ≡ false
+  paused_idle : (n : ℕ) → is_paused_among pool.domains d ≡ true → may_unit_run g pool (unit_id d n) ≡ false
   paused_idle n paused = by_domain (at_place pool.domains d) paused
     where
       by_domain : (o : Option Domain) → elim o as (λ _. Bool) [ None ↦ false | Some x ↦ x.paused ] ≡ true → elim o as (λ _. Bool) [ None ↦ false | Some x ↦ unit_runnable g x n ] ≡ false
@@ -59,7 +59,7 @@ module _ (g d : ℕ) (pool : Pool) where
   -- the units of a paused domain may come to wait
   pub paused_may : OnePlace g pool → HasMembers g pool → AreOn pool → is_paused_among pool.domains d ≡ true → (n : ℕ) → n < units_at g (at_place pool.domains d) → MayQueue pool (unit_id d n)
   paused_may one has on paused n below =
-      let waits_not : has_unit pool.scheduler.queue (unit_id d n) ≡ false = waits_by g pool (unit_id d n) one ∙ ap (λ (b : Bool). b && not (is_held_among pool.resources (unit_id d n))) (paused_idle n paused) in
+      let waits_not : has_listed_unit pool.scheduler.queue (unit_id d n) ≡ false = waits_by g pool (unit_id d n) one ∙ ap (λ (b : Bool). b && not (is_held_among pool.resources (unit_id d n))) (paused_idle n paused) in
       record {
         member = lt-ltb n (units_of pool.scheduler d) (subst (λ (k : ℕ). n < k) (sym (units_known g d pool has)) below);
         waits_not = waits_not;
@@ -76,18 +76,18 @@ module _ (g t d : ℕ) (pool : Pool) (holds : Holds g t pool) (enabled : enabled
   goer_here = is_some_at (at_place pool.domains d) goer.0 goer.1
 
   -- its scheduler knows it
-  pub goer_joined : has_joined pool.scheduler d ≡ true
-  goer_joined = by_sets (at_place pool.scheduler.affinity d) (holds.members.units d ∙ ap (option_map (unit_count g)) goer.1)
+  pub goer_joined : has_joined_domain pool.scheduler d ≡ true
+  goer_joined = by_sets (at_place pool.scheduler.affinity d) (holds.members.units d ∙ ap (option_map (domain_unit_count g)) goer.1)
     where
-      by_sets : (o : Option (List Cores)) → option_map length o ≡ Some (unit_count g goer.0) → is_some o ≡ true
+      by_sets : (o : Option (List Cores)) → option_map length o ≡ Some (domain_unit_count g goer.0) → is_some o ≡ true
       by_sets None e = absurd (cc)
       by_sets (Some sets) e = refl
 
   -- none of its units waits, and none is on
   pub goer_idle : HasNoneBusy pool.scheduler d
-  goer_idle = record { waiting = λ u of. waits_not u of (has_unit pool.scheduler.queue u) refl; on = λ u of. off u of (is_on pool.scheduler.records u) refl }
+  goer_idle = record { waiting = λ u of. waits_not u of (has_listed_unit pool.scheduler.queue u) refl; on = λ u of. off u of (is_on pool.scheduler.records u) refl }
     where
-      waits_not : (u : UnitId) → u.dom.0 ≡ d → (b : Bool) → has_unit pool.scheduler.queue u ≡ b → b ≡ false
+      waits_not : (u : UnitId) → u.dom.0 ≡ d → (b : Bool) → has_listed_unit pool.scheduler.queue u ≡ b → b ≡ false
       waits_not u of false is = refl
       waits_not u of true is = absurd (
           let staying = times_has (IsStaying pool.domains) u pool.scheduler.queue holds.known.own.queue (times_some u pool.scheduler.queue is) in
@@ -97,7 +97,7 @@ module _ (g t d : ℕ) (pool : Pool) (holds : Holds g t pool) (enabled : enabled
       off u of false is = refl
       off u of true is = absurd (
           let found = found_core pool u (holds.on.off u is) in
-          other_domain d found.1.cur u (or_left (is_of_domain d found.1.cur) (is_of_domain d found.1.saving) (none_of_domain g t d pool enabled found.0 found.1 found.2)) found.3 of)
+          other_domain d found.1.cur u (or_left (is_domain_unit d found.1.cur) (is_domain_unit d found.1.saving) (none_of_domain g t d pool enabled found.0 found.1 found.2)) found.3 of)
 
   -- none of its vCPUs is started
   pub goer_still : ForSome (at_place pool.domains d) IsStill
@@ -107,7 +107,7 @@ module _ (g t d : ℕ) (pool : Pool) (holds : Holds g t pool) (enabled : enabled
       by_start None is = refl
       by_start (Some from) is = absurd (
           let id : VcpuId = record { dom = domain_number d; n = n } in
-          let stands : vcpu_of pool id ≡ Some v = ap (λ (o : Option Domain). elim o as (λ _. Option Vcpu) [ None ↦ None | Some y ↦ slice_get y.vcpus n ]) at ∙ there in
+          let stands : pool_vcpu pool id ≡ Some v = ap (λ (o : Option Domain). elim o as (λ _. Option Vcpu) [ None ↦ None | Some y ↦ slice_get y.vcpus n ]) at ∙ there in
           let run = holds.started id v from stands is in
           let found = guest_at g pool run.0 id holds.known run.1 in
-          other_domain d found.0.cur (unit_of g id) (or_left (is_of_domain d found.0.cur) (is_of_domain d found.0.saving) (none_of_domain g t d pool enabled (run.0 / g) found.0 found.1)) found.2 refl)
+          other_domain d found.0.cur (vcpu_unit g id) (or_left (is_domain_unit d found.0.cur) (is_domain_unit d found.0.saving) (none_of_domain g t d pool enabled (run.0 / g) found.0 found.1)) found.2 refl)

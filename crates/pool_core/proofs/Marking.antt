@@ -6,9 +6,9 @@ use Rattle.due_heap.specs.Words.{ChangesId, IsLowest}
 use Rattle.sched_model.specs.declared.state.Resource.{Resource}
 use Rattle.sched_model.specs.declared.state.Scheduler.{Scheduler}
 use Rattle.sched_model.specs.Places.{at_place, change_at, change_each}
-use Rattle.sched_model.specs.Pool.{reconsidered_core, set_pending}
-use Rattle.sched_model.specs.State.{has_core}
-use Rattle.sched_ops.specs.WantedCores.{is_wanted}
+use Rattle.sched_model.specs.Pool.{reconsidered_core, pending_core}
+use Rattle.sched_model.specs.State.{has_core_bit}
+use Rattle.sched_ops.specs.WantedCores.{is_core_wanted}
 use Rattle.pool_core.specs.CoreLooks.{pending_where}
 use Rattle.pool_core.proofs.Settled.{unwanted, wanted}
 
@@ -53,65 +53,65 @@ one_place {X} (suc r) k g f h (o ∷ places) mine others =
 
 -- the core is pending where the set has its number and what is left of the set has not
 abbrev pub marked : ℕ → ℕ → ℕ → Resource → Resource
-marked set rest r c = (if has_core set r && not (has_core rest r) then set_pending c else c)
+marked set rest r c = (if has_core_bit set r && not (has_core_bit rest r) then pending_core c else c)
 
 -- before the first
 pub none_marked : (set : ℕ) (cores : List (Option Resource)) → cores ≡ change_each 0 (marked set set) cores
-none_marked set cores = sym (same_each 0 (marked set set) (λ n c. c) cores (λ i c at. by_bit c (has_core set (0 + i))) ∙ no_change 0 cores)
+none_marked set cores = sym (same_each 0 (marked set set) (λ n c. c) cores (λ i c at. by_bit c (has_core_bit set (0 + i))) ∙ no_change 0 cores)
   where
-    by_bit : (c : Resource) (b : Bool) → (if b && not b then set_pending c else c) ≡ c
+    by_bit : (c : Resource) (b : Bool) → (if b && not b then pending_core c else c) ≡ c
     by_bit c true = refl
     by_bit c false = refl
 
 -- the least of what is left
-pub least_marked : (set rest next r : ℕ) (cores : List (Option Resource)) → IsLowest rest r → ChangesId r false rest next → ((i : ℕ) → has_core rest i ≡ true → has_core set i ≡ true)
-    → change_at r set_pending (change_each 0 (marked set rest) cores) ≡ change_each 0 (marked set next) cores
-least_marked set rest next r cores low change within = one_place r 0 set_pending (marked set rest) (marked set next) cores mine others
+pub least_marked : (set rest next r : ℕ) (cores : List (Option Resource)) → IsLowest rest r → ChangesId r false rest next → ((i : ℕ) → has_core_bit rest i ≡ true → has_core_bit set i ≡ true)
+    → change_at r pending_core (change_each 0 (marked set rest) cores) ≡ change_each 0 (marked set next) cores
+least_marked set rest next r cores low change within = one_place r 0 pending_core (marked set rest) (marked set next) cores mine others
   where
-    mine : (c : Resource) → set_pending (marked set rest (0 + r) c) ≡ marked set next (0 + r) c
+    mine : (c : Resource) → pending_core (marked set rest (0 + r) c) ≡ marked set next (0 + r) c
     mine c =
         let e : 0 + r ≡ r = omega arith in
-        ap (λ (n : ℕ). set_pending (marked set rest n c)) e
-        ∙ ap (λ (b : Bool). set_pending (if b && not (has_core rest r) then set_pending c else c)) (within r low.has)
-        ∙ ap (λ (b : Bool). set_pending (if not b then set_pending c else c)) low.has
-        ∙ sym (ap (λ (n : ℕ). marked set next n c) e ∙ ap (λ (b : Bool). if b && not (has_core next r) then set_pending c else c) (within r low.has) ∙ ap (λ (b : Bool). if not b then set_pending c else c) change.here)
+        ap (λ (n : ℕ). pending_core (marked set rest n c)) e
+        ∙ ap (λ (b : Bool). pending_core (if b && not (has_core_bit rest r) then pending_core c else c)) (within r low.has)
+        ∙ ap (λ (b : Bool). pending_core (if not b then pending_core c else c)) low.has
+        ∙ sym (ap (λ (n : ℕ). marked set next n c) e ∙ ap (λ (b : Bool). if b && not (has_core_bit next r) then pending_core c else c) (within r low.has) ∙ ap (λ (b : Bool). if not b then pending_core c else c) change.here)
 
     others : (i : ℕ) (c : Resource) → i ≢ r → marked set rest (0 + i) c ≡ marked set next (0 + i) c
     others i c other =
         let e : 0 + i ≡ i = omega arith in
         ap (λ (n : ℕ). marked set rest n c) e
-        ∙ ap (λ (b : Bool). if has_core set i && not b then set_pending c else c) (sym (change.others i other))
+        ∙ ap (λ (b : Bool). if has_core_bit set i && not b then pending_core c else c) (sym (change.others i other))
         ∙ sym (ap (λ (n : ℕ). marked set next n c) e)
 
 -- what is left stays within the set
-pub still_within : (set rest next r : ℕ) → ChangesId r false rest next → ((i : ℕ) → has_core rest i ≡ true → has_core set i ≡ true) → (i : ℕ) → has_core next i ≡ true → has_core set i ≡ true
+pub still_within : (set rest next r : ℕ) → ChangesId r false rest next → ((i : ℕ) → has_core_bit rest i ≡ true → has_core_bit set i ≡ true) → (i : ℕ) → has_core_bit next i ≡ true → has_core_bit set i ≡ true
 still_within set rest next r change within i there = elim (cases_eq i r) [
   | inl same ↦
-      let clash : false ≡ true = sym change.here ∙ ap (has_core next) (sym same) ∙ there in
+      let clash : false ≡ true = sym change.here ∙ ap (has_core_bit next) (sym same) ∙ there in
       absurd (cc)
   | inr other ↦ within i (sym (change.others i other) ∙ there)
 ]
 
 -- after the last
-pub all_marked : (set rest : ℕ) (cores : List (Option Resource)) → ((i : ℕ) → has_core rest i ≡ false) → change_each 0 (marked set rest) cores ≡ change_each 0 (pending_where set) cores
-all_marked set rest cores none = same_each 0 (marked set rest) (pending_where set) cores (λ i c at. by_bit c (has_core set (0 + i)) (has_core rest (0 + i)) (none (0 + i)))
+pub all_marked : (set rest : ℕ) (cores : List (Option Resource)) → ((i : ℕ) → has_core_bit rest i ≡ false) → change_each 0 (marked set rest) cores ≡ change_each 0 (pending_where set) cores
+all_marked set rest cores none = same_each 0 (marked set rest) (pending_where set) cores (λ i c at. by_bit c (has_core_bit set (0 + i)) (has_core_bit rest (0 + i)) (none (0 + i)))
   where
-    by_bit : (c : Resource) (a b : Bool) → b ≡ false → (if a && not b then set_pending c else c) ≡ (if a then set_pending c else c)
+    by_bit : (c : Resource) (a b : Bool) → b ≡ false → (if a && not b then pending_core c else c) ≡ (if a then pending_core c else c)
     by_bit c true true is = absurd (cc)
     by_bit c true false is = refl
     by_bit c false b is = refl
 
 -- where the set is that of the cores that the scheduler wants, each is looked at
-pub wanted_marked : (t home : ℕ) (scheduler : Scheduler) (set : ℕ) (cores : List (Option Resource)) → ((r : ℕ) → has_core set r ≡ is_wanted t home scheduler r (at_place cores r))
+pub wanted_marked : (t home : ℕ) (scheduler : Scheduler) (set : ℕ) (cores : List (Option Resource)) → ((r : ℕ) → has_core_bit set r ≡ is_core_wanted t home scheduler r (at_place cores r))
     → change_each 0 (pending_where set) cores ≡ change_each 0 (reconsidered_core t home scheduler) cores
 wanted_marked t home scheduler set cores is = same_each 0 (pending_where set) (reconsidered_core t home scheduler) cores look
   where
     look : (i : ℕ) (c : Resource) → at_place cores i ≡ Some c → pending_where set (0 + i) c ≡ reconsidered_core t home scheduler (0 + i) c
     look i c at =
         let e : i ≡ 0 + i = omega arith in
-        let asked : has_core set i ≡ is_wanted t home scheduler i (Some c) = is i ∙ ap (is_wanted t home scheduler i) at in
-        subst (λ (n : ℕ). pending_where set n c ≡ reconsidered_core t home scheduler n c) e (by_answer (is_wanted t home scheduler i (Some c)) refl asked)
+        let asked : has_core_bit set i ≡ is_core_wanted t home scheduler i (Some c) = is i ∙ ap (is_core_wanted t home scheduler i) at in
+        subst (λ (n : ℕ). pending_where set n c ≡ reconsidered_core t home scheduler n c) e (by_answer (is_core_wanted t home scheduler i (Some c)) refl asked)
       where
-        by_answer : (b : Bool) → is_wanted t home scheduler i (Some c) ≡ b → has_core set i ≡ is_wanted t home scheduler i (Some c) → pending_where set i c ≡ reconsidered_core t home scheduler i c
-        by_answer true so asked = ap (λ (b : Bool). if b then set_pending c else c) (asked ∙ so) ∙ wanted t home scheduler i c so
-        by_answer false not_so asked = ap (λ (b : Bool). if b then set_pending c else c) (asked ∙ not_so) ∙ unwanted t home scheduler i c not_so
+        by_answer : (b : Bool) → is_core_wanted t home scheduler i (Some c) ≡ b → has_core_bit set i ≡ is_core_wanted t home scheduler i (Some c) → pending_where set i c ≡ reconsidered_core t home scheduler i c
+        by_answer true so asked = ap (λ (b : Bool). if b then pending_core c else c) (asked ∙ so) ∙ wanted t home scheduler i c so
+        by_answer false not_so asked = ap (λ (b : Bool). if b then pending_core c else c) (asked ∙ not_so) ∙ unwanted t home scheduler i c not_so

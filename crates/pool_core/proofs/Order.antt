@@ -4,7 +4,7 @@ use Rattle.std.specs.Prelude.{Option, Some, None, option_map, ◌==◌, ◌&&◌
 use Rattle.std.proofs.Math.Decide.{ℕ_discrete}
 use Rattle.std.proofs.lemmas.Bool.{cases_lt, false_from_ne_true, and_from}
 use Rattle.std.proofs.lemmas.Bool.Decides.{nat_tests}
-use Rattle.sched_base.specs.Numbers.{domain, moment, core as core_number, processor, has_come}
+use Rattle.sched_base.specs.Numbers.{domain, moment, core as core_number, processor, has_moment_come}
 use Rattle.sched_base.specs.declared.Moment.{Moment}
 use Rattle.sched_base.specs.declared.UnitId.{UnitId}
 use Rattle.sched_base.specs.declared.VcpuId.{VcpuId}
@@ -15,18 +15,18 @@ use Rattle.sched_model.specs.declared.state.Records.{Records}
 use Rattle.sched_model.specs.declared.state.Records.TheVariants.{Credit2Pool, RtdsPool, ArincPool, NullPool}
 use Rattle.sched_model.specs.declared.state.RtdsUnit.{RtdsUnit}
 use Rattle.sched_model.specs.declared.state.Scheduler.{Scheduler}
-use Rattle.sched_model.specs.Places.{has_unit}
-use Rattle.sched_model.specs.Policy.{next_refill, rtds_record}
-use Rattle.sched_model.specs.Pool.{core_of, enabled_in}
+use Rattle.sched_model.specs.Places.{has_listed_unit}
+use Rattle.sched_model.specs.Policy.{next_refill_moment, unit_rtds_record}
+use Rattle.sched_model.specs.Pool.{unit_core, enabled_in}
 use Rattle.sched_base.proofs.Bools.{and_left, clash}
 use Rattle.sched_model.specs.Actions.{IsOfPool}
-use Rattle.pool_laws.specs.ReadyMoments.{deadline_of, end_of, later_moment, lowest_end, ready_in, moment_if, work_end}
+use Rattle.pool_laws.specs.ReadyMoments.{deadline_of, end_of, later_of, lowest_stall_end, ready_in, guarded_moment, work_end}
 use Rattle.pool_laws.proofs.Readiness.{ready, come_later}
 use Rattle.policy_laws.specs.Holds.{AreOn}
 use Rattle.policy_laws.proofs.Alike.{found_core}
-use Rattle.sched_ops.specs.Conditions.{is_on, may_be_on}
+use Rattle.sched_ops.specs.Conditions.{is_on, may_unit_be_on}
 use Rattle.sched_ops.specs.Seen.{Seen as SchedulerSeen}
-use Rattle.sched_ops.specs.Timers.{Armed, action_of, timer_at}
+use Rattle.sched_ops.specs.Timers.{Armed, timer_action, next_scheduler_timer}
 use Rattle.sched_ops.specs.declared.timer.Timer.{Timer}
 use Rattle.sched_ops.specs.declared.timer.Timer.TheVariants as timer
 use Rattle.policy_laws.specs.TimerOrder.{armed_at, IsNotAfter as IsTimerNotAfter}
@@ -62,16 +62,16 @@ is_of_pool (DomMoved d) from = absurd (omega (arith, from))
 is_of_pool a from = tt
 
 -- whether a replenishment or a refill is armed, by the records
-armed_none : (t : ℕ) (b : Bool) → has_come t (if b then None else None) ≡ false
+armed_none : (t : ℕ) (b : Bool) → has_moment_come t (if b then None else None) ≡ false
 armed_none t true = refl
 armed_none t false = refl
 
 -- a scheduler has replenishments or refills, and never both
-never_both : (t : ℕ) (s : Scheduler) (u : UnitId) (d : ℕ) → has_come t (armed_at s (timer.Repl u)) ≡ true → has_come t (armed_at s (timer.Refill (domain d))) ≡ true → ⊥
+never_both : (t : ℕ) (s : Scheduler) (u : UnitId) (d : ℕ) → has_moment_come t (armed_at s (timer.Repl u)) ≡ true → has_moment_come t (armed_at s (timer.Refill (domain d))) ≡ true → ⊥
 never_both t s u d = by s.records
   where
-    by : (records : Records) → has_come t (if has_unit s.queue u || is_on records u then (elim (rtds_record records u) as (λ _. Option Moment) [ None ↦ None | Some x ↦ Some (moment x.deadline) ]) else None) ≡ true → has_come t (next_refill records d) ≡ true → ⊥
-    by (Credit2Pool records) one other = clash _ one (armed_none t (has_unit s.queue u || is_on (Credit2Pool records) u))
+    by : (records : Records) → has_moment_come t (if has_listed_unit s.queue u || is_on records u then (elim (unit_rtds_record records u) as (λ _. Option Moment) [ None ↦ None | Some x ↦ Some (moment x.deadline) ]) else None) ≡ true → has_moment_come t (next_refill_moment records d) ≡ true → ⊥
+    by (Credit2Pool records) one other = clash _ one (armed_none t (has_listed_unit s.queue u || is_on (Credit2Pool records) u))
     by (RtdsPool domains) one other = absurd (cc)
     by (ArincPool records) one other = absurd (cc)
     by (NullPool kept) one other = absurd (cc)
@@ -83,34 +83,34 @@ if_none false true = refl
 if_none false false = refl
 
 -- where the records tell, a unit is on exactly where a core has it
-on_core : (pool : Pool) (domains : List (Option (List RtdsUnit))) (u : UnitId) → AreOn pool → pool.scheduler.records ≡ RtdsPool domains → is_on (RtdsPool domains) u ≡ is_some (core_of pool u)
-on_core pool domains u on is = by (is_on (RtdsPool domains) u) (is_some (core_of pool u)) refl refl
+on_core : (pool : Pool) (domains : List (Option (List RtdsUnit))) (u : UnitId) → AreOn pool → pool.scheduler.records ≡ RtdsPool domains → is_on (RtdsPool domains) u ≡ is_some (unit_core pool u)
+on_core pool domains u on is = by (is_on (RtdsPool domains) u) (is_some (unit_core pool u)) refl refl
   where
-    by : (a b : Bool) → is_on (RtdsPool domains) u ≡ a → is_some (core_of pool u) ≡ b → a ≡ b
+    by : (a b : Bool) → is_on (RtdsPool domains) u ≡ a → is_some (unit_core pool u) ≡ b → a ≡ b
     by true true told found = refl
     by false false told found = refl
     by true false told found = absurd (clash _ (on.off u (ap (λ (rs : Records). is_on rs u) is ∙ told)) found)
     by false true told found =
         let core = found_core pool u found in
-        absurd (clash _ (sym (ap (λ (rs : Records). may_be_on rs u) is) ∙ on.own core.0 core.1 core.2 u core.3) told)
+        absurd (clash _ (sym (ap (λ (rs : Records). may_unit_be_on rs u) is) ∙ on.own core.0 core.1 core.2 u core.3) told)
 
 -- a replenishment is armed at the deadline of the unit
 pub deadline_is : (pool : Pool) (u : UnitId) → AreOn pool → armed_at pool.scheduler (timer.Repl u) ≡ deadline_of pool u
 deadline_is pool u on = by pool.scheduler.records refl
   where
     by : (records : Records) → pool.scheduler.records ≡ records
-        → (if has_unit pool.scheduler.queue u || is_on records u then (elim (rtds_record records u) as (λ _. Option Moment) [ None ↦ None | Some x ↦ Some (moment x.deadline) ]) else None)
-        ≡ moment_if (has_unit pool.scheduler.queue u || is_some (core_of pool u)) (elim (rtds_record records u) as (λ _. Option Moment) [ None ↦ None | Some x ↦ Some (moment x.deadline) ])
-    by (Credit2Pool records) is = if_none (has_unit pool.scheduler.queue u || is_on (Credit2Pool records) u) (has_unit pool.scheduler.queue u || is_some (core_of pool u))
+        → (if has_listed_unit pool.scheduler.queue u || is_on records u then (elim (unit_rtds_record records u) as (λ _. Option Moment) [ None ↦ None | Some x ↦ Some (moment x.deadline) ]) else None)
+        ≡ guarded_moment (has_listed_unit pool.scheduler.queue u || is_some (unit_core pool u)) (elim (unit_rtds_record records u) as (λ _. Option Moment) [ None ↦ None | Some x ↦ Some (moment x.deadline) ])
+    by (Credit2Pool records) is = if_none (has_listed_unit pool.scheduler.queue u || is_on (Credit2Pool records) u) (has_listed_unit pool.scheduler.queue u || is_some (unit_core pool u))
     by (RtdsPool domains) is =
-        ap (λ (b : Bool). moment_if (has_unit pool.scheduler.queue u || b) (elim (rtds_record (RtdsPool domains) u) as (λ _. Option Moment) [ None ↦ None | Some x ↦ Some (moment x.deadline) ]))
+        ap (λ (b : Bool). guarded_moment (has_listed_unit pool.scheduler.queue u || b) (elim (unit_rtds_record (RtdsPool domains) u) as (λ _. Option Moment) [ None ↦ None | Some x ↦ Some (moment x.deadline) ]))
         (on_core pool domains u on is)
-    by (ArincPool records) is = if_none (has_unit pool.scheduler.queue u || is_on (ArincPool records) u) (has_unit pool.scheduler.queue u || is_some (core_of pool u))
-    by (NullPool kept) is = if_none (has_unit pool.scheduler.queue u || is_on (NullPool kept) u) (has_unit pool.scheduler.queue u || is_some (core_of pool u))
+    by (ArincPool records) is = if_none (has_listed_unit pool.scheduler.queue u || is_on (ArincPool records) u) (has_listed_unit pool.scheduler.queue u || is_some (unit_core pool u))
+    by (NullPool kept) is = if_none (has_listed_unit pool.scheduler.queue u || is_on (NullPool kept) u) (has_listed_unit pool.scheduler.queue u || is_some (unit_core pool u))
 
 -- from when on the event of a timer may come
-pub timer_ready : (g : ℕ) (pool : Pool) → AreOn pool → (x : Timer) → ready_in g pool (action_of x) ≡ later_moment (armed_at pool.scheduler x) (lowest_end pool)
-timer_ready g pool on (timer.Repl u) = ap (λ (a : Option Moment). later_moment a (lowest_end pool)) (sym (deadline_is pool u on))
+pub timer_ready : (g : ℕ) (pool : Pool) → AreOn pool → (x : Timer) → ready_in g pool (timer_action x) ≡ later_of (armed_at pool.scheduler x) (lowest_stall_end pool)
+timer_ready g pool on (timer.Repl u) = ap (λ (a : Option Moment). later_of a (lowest_stall_end pool)) (sym (deadline_is pool u on))
 timer_ready g pool on (timer.Refill d) = refl
 
 module _ (test : Action → Bool) (g t : ℕ) (pool : Pool) where
@@ -167,7 +167,7 @@ module _ (g t : ℕ) (pool : Pool) where
   -- the first event of a kind whose subjects are numbers
   of_numbers : (k : ℕ) (make : ℕ → Action) (ends : ℕ → Option Moment) (o : Option ℕ)
       → ((i n : ℕ) → action_at k i n ≡ make i) → ((i : ℕ) → kind_place (make i) ≡ k) → ((i : ℕ) → subject_place (make i) ≡ i) → ((i : ℕ) → index_place (make i) ≡ 0)
-      → ((i : ℕ) → enabled_in g t pool (make i) ≡ has_come t (ends i)) → IsFirstCome ends t o → IsFirstIn k (suc k) g t pool (option_map make o)
+      → ((i : ℕ) → enabled_in g t pool (make i) ≡ has_moment_come t (ends i)) → IsFirstCome ends t o → IsFirstIn k (suc k) g t pool (option_map make o)
   of_numbers k make ends None made kind subject index may none = none_at is_any g t pool k (λ i n own. ap (enabled_in g t pool) (made i n) ∙ may i ∙ none i)
   of_numbers k make ends (Some i) made kind subject index may first =
       one_at is_any g t pool k (make i) (kind i) refl (may i ∙ first.0) (λ j n own on.
@@ -201,7 +201,7 @@ module _ (g t : ℕ) (pool : Pool) where
 
   -- of the blocks, where their moments are told
   pub blocks : (ends : ℕ → Option Moment) (o : Option ℕ) → ((p : ℕ) → ends p ≡ ready_in g pool (Block (processor p))) → IsFirstCome ends t o → IsFirstIn 5 6 g t pool (option_map (λ n. Block (processor n)) o)
-  blocks ends o are = of_numbers 5 (λ n. Block (processor n)) ends o (λ i n. refl) (λ i. refl) (λ i. refl) (λ i. refl) (λ i. ready g t pool (Block (processor i)) ∙ sym (ap (has_come t) (are i)))
+  blocks ends o are = of_numbers 5 (λ n. Block (processor n)) ends o (λ i n. refl) (λ i. refl) (λ i. refl) (λ i. refl) (λ i. ready g t pool (Block (processor i)) ∙ sym (ap (has_moment_come t) (are i)))
 
   -- of the wakes
   pub no_wake : ((v : VcpuId) → is_due_among t pool.domains v ≡ false) → IsFirstIn 4 5 g t pool None
@@ -214,19 +214,19 @@ module _ (g t : ℕ) (pool : Pool) where
       record { by_kind = omega arith; then_by_subject = λ same. order.by_domain; then_by_index = λ same also. order.then_by_index also })
 
   -- of the timers
-  pub timer_may : AreOn pool → (x : Timer) → enabled_in g t pool (action_of x) ≡ (has_come t (armed_at pool.scheduler x) && has_come t (lowest_end pool))
-  timer_may on x = ready g t pool (action_of x) ∙ ap (has_come t) (timer_ready g pool on x) ∙ come_later t (armed_at pool.scheduler x) (lowest_end pool)
+  pub timer_may : AreOn pool → (x : Timer) → enabled_in g t pool (timer_action x) ≡ (has_moment_come t (armed_at pool.scheduler x) && has_moment_come t (lowest_stall_end pool))
+  timer_may on x = ready g t pool (timer_action x) ∙ ap (has_moment_come t) (timer_ready g pool on x) ∙ come_later t (armed_at pool.scheduler x) (lowest_stall_end pool)
 
-  pub no_timer : ((x : Timer) → enabled_in g t pool (action_of x) ≡ false) → IsFirstIn 7 9 g t pool None
+  pub no_timer : ((x : Timer) → enabled_in g t pool (timer_action x) ≡ false) → IsFirstIn 7 9 g t pool None
   no_timer none = joined is_any g t pool 7 8 9 None (omega arith)
       (none_at is_any g t pool 7 (λ i n own. let u : UnitId = record { dom = domain i; n = n } in none (timer.Repl u)))
       (none_at is_any g t pool 8 (λ i n own. none (timer.Refill (domain i))))
 
-  pub no_timer_due : AreOn pool → ((x : Timer) → has_come t (armed_at pool.scheduler x) ≡ false) → IsFirstIn 7 9 g t pool None
-  no_timer_due on none = no_timer (λ x. timer_may on x ∙ ap (λ (b : Bool). b && has_come t (lowest_end pool)) (none x))
+  pub no_timer_due : AreOn pool → ((x : Timer) → has_moment_come t (armed_at pool.scheduler x) ≡ false) → IsFirstIn 7 9 g t pool None
+  no_timer_due on none = no_timer (λ x. timer_may on x ∙ ap (λ (b : Bool). b && has_moment_come t (lowest_stall_end pool)) (none x))
 
-  pub first_timer : AreOn pool → (x : Timer) → has_come t (armed_at pool.scheduler x) ≡ true → has_come t (lowest_end pool) ≡ true
-      → ((other : Timer) → has_come t (armed_at pool.scheduler other) ≡ true → IsTimerNotAfter x other) → IsFirstIn 7 9 g t pool (Some (action_of x))
+  pub first_timer : AreOn pool → (x : Timer) → has_moment_come t (armed_at pool.scheduler x) ≡ true → has_moment_come t (lowest_stall_end pool) ≡ true
+      → ((other : Timer) → has_moment_come t (armed_at pool.scheduler other) ≡ true → IsTimerNotAfter x other) → IsFirstIn 7 9 g t pool (Some (timer_action x))
   first_timer on (timer.Repl u) due up first = widened is_any g t pool 7 8 9 (Repl u) (omega arith) (one_at is_any g t pool 7 (Repl u) refl refl (timer_may on (timer.Repl u) ∙ and_from _ _ due up) (λ i n own may.
       let w : UnitId = record { dom = domain i; n = n } in
       let order = first (timer.Repl w) (and_left _ _ (sym (timer_may on (timer.Repl w)) ∙ may)) in
@@ -240,19 +240,19 @@ module _ (g t : ℕ) (pool : Pool) where
       record { by_kind = omega arith; then_by_subject = λ same. order.by_domain; then_by_index = λ same also. omega arith }))
 
 -- the timer at t, where its moment has not come: none has come
-pub timers_late : (t : ℕ) (s : Scheduler) (x : Armed) → timer_at t s ≡ Some x → t < x.0.0 → (other : Timer) → has_come t (armed_at s other) ≡ false
+pub timers_late : (t : ℕ) (s : Scheduler) (x : Armed) → next_scheduler_timer t s ≡ Some x → t < x.0.0 → (other : Timer) → has_moment_come t (armed_at s other) ≡ false
 timers_late t s x is late other = false_from_ne_true _ (λ may. let at = has_come-le t (armed_at s other) may in let first = law.first t s x is other at.0 at.1 at.2 in let come = first.0 in omega (arith, late, come))
 
 -- where its moment has come: it is the first of those that have
-pub timer_come : (t : ℕ) (s : Scheduler) (x : Armed) → timer_at t s ≡ Some x → x.0.0 ≤ t → has_come t (armed_at s x.1) ≡ true
-timer_come t s x is come = ap (has_come t) (law.armed t s x is) ∙ (let e : nat_le x.0.0 t ≡ true = grind (arith, nat_tests, come) in e)
+pub timer_come : (t : ℕ) (s : Scheduler) (x : Armed) → next_scheduler_timer t s ≡ Some x → x.0.0 ≤ t → has_moment_come t (armed_at s x.1) ≡ true
+timer_come t s x is come = ap (has_moment_come t) (law.armed t s x is) ∙ (let e : nat_le x.0.0 t ≡ true = grind (arith, nat_tests, come) in e)
 
-pub timers_first : (t : ℕ) (s : Scheduler) (x : Armed) → timer_at t s ≡ Some x → (other : Timer) → has_come t (armed_at s other) ≡ true → IsTimerNotAfter x.1 other
+pub timers_first : (t : ℕ) (s : Scheduler) (x : Armed) → next_scheduler_timer t s ≡ Some x → (other : Timer) → has_moment_come t (armed_at s other) ≡ true → IsTimerNotAfter x.1 other
 timers_first t s x is other may = let at = has_come-le t (armed_at s other) may in (law.first t s x is other at.0 at.1 at.2).1
 
 -- from when on a block may come
 pub block_is : (guests : GuestsSeen) (cores : CoresSeen) (s : SchedulerSeen) → cores.granularity ≡ guests.granularity → AreWorks guests.granularity cores.works (pool_of guests cores s)
     → (p : ℕ) → ready_among cores (Block (processor p)) ≡ ready_in guests.granularity (pool_of guests cores s) (Block (processor p))
 block_is guests cores s same works p =
-    ap (λ (o : Option Moment). later_moment o (end_of (processor_among cores.granularity cores.resources p))) (works p)
-    ∙ ap (λ (k : ℕ). later_moment (work_end guests.granularity (pool_of guests cores s) p) (end_of (processor_among k cores.resources p))) same
+    ap (λ (o : Option Moment). later_of o (end_of (processor_among cores.granularity cores.resources p))) (works p)
+    ∙ ap (λ (k : ℕ). later_of (work_end guests.granularity (pool_of guests cores s) p) (end_of (processor_among k cores.resources p))) same

@@ -4,8 +4,8 @@ use Rattle.std.specs.Prelude.{Option, option_map, ◌||◌, ◌&&◌, not}
 use Rattle.sched_model.specs.declared.state.Resource.{Resource}
 use Rattle.sched_model.specs.declared.state.Scheduler.{Scheduler}
 use Rattle.sched_model.specs.Places.{change_at, change_each}
-use Rattle.sched_model.specs.Policy.{better_waits}
-use Rattle.sched_model.specs.Pool.{reconsidered_core, set_pending}
+use Rattle.sched_model.specs.Policy.{has_better_waiting}
+use Rattle.sched_model.specs.Pool.{reconsidered_core, pending_core}
 use Rattle.pool_core.specs.CoreLooks.{change_first}
 
 -- one place more
@@ -33,8 +33,8 @@ first-all (suc n) k f (x ∷ places) few = ap (λ ys. option_map (f k) x ∷ ys)
 
 module _ (t home : ℕ) (scheduler : Scheduler) (r : ℕ) where
   -- a core that is wanted becomes pending
-  pub wanted : (c : Resource) → (not c.leaving && not c.pending && better_waits c.cur c.since.0 t r home scheduler) ≡ true → set_pending c ≡ reconsidered_core t home scheduler r c
-  wanted c is = by_leaving c.leaving c.pending (better_waits c.cur c.since.0 t r home scheduler) is
+  pub wanted : (c : Resource) → (not c.leaving && not c.pending && has_better_waiting c.cur c.since.0 t r home scheduler) ≡ true → pending_core c ≡ reconsidered_core t home scheduler r c
+  wanted c is = by_leaving c.leaving c.pending (has_better_waiting c.cur c.since.0 t r home scheduler) is
     where
       by_leaving : (l p b : Bool) → (not l && not p && b) ≡ true → record c { pending = true } ≡ cond l c (record c { pending = p || b })
       by_leaving true p b e = absurd (cc)
@@ -43,8 +43,8 @@ module _ (t home : ℕ) (scheduler : Scheduler) (r : ℕ) where
       by_leaving false false false e = absurd (cc)
 
   -- any other stays as it is
-  pub unwanted : (c : Resource) → (not c.leaving && not c.pending && better_waits c.cur c.since.0 t r home scheduler) ≡ false → c ≡ reconsidered_core t home scheduler r c
-  unwanted c is = by_leaving c.leaving c.pending refl (better_waits c.cur c.since.0 t r home scheduler) is
+  pub unwanted : (c : Resource) → (not c.leaving && not c.pending && has_better_waiting c.cur c.since.0 t r home scheduler) ≡ false → c ≡ reconsidered_core t home scheduler r c
+  unwanted c is = by_leaving c.leaving c.pending refl (has_better_waiting c.cur c.since.0 t r home scheduler) is
     where
       by_leaving : (l p : Bool) → c.pending ≡ p → (b : Bool) → (not l && not p && b) ≡ false → c ≡ cond l c (record c { pending = p || b })
       by_leaving true p same b e = refl

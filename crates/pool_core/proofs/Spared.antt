@@ -14,10 +14,10 @@ use Rattle.sched_model.specs.declared.state.Resource.{Resource}
 use Rattle.sched_model.specs.declared.state.Scheduler.{Scheduler}
 use Rattle.sched_model.specs.declared.state.Vcpu.{Vcpu}
 use Rattle.sched_model.specs.Places.{at_place}
-use Rattle.sched_model.specs.Policy.{better_waits}
+use Rattle.sched_model.specs.Policy.{has_better_waiting}
 use Rattle.sched_model.specs.Pool as pools
-use Rattle.sched_model.specs.Pool.{after_in, change_core, change_processor, change_vcpu, cores_from, with_doing, guest_of, home_cores, is_held, is_off, put_to_sleep, reconsidered_core, set_pending, settled_pool as settled, started_on, stopped_vcpu, unit_of}
-use Rattle.sched_model.specs.State.{is_runnable}
+use Rattle.sched_model.specs.Pool.{after_in, change_core, change_processor, change_vcpu, cores_from, with_doing, running_guest, pool_core_set, is_held_back, is_unit_off, put_to_sleep, reconsidered_core, pending_core, settled_pool as settled, started_on, stopped_vcpu, vcpu_unit}
+use Rattle.sched_model.specs.State.{may_unit_run}
 use Rattle.sched_laws.proofs.EachPlace.{at_place-change_each, by_cond, by_option}
 use Rattle.pool_laws.specs.CoreLooks.{IsSettled}
 use Rattle.pool_laws.proofs.Settled.{settled_alone}
@@ -69,9 +69,9 @@ looked_same b c d leaving pending same = by_two d.leaving d.pending b refl refl 
 
 asks_same : (t home : ℕ) (s : Scheduler) (r : ℕ) (c d : Resource) → AsksAsBefore c d → reconsidered_core t home s r c ≡ c → reconsidered_core t home s r d ≡ d
 asks_same t home s r c d asks same =
-    let question : better_waits d.cur d.since.0 t r home s ≡ better_waits c.cur c.since.0 t r home s =
-    ap (λ cur. better_waits cur d.since.0 t r home s) asks.cur ∙ ap (λ since. better_waits c.cur since.0 t r home s) asks.since in
-    ap (λ (b : Bool). looked b d) question ∙ looked_same (better_waits c.cur c.since.0 t r home s) c d asks.leaving asks.pending same
+    let question : has_better_waiting d.cur d.since.0 t r home s ≡ has_better_waiting c.cur c.since.0 t r home s =
+    ap (λ cur. has_better_waiting cur d.since.0 t r home s) asks.cur ∙ ap (λ since. has_better_waiting c.cur since.0 t r home s) asks.since in
+    ap (λ (b : Bool). looked b d) question ∙ looked_same (has_better_waiting c.cur c.since.0 t r home s) c d asks.leaving asks.pending same
 
 -- other domains
 spared_domains : (t : ℕ) (domains : List (Option Domain)) (pool : Pool) → IsSettled t pool → IsSettled t (record pool { domains = domains })
@@ -83,7 +83,7 @@ spared_core t r f pool asks before =
     settled_alone t r f pool before ∙ ap (λ (o : Option Resource). record pool { resources = slice_set pool.resources r o }) (by_place (at_place pool.resources r) here)
   where
     home : ℕ
-    home = home_cores pool
+    home = pool_core_set pool
 
     here : option_map (reconsidered_core t home pool.scheduler r) (at_place pool.resources r) ≡ at_place pool.resources r
     here =
@@ -99,7 +99,7 @@ spared_core t r f pool asks before =
         ap Some (asks_same t home pool.scheduler r c (f c) (asks c) same)
 
 -- a core that is to decide anew
-to_decide : (c : Resource) → AsksAsBefore c (set_pending c)
+to_decide : (c : Resource) → AsksAsBefore c (pending_core c)
 to_decide c = record { cur = refl; since = refl; leaving = refl; pending = λ e. refl }
 
 -- a processor that does something else
@@ -112,36 +112,36 @@ spared_vcpu t v f pool before = spared_domains t _ pool before
 
 module _ (g t : ℕ) (pool : Pool) (before : IsSettled t pool) where
   pub spared_slice : (r : ℕ) → IsSettled t (after_in g t pool (Slice (core r)))
-  spared_slice r = spared_core t r set_pending pool to_decide before
+  spared_slice r = spared_core t r pending_core pool to_decide before
 
   pub spared_arrive : (p : ℕ) → IsSettled t (after_in g t pool (Arrive (processor p)))
   spared_arrive p =
-      by_option (λ (next : Pool). IsSettled t (change_processor g p (with_doing Held) next)) (guest_of g pool p) _ _
+      by_option (λ (next : Pool). IsSettled t (change_processor g p (with_doing Held) next)) (running_guest g pool p) _ _
       (λ is. spared_processor g t p Held pool before)
       (λ v is. spared_processor g t p Held (change_vcpu v (stopped_vcpu t) pool) (spared_vcpu t v (stopped_vcpu t) pool before))
 
   pub spared_block : (p : ℕ) → IsSettled t (after_in g t pool (Block (processor p)))
   spared_block p =
-      by_option (IsSettled t) (guest_of g pool p) _ _ (λ is. before) (λ v is.
+      by_option (IsSettled t) (running_guest g pool p) _ _ (λ is. before) (λ v is.
       let next : Pool = change_processor g p (with_doing Idle) (change_vcpu v (put_to_sleep t) pool) in
       let here : IsSettled t next = spared_processor g t p Idle (change_vcpu v (put_to_sleep t) pool) (spared_vcpu t v (put_to_sleep t) pool before) in
-      by_cond (IsSettled t) (is_runnable g next (unit_of g v)) _ _ (λ runs. here) (λ runs. spared_core t (p / g) set_pending next to_decide here))
+      by_cond (IsSettled t) (may_unit_run g next (vcpu_unit g v)) _ _ (λ runs. here) (λ runs. spared_core t (p / g) pending_core next to_decide here))
 
   -- a core whose last processor leaves
-  opened : (c : Resource) → AsksAsBefore c (pools.open_if_left c)
-  opened c = by_cond (AsksAsBefore c) (list_any is_held c.processors) _ _ (λ is. record { cur = refl; since = refl; leaving = refl; pending = λ e. e }) (λ is. record { cur = refl; since = refl; leaving = refl; pending = λ e. e })
+  opened : (c : Resource) → AsksAsBefore c (pools.reopened_core c)
+  opened c = by_cond (AsksAsBefore c) (list_any is_held_back c.processors) _ _ (λ is. record { cur = refl; since = refl; leaving = refl; pending = λ e. e }) (λ is. record { cur = refl; since = refl; leaving = refl; pending = λ e. e })
 
   pub spared_leave : (p : ℕ) → IsSettled t (after_in g t pool (Leave (processor p)))
   spared_leave p =
       by_option (IsSettled t) (at_place pool.resources (p / g)) _ _ (λ is. before) (λ c is.
-      by_option (λ (next : Pool). IsSettled t (change_core (p / g) pools.open_if_left next)) (pools.vcpu_for g pool c (p % g)) _ _
-      (λ none. spared_core t (p / g) pools.open_if_left _ opened (spared_processor g t p Idle pool before))
-      (λ v some. spared_core t (p / g) pools.open_if_left _ opened (spared_processor g t p (Guest v) _ (spared_vcpu t v _ pool before))))
+      by_option (λ (next : Pool). IsSettled t (change_core (p / g) pools.reopened_core next)) (pools.vcpu_to_run g pool c (p % g)) _ _
+      (λ none. spared_core t (p / g) pools.reopened_core _ opened (spared_processor g t p Idle pool before))
+      (λ v some. spared_core t (p / g) pools.reopened_core _ opened (spared_processor g t p (Guest v) _ (spared_vcpu t v _ pool before))))
 
   -- a vCPU that wakes, and whose unit does not join the queue
   pub spared_wake : (v : VcpuId) → is_queued_by g v pool ≡ false → IsSettled t (after_in g t pool (Wake v))
   spared_wake v stays =
-      elim (is_runnable g next u) as (λ runs. (runs && is_off next u) ≡ false → IsSettled t (elim runs as (λ _. Pool) [ false ↦ next | true ↦ cond (is_off next u) (pools.queue_unit u next) (pools.joined_siblings g t v next) ])) [
+      elim (may_unit_run g next u) as (λ runs. (runs && is_unit_off next u) ≡ false → IsSettled t (elim runs as (λ _. Pool) [ false ↦ next | true ↦ cond (is_unit_off next u) (pools.queue_unit u next) (pools.joined_siblings g t v next) ])) [
         | false ↦ λ e. here
         | true ↦ λ on. subst (λ (b : Bool). IsSettled t (cond b (pools.queue_unit u next) (pools.joined_siblings g t v next))) (sym on) joined
       ] stays
@@ -150,23 +150,23 @@ module _ (g t : ℕ) (pool : Pool) (before : IsSettled t pool) where
       next = change_vcpu v pools.woken_vcpu pool
 
       u : UnitId
-      u = unit_of g v
+      u = vcpu_unit g v
 
       here : IsSettled t next
       here = spared_vcpu t v pools.woken_vcpu pool before
 
       joined : IsSettled t (pools.joined_siblings g t v next)
       joined =
-          by_option (IsSettled t) (pools.core_of next u) _ _ (λ is. here) (λ r is.
-          by_option (IsSettled t) (pools.processor_of g next (r * g + v.n % g)) _ _ (λ none. here) (λ q some.
-          by_cond (IsSettled t) (pools.is_idle q) _ _ (λ idles. spared_processor g t (r * g + v.n % g) (Guest v) _ (spared_vcpu t v _ next here)) (λ busy. here)))
+          by_option (IsSettled t) (pools.unit_core next u) _ _ (λ is. here) (λ r is.
+          by_option (IsSettled t) (pools.pool_processor g next (r * g + v.n % g)) _ _ (λ none. here) (λ q some.
+          by_cond (IsSettled t) (pools.is_idling q) _ _ (λ idles. spared_processor g t (r * g + v.n % g) (Guest v) _ (spared_vcpu t v _ next here)) (λ busy. here)))
 
   -- a core that puts away a unit that does not join the queue
-  pub spared_save : (r : ℕ) → is_runnable g pool (pools.saved_at pool r) ≡ false → IsSettled t (after_in g t pool (Save (core r)))
+  pub spared_save : (r : ℕ) → may_unit_run g pool (pools.saved_at pool r) ≡ false → IsSettled t (after_in g t pool (Save (core r)))
   spared_save r stays =
       by_option (IsSettled t) (at_place pool.resources r) _ _ (λ is. before) (λ c at.
       by_option (IsSettled t) c.saving _ _ (λ is. before) (λ u is.
       let saving : pools.saving_among pool.resources r ≡ Some u = ap (λ (o : Option Resource). elim o as (λ _. Option UnitId) [ None ↦ None | Some x ↦ x.saving ]) at ∙ is in
-      let off : is_runnable g pool u ≡ false = ap (λ (o : Option UnitId). is_runnable g pool (unwrap_or o pools.no_unit)) (sym saving) ∙ stays in
-      by_cond (IsSettled t) (is_runnable g pool u) _ _ (λ runs. absurd (let clash : true ≡ false = sym runs ∙ off in cc)) (λ idles.
+      let off : may_unit_run g pool u ≡ false = ap (λ (o : Option UnitId). may_unit_run g pool (unwrap_or o pools.no_unit)) (sym saving) ∙ stays in
+      by_cond (IsSettled t) (may_unit_run g pool u) _ _ (λ runs. absurd (let clash : true ≡ false = sym runs ∙ off in cc)) (λ idles.
       spared_core t r pools.saved_core pool (λ x. record { cur = refl; since = refl; leaving = refl; pending = λ e. e }) before)))

@@ -12,7 +12,7 @@ use Rattle.sched_model.specs.CheckedMachine.{IsGranularity}
 use Rattle.sched_model.specs.Places.{at_place, numbers_from}
 use Rattle.sched_ops.specs.Conditions.{is_member}
 use Rattle.sched_ops.specs.Seen.{units_of}
-use Rattle.sched_model.specs.Policy.{stored_of}
+use Rattle.sched_model.specs.Policy.{unit_stored}
 use Rattle.unit_state.specs.Guests.{KeepsGuests}
 use Rattle.unit_state.specs.Seen.{Seen, units_at}
 use Rattle.sched_base.specs.Units.{unit_id}
@@ -24,7 +24,7 @@ pub record AreTold (records : Records) (d n count : ℕ) (units : List Stored) :
   pub told : length units ≡ n
 
 -- one unit more
-pub told_next : (records : Records) (d n count : ℕ) (x : Stored) (units after : List Stored) → n < count → AreTold records d n count units → stored_of records (unit_id d n) ≡ Some x → after ≡ units ++ x ∷ []
+pub told_next : (records : Records) (d n count : ℕ) (x : Stored) (units after : List Stored) → n < count → AreTold records d n count units → unit_stored records (unit_id d n) ≡ Some x → after ≡ units ++ x ∷ []
     → AreTold records d (n + 1) count after
 told_next records d n count x units after low are value more = record {
   so_far =
@@ -35,7 +35,7 @@ told_next records d n count x units after low are value more = record {
       ∙ ap (λ (os : List (Option Stored)). os ++ rest) (map-append Some units (x ∷ []))
       ∙ append_assoc (map Some units) (Some x ∷ []) rest
       ∙ ap (λ (o : Option Stored). map Some units ++ o ∷ rest) (sym value)
-      ∙ ap (λ (k : ℕ). map Some units ++ stored_of records (unit_id d n) ∷ stored_units records d (numbers_from k (count - (n + 1)))) next
+      ∙ ap (λ (k : ℕ). map Some units ++ unit_stored records (unit_id d n) ∷ stored_units records d (numbers_from k (count - (n + 1)))) next
       ∙ ap (λ (k : ℕ). map Some units ++ stored_units records d (numbers_from n k)) left
       ∙ are.so_far;
   told = ap length more ∙ length-append units (x ∷ []) ∙ ap (λ (k : ℕ). k + 1) are.told;

@@ -6,8 +6,8 @@ use Rattle.sched_base.specs.declared.VcpuId.{VcpuId}
 use Rattle.sched_model.specs.declared.state.Domain.{Domain}
 use Rattle.sched_model.specs.declared.state.Pool.{Pool}
 use Rattle.sched_model.specs.declared.state.Vcpu.{Vcpu}
-use Rattle.sched_model.specs.Pool.{after_wake, change_vcpu, is_off, joined_siblings, queue_unit, unit_of, woken_vcpu, vcpu_among, change_among}
-use Rattle.sched_model.specs.State.{is_runnable}
+use Rattle.sched_model.specs.Pool.{after_wake, change_vcpu, is_unit_off, joined_siblings, queue_unit, vcpu_unit, woken_vcpu, vcpu_among, change_among}
+use Rattle.sched_model.specs.State.{may_unit_run}
 use Rattle.unit_state.specs.Seen.{is_awake_among, is_due_among}
 use Rattle.unit_state.proofs.GuestLemmas.{come_among}
 use Rattle.unit_state.proofs.PlaceLemmas.{vcpu_among-change_among}
@@ -19,28 +19,28 @@ woken_awake t v domains due =
     let there = come_among (λ (x : Vcpu). x.asleep_until) t (vcpu_among domains v) due in
     ap (λ (o : Option Vcpu). elim o as (λ _. Bool) [ None ↦ false | Some x ↦ is_none x.asleep_until ]) (vcpu_among-change_among v woken_vcpu domains ∙ ap (option_map woken_vcpu) there.1)
 
-module _ (g t : ℕ) (v : VcpuId) (pool : Pool) (runs : is_runnable g (change_vcpu v woken_vcpu pool) (unit_of g v) ≡ true) where
+module _ (g t : ℕ) (v : VcpuId) (pool : Pool) (runs : may_unit_run g (change_vcpu v woken_vcpu pool) (vcpu_unit g v) ≡ true) where
   abbrev pub next : Pool
   next = change_vcpu v woken_vcpu pool
 
   -- its unit has a place
-  pub woke_beside : is_off next (unit_of g v) ≡ false → joined_siblings g t v next ≡ after_wake g t v pool
+  pub woke_beside : is_unit_off next (vcpu_unit g v) ≡ false → joined_siblings g t v next ≡ after_wake g t v pool
   woke_beside on =
-      subst (λ (r : Bool). joined_siblings g t v next ≡ elim r as (λ _. Pool) [ false ↦ next | true ↦ cond (is_off next (unit_of g v)) (queue_unit (unit_of g v) next) (joined_siblings g t v next) ]) (sym runs)
-      (ap (λ (b : Bool). cond b (queue_unit (unit_of g v) next) (joined_siblings g t v next)) (sym on))
+      subst (λ (r : Bool). joined_siblings g t v next ≡ elim r as (λ _. Pool) [ false ↦ next | true ↦ cond (is_unit_off next (vcpu_unit g v)) (queue_unit (vcpu_unit g v) next) (joined_siblings g t v next) ]) (sym runs)
+      (ap (λ (b : Bool). cond b (queue_unit (vcpu_unit g v) next) (joined_siblings g t v next)) (sym on))
 
-  pub beside_works : (works : List (Option Moment)) → is_off next (unit_of g v) ≡ false → joined_works g v (done_started t v next.domains) pool.resources works ≡ woken_works g t v pool works
+  pub beside_works : (works : List (Option Moment)) → is_unit_off next (vcpu_unit g v) ≡ false → joined_works g v (done_started t v next.domains) pool.resources works ≡ woken_works g t v pool works
   beside_works works on =
-      subst (λ (r : Bool). joined_works g v (done_started t v next.domains) pool.resources works ≡ elim r as (λ _. List (Option Moment)) [ false ↦ works | true ↦ cond (is_off next (unit_of g v)) works (joined_works g v (done_started t v next.domains) pool.resources works) ]) (sym runs)
+      subst (λ (r : Bool). joined_works g v (done_started t v next.domains) pool.resources works ≡ elim r as (λ _. List (Option Moment)) [ false ↦ works | true ↦ cond (is_unit_off next (vcpu_unit g v)) works (joined_works g v (done_started t v next.domains) pool.resources works) ]) (sym runs)
       (ap (λ (b : Bool). cond b works (joined_works g v (done_started t v next.domains) pool.resources works)) (sym on))
 
   -- its unit was nowhere
-  pub woke_alone : is_off next (unit_of g v) ≡ true → queue_unit (unit_of g v) next ≡ after_wake g t v pool
+  pub woke_alone : is_unit_off next (vcpu_unit g v) ≡ true → queue_unit (vcpu_unit g v) next ≡ after_wake g t v pool
   woke_alone off =
-      subst (λ (r : Bool). queue_unit (unit_of g v) next ≡ elim r as (λ _. Pool) [ false ↦ next | true ↦ cond (is_off next (unit_of g v)) (queue_unit (unit_of g v) next) (joined_siblings g t v next) ]) (sym runs)
-      (ap (λ (b : Bool). cond b (queue_unit (unit_of g v) next) (joined_siblings g t v next)) (sym off))
+      subst (λ (r : Bool). queue_unit (vcpu_unit g v) next ≡ elim r as (λ _. Pool) [ false ↦ next | true ↦ cond (is_unit_off next (vcpu_unit g v)) (queue_unit (vcpu_unit g v) next) (joined_siblings g t v next) ]) (sym runs)
+      (ap (λ (b : Bool). cond b (queue_unit (vcpu_unit g v) next) (joined_siblings g t v next)) (sym off))
 
-  pub alone_works : (works : List (Option Moment)) → is_off next (unit_of g v) ≡ true → works ≡ woken_works g t v pool works
+  pub alone_works : (works : List (Option Moment)) → is_unit_off next (vcpu_unit g v) ≡ true → works ≡ woken_works g t v pool works
   alone_works works off =
-      subst (λ (r : Bool). works ≡ elim r as (λ _. List (Option Moment)) [ false ↦ works | true ↦ cond (is_off next (unit_of g v)) works (joined_works g v (done_started t v next.domains) pool.resources works) ]) (sym runs)
+      subst (λ (r : Bool). works ≡ elim r as (λ _. List (Option Moment)) [ false ↦ works | true ↦ cond (is_unit_off next (vcpu_unit g v)) works (joined_works g v (done_started t v next.domains) pool.resources works) ]) (sym runs)
       (ap (λ (b : Bool). cond b works (joined_works g v (done_started t v next.domains) pool.resources works)) (sym off))

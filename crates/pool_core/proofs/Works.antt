@@ -14,7 +14,7 @@ use Rattle.sched_model.specs.declared.state.Processor.{Processor}
 use Rattle.sched_model.specs.declared.state.Resource.{Resource}
 use Rattle.sched_model.specs.declared.state.Vcpu.{Vcpu}
 use Rattle.sched_model.specs.Places.{at_place, change_each}
-use Rattle.sched_model.specs.Pool.{change_core, change_processor, change_vcpu, with_doing, done_at, guest_of, processor_of, started_on, woken_vcpu, vcpu_among, change_among}
+use Rattle.sched_model.specs.Pool.{change_core, change_processor, change_vcpu, with_doing, done_moment, running_guest, pool_processor, started_on, woken_vcpu, vcpu_among, change_among}
 use Rattle.pool_laws.specs.ReadyMoments.{work_end}
 use Rattle.sched_laws.proofs.EachPlace.{at_place-clear_at, at_place-clear_at_other}
 use Rattle.core_state.specs.Seen.{processor_among}
@@ -55,7 +55,7 @@ others v w apart = elim (ℕ_discrete w.dom.0 v.dom.0) [
 
 -- the work of another vCPU
 pub done_other : (v w : VcpuId) (f : Vcpu → Vcpu) (domains : List (Option Domain)) → v ≢ w → done_among (change_among v f domains) w ≡ done_among domains w
-done_other v w f domains apart = ap (λ (o : Option Vcpu). elim o as (λ _. Option Moment) [ None ↦ None | Some x ↦ done_at x ]) (vcpu_among-change_among_other v w f domains (others v w apart))
+done_other v w f domains apart = ap (λ (o : Option Vcpu). elim o as (λ _. Option Moment) [ None ↦ None | Some x ↦ done_moment x ]) (vcpu_among-change_among_other v w f domains (others v w apart))
 
 -- the work of what another processor runs
 done_elsewhere : (v : VcpuId) (f : Vcpu → Vcpu) (domains : List (Option Domain)) (o : Option VcpuId) → (o ≡ Some v → ⊥) → done_by (change_among v f domains) o ≡ done_by domains o
@@ -72,7 +72,7 @@ module _ (g p : ℕ) (works : List (Option Moment)) (pool : Pool) (are : AreWork
   ]
 
   -- the same, where the vCPU that it ran is changed
-  pub works_stopped : (doing : Doing) → ((o : Option Processor) → run_by (option_map (with_doing doing) o) ≡ None) → (v : VcpuId) (f : Vcpu → Vcpu) → ((q : ℕ) → guest_of g pool q ≡ Some v → q ≡ p)
+  pub works_stopped : (doing : Doing) → ((o : Option Processor) → run_by (option_map (with_doing doing) o) ≡ None) → (v : VcpuId) (f : Vcpu → Vcpu) → ((q : ℕ) → running_guest g pool q ≡ Some v → q ≡ p)
       → AreWorks g (slice_set works p None) (change_processor g p (with_doing doing) (change_vcpu v f pool))
   works_stopped doing none v f only q = elim (ℕ_discrete q p) [
     | yes e ↦ subst (λ (k : ℕ). at_place (slice_set works p None) k ≡ work_end g (change_processor g p (with_doing doing) (change_vcpu v f pool)) k) (sym e)
@@ -84,7 +84,7 @@ module _ (g p : ℕ) (works : List (Option Moment)) (pool : Pool) (are : AreWork
   ]
 
   -- a processor that begins to run a vCPU, which no other runs
-  pub works_started : (t : ℕ) (v : VcpuId) (x : Processor) → p < length works → processor_of g pool p ≡ Some x → ((q : ℕ) → guest_of g pool q ≡ Some v → q ≡ p)
+  pub works_started : (t : ℕ) (v : VcpuId) (x : Processor) → p < length works → pool_processor g pool p ≡ Some x → ((q : ℕ) → running_guest g pool q ≡ Some v → q ≡ p)
       → AreWorks g (slice_set works p (done_among (started_on g t p v pool).domains v)) (started_on g t p v pool)
   works_started t v x inside there only q =
       let f : Vcpu → Vcpu = λ (y : Vcpu). record y { started = Some (moment t) } in
@@ -102,15 +102,15 @@ module _ (g p : ℕ) (works : List (Option Moment)) (pool : Pool) (are : AreWork
 pub works_woken : (g : ℕ) (v : VcpuId) (works : List (Option Moment)) (pool : Pool) → ((x : Vcpu) → vcpu_among pool.domains v ≡ Some x → x.started ≡ None) → AreWorks g works pool → AreWorks g works (change_vcpu v woken_vcpu pool)
 works_woken g v works pool still are q = are q ∙ by_guest (guest_among g pool.resources q)
   where
-    none_done : (o : Option Vcpu) → ((x : Vcpu) → o ≡ Some x → x.started ≡ None) → elim o as (λ _. Option Moment) [ None ↦ None | Some x ↦ done_at x ] ≡ elim (option_map woken_vcpu o) as (λ _. Option Moment) [ None ↦ None | Some x ↦ done_at x ]
+    none_done : (o : Option Vcpu) → ((x : Vcpu) → o ≡ Some x → x.started ≡ None) → elim o as (λ _. Option Moment) [ None ↦ None | Some x ↦ done_moment x ] ≡ elim (option_map woken_vcpu o) as (λ _. Option Moment) [ None ↦ None | Some x ↦ done_moment x ]
     none_done None none = refl
-    none_done (Some x) none = let e = none x refl in rw (done_at, e) refl
+    none_done (Some x) none = let e = none x refl in rw (done_moment, e) refl
 
     by_guest : (o : Option VcpuId) → done_by pool.domains o ≡ done_by (change_among v woken_vcpu pool.domains) o
     by_guest None = refl
     by_guest (Some w) = elim (same_or_other w) [
       | inl e ↦ subst (λ (k : VcpuId). done_among pool.domains k ≡ done_among (change_among v woken_vcpu pool.domains) k) e
-          (none_done (vcpu_among pool.domains v) still ∙ ap (λ (o : Option Vcpu). elim o as (λ _. Option Moment) [ None ↦ None | Some x ↦ done_at x ]) (sym (vcpu_among-change_among v woken_vcpu pool.domains)))
+          (none_done (vcpu_among pool.domains v) still ∙ ap (λ (o : Option Vcpu). elim o as (λ _. Option Moment) [ None ↦ None | Some x ↦ done_moment x ]) (sym (vcpu_among-change_among v woken_vcpu pool.domains)))
       | inr ne ↦ sym (done_other v w woken_vcpu pool.domains ne)
     ]
       where

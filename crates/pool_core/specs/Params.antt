@@ -12,15 +12,15 @@ use Rattle.sched_model.specs.declared.state.Records.{Records}
 use Rattle.sched_model.specs.declared.state.Scheduler.{Scheduler}
 use Rattle.sched_model.specs.CheckedMachine.{IsWithin}
 use Rattle.sched_model.specs.Places.{at_place, numbers_from}
-use Rattle.sched_model.specs.Policy.{rtds_record, set_params}
+use Rattle.sched_model.specs.Policy.{unit_rtds_record, changed_scheduler}
 use Rattle.sched_ops.specs.Seen.{units_of}
-use Rattle.sched_model.specs.Policy.{stored_of}
+use Rattle.sched_model.specs.Policy.{unit_stored}
 use Rattle.unit_state.specs.Seen.{units_at}
 use Rattle.sched_base.specs.Units.{unit_id}
 
 -- the set values of the units of the domain d with these indices
 abbrev pub stored_units : Records → ℕ → List ℕ → List (Option Stored)
-stored_units records d ns = map (λ (n : ℕ). stored_of records (unit_id d n)) ns
+stored_units records d ns = map (λ (n : ℕ). unit_stored records (unit_id d n)) ns
 
 -- those of all units of the domain, where these are the domains and a unit has g vCPUs; none where no domain is named
 abbrev pub stored_in : ℕ → List (Option Domain) → Records → Option DomId → List (Option Stored)
@@ -39,9 +39,9 @@ pub record AreGiven (period budget : Option Span) : Type 0 where
 -- the scheduler with new RTDS parameters of the unit; what is not given stays
 abbrev pub unit_set : ℕ → Option Span → Option Span → Option Bool → UnitId → Scheduler → Scheduler
 unit_set t period budget extra u scheduler =
-    elim (rtds_record scheduler.records u) [
+    elim (unit_rtds_record scheduler.records u) [
       | None ↦ scheduler
-      | Some x ↦ set_params (changes.«Unit» u (unwrap_or period (span x.next_period)) (unwrap_or budget (span x.next_budget)) (unwrap_or extra x.next_extra)) t scheduler
+      | Some x ↦ changed_scheduler (changes.«Unit» u (unwrap_or period (span x.next_period)) (unwrap_or budget (span x.next_budget)) (unwrap_or extra x.next_extra)) t scheduler
     ]
 
 -- the same for the units of the domain with these indices

@@ -5,7 +5,7 @@ use Rattle.sched_base.specs.declared.VcpuId.{VcpuId}
 use Rattle.sched_model.specs.declared.state.Doing.TheVariants as doing
 use Rattle.sched_model.specs.declared.state.Domain.{Domain}
 use Rattle.sched_model.specs.declared.state.Pool.{Pool}
-use Rattle.sched_model.specs.Pool.{change_core, change_processor, with_doing, open_if_left, started_on}
+use Rattle.sched_model.specs.Pool.{change_core, change_processor, with_doing, reopened_core, started_on}
 use Rattle.unit_state.specs.Seen as guests
 use Rattle.unit_state.specs.Seen.{done_among}
 use Rattle.core_state.specs.Seen as cores
@@ -22,7 +22,7 @@ pub record IsMoved (t : ℕ) (guests guests_after : guests.Seen) (cores cores_af
 -- the pool after the processor took the vCPU, if there is one, and left
 abbrev pub parted_with : ℕ → ℕ → ℕ → Option VcpuId → Pool → Pool
 parted_with g t p taken pool =
-    change_core (p / g) open_if_left (elim taken [ None ↦ change_processor g p (with_doing doing.Idle) pool | Some v ↦ started_on g t p v pool ])
+    change_core (p / g) reopened_core (elim taken [ None ↦ change_processor g p (with_doing doing.Idle) pool | Some v ↦ started_on g t p v pool ])
 
 -- the guests and the cores are those of that pool
 abbrev pub IsParting : ℕ → ℕ → Option VcpuId → guests.Seen → guests.Seen → cores.Seen → cores.Seen → Type 0

@@ -7,14 +7,14 @@ use Rattle.sched_model.specs.declared.action.Action.{Action}
 use Rattle.sched_model.specs.declared.state.Doing.TheVariants.{Guest, Idle, Held}
 use Rattle.sched_model.specs.declared.state.Pool.{Pool}
 use Rattle.sched_model.specs.declared.state.Resource.{Resource}
-use Rattle.sched_model.specs.Opening.{fresh_core}
+use Rattle.sched_model.specs.Opening.{joined_core}
 use Rattle.sched_model.specs.Places.{at_place, clear_at, put_at}
 use Rattle.sched_model.specs.Pool.{after_in, change_processor, settled_pool}
 use Rattle.sched_laws.specs.RecordRanges.{IsFrom}
 use Rattle.unit_state.specs.Seen as guests
 use Rattle.core_state.specs.Seen as cores
 use Rattle.core_state.specs.Seen.{processor_among, stalled_to}
-pub use Rattle.core_state.specs.Seen.{stall_until}
+pub use Rattle.core_state.specs.Seen.{extended_stall_end}
 use Rattle.sched_ops.specs.Seen as schedulers
 use Rattle.sched_ops.specs.Seen.{vacant_scheduler as vacant_scheduler}
 use Rattle.sched_ops.specs.Seen.{restarted_scheduler}
@@ -69,7 +69,7 @@ pub record IsEmpty (pool : Pool) : Type 0 where
 
 -- the pool with a core that has just come, whose processors are stalled up to these moments
 abbrev pub with_core : ℕ → List Moment → Pool → Pool
-with_core r ends pool = record pool { resources = put_at r (fresh_core ends) pool.resources }
+with_core r ends pool = record pool { resources = put_at r (joined_core ends) pool.resources }
 
 -- the pool without the core
 abbrev pub without_core : ℕ → Pool → Pool

@@ -12,15 +12,15 @@ use Rattle.sched_model.specs.declared.state.Pool.{Pool}
 use Rattle.sched_model.specs.declared.state.Resource.{Resource}
 use Rattle.sched_model.specs.declared.state.Vcpu.{Vcpu}
 use Rattle.sched_model.specs.Places.{first_place, is_unit, numbered_items}
-use Rattle.sched_model.specs.Pool.{is_idle, is_off, unit_of, change_vcpu, woken_vcpu, change_among}
-use Rattle.sched_model.specs.State.{is_runnable}
+use Rattle.sched_model.specs.Pool.{is_idling, is_unit_off, vcpu_unit, change_vcpu, woken_vcpu, change_among}
+use Rattle.sched_model.specs.State.{may_unit_run}
 use Rattle.unit_state.specs.Seen.{done_among}
 use Rattle.core_state.specs.Seen.{processor_among}
 use Rattle.sched_ops.specs.Seen as schedulers
 
 -- whether the processor is there and idles, where these are the cores and each has g processors
 abbrev pub idles_among : ℕ → List (Option Resource) → ℕ → Bool
-idles_among g cores p = elim (processor_among g cores p) [ None ↦ false | Some q ↦ is_idle q ]
+idles_among g cores p = elim (processor_among g cores p) [ None ↦ false | Some q ↦ is_idling q ]
 
 -- whether one of these cores has the unit as its own or saves it
 abbrev pub is_held_among : List (Option Resource) → UnitId → Bool
@@ -29,7 +29,7 @@ is_held_among cores u = list_any (λ (e : ℕ × Resource). is_unit e.1.cur u ||
 -- the works after the vCPU, whose work is done then, joined its siblings on these cores
 abbrev pub joined_works : ℕ → VcpuId → Option Moment → List (Option Resource) → List (Option Moment) → List (Option Moment)
 joined_works g v done cores works =
-    elim (first_place 0 (λ c. is_unit c.cur (unit_of g v)) cores) [
+    elim (first_place 0 (λ c. is_unit c.cur (vcpu_unit g v)) cores) [
       | None ↦ works
       | Some r ↦ (if idles_among g cores (r * g + v.n % g) then slice_set works (r * g + v.n % g) done else works)
     ]
@@ -42,19 +42,19 @@ done_started t v domains = done_among (change_among v (λ (x : Vcpu). record x {
 abbrev pub woken_works : ℕ → ℕ → VcpuId → Pool → List (Option Moment) → List (Option Moment)
 woken_works g t v pool works =
     let next : Pool = change_vcpu v woken_vcpu pool in
-    elim (is_runnable g next (unit_of g v)) [
+    elim (may_unit_run g next (vcpu_unit g v)) [
       | false ↦ works
-      | true ↦ (if is_off next (unit_of g v) then works else joined_works g v (done_started t v next.domains) pool.resources works)
+      | true ↦ (if is_unit_off next (vcpu_unit g v) then works else joined_works g v (done_started t v next.domains) pool.resources works)
     ]
 
 -- whether the unit of the vCPU joins the queue when that wakes: it is runnable then, and was nowhere
 abbrev pub is_queued_by : ℕ → VcpuId → Pool → Bool
-is_queued_by g v pool = let next : Pool = change_vcpu v woken_vcpu pool in is_runnable g next (unit_of g v) && is_off next (unit_of g v)
+is_queued_by g v pool = let next : Pool = change_vcpu v woken_vcpu pool in may_unit_run g next (vcpu_unit g v) && is_unit_off next (vcpu_unit g v)
 
 -- whether it is the event of a core whose saved unit joins the queue
-abbrev pub is_queued : Event → Bool
-is_queued (event.Save r u queued) = queued
-is_queued _ = false
+abbrev pub is_queued_save : Event → Bool
+is_queued_save (event.Save r u queued) = queued
+is_queued_save _ = false
 
 -- a scheduler has as much room as before, and no later moment
 pub record KeepsRoom (before after : schedulers.Seen) : Type 0 where

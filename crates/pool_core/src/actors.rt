@@ -4,12 +4,12 @@ ghost use Rattle.std.specs.Prelude.{◌≡◌, ◌≢◌, ◌*◌, ◌%◌, ◌&
 ghost use Rattle.sched_model.specs.declared.action.Action.TheVariants.{Arrive, Block, Decide, Leave, Save, Slice};
 ghost use Rattle.sched_model.specs.declared.action.Actor.TheVariants.{Dom, Proc};
 ghost use Rattle.sched_model.specs.Places.{test_at};
-ghost use Rattle.sched_model.specs.Pool.{enabled_in, is_held as is_held_spec};
-ghost use Rattle.sched_model.specs.State.{is_up as is_up_spec};
-ghost use Rattle.pool_laws.specs.ReadyMoments.{gathers as gathers_spec};
+ghost use Rattle.sched_model.specs.Pool.{enabled_in, is_held_back};
+ghost use Rattle.sched_model.specs.State.{is_not_stalled};
+ghost use Rattle.pool_laws.specs.ReadyMoments.{may_gather};
 ghost use Rattle.policy_laws.specs.Holds.{AreOn};
 ghost use Rattle.unit_state.specs.Seen.{Seen as GuestsSeen};
-ghost use Rattle.core_state.specs.Ends.{parts as parts_spec};
+ghost use Rattle.core_state.specs.Ends.{may_core_part};
 ghost use Rattle.core_state.specs.Seen.{Seen as CoresSeen, processor_among};
 ghost use Rattle.sched_ops.specs.Seen.{Seen as SchedulerSeen};
 ghost use Rattle.pool_core.specs.Order.{IsFirstByIn};
@@ -28,7 +28,7 @@ use unit_state::Guests;
 /// Whether the processor is there and not stalled.
 fn is_up_at(cores: &CoreState, p: ProcId, t: Moment) -> bool
     ensures { result ≡ elim (processor_among cores.now.granularity cores.now.resources p.0)
-        [ None ↦ false | Some q ↦ is_up_spec t.0 q ] }
+        [ None ↦ false | Some q ↦ is_not_stalled t.0 q ] }
 {
     match cores.processor(p) {
         None => false,
@@ -61,7 +61,7 @@ fn may_slice(cores: &CoreState, r: ResId, t: Moment) -> bool
 
 /// Whether the core's processors may arrive.
 fn gathers(cores: &CoreState, r: ResId) -> bool
-    ensures { result ≡ test_at cores.now.resources r.0 gathers_spec }
+    ensures { result ≡ test_at cores.now.resources r.0 may_gather }
 {
     match cores.core(r) {
         None => false,
@@ -72,7 +72,7 @@ fn gathers(cores: &CoreState, r: ResId) -> bool
 /// Whether the processor is there, does not wait for its siblings, and is not stalled.
 fn is_free_at(cores: &CoreState, p: ProcId, t: Moment) -> bool
     ensures { result ≡ elim (processor_among cores.now.granularity cores.now.resources p.0)
-        [ None ↦ false | Some q ↦ not (is_held_spec q) && is_up_spec t.0 q ] }
+        [ None ↦ false | Some q ↦ not (is_held_back q) && is_not_stalled t.0 q ] }
 {
     match cores.processor(p) {
         None => false,
@@ -102,7 +102,7 @@ fn may_decide(cores: &CoreState, r: ResId, t: Moment) -> bool
 
 /// Whether the core's processors may leave.
 fn parts(cores: &CoreState, r: ResId) -> bool
-    ensures { result ≡ test_at cores.now.resources r.0 parts_spec }
+    ensures { result ≡ test_at cores.now.resources r.0 may_core_part }
 {
     match cores.core(r) {
         None => false,
@@ -113,7 +113,7 @@ fn parts(cores: &CoreState, r: ResId) -> bool
 /// Whether the processor is there, waits for its siblings, and is not stalled.
 fn is_held_at(cores: &CoreState, p: ProcId, t: Moment) -> bool
     ensures { result ≡ elim (processor_among cores.now.granularity cores.now.resources p.0)
-        [ None ↦ false | Some q ↦ is_held_spec q && is_up_spec t.0 q ] }
+        [ None ↦ false | Some q ↦ is_held_back q && is_not_stalled t.0 q ] }
 {
     match cores.processor(p) {
         None => false,

@@ -2,7 +2,7 @@
 
 ghost use Rattle.std.specs.Prelude.{◌≡◌, ◌≤◌, ◌<◌, ◌/◌, ◌%◌, ◌*◌, true, IfSome, None, slice_set};
 ghost use Rattle.sched_model.specs.Pool.{after_arrive, after_block, taken_at};
-ghost use Rattle.sched_base.specs.Numbers.{has_come};
+ghost use Rattle.sched_base.specs.Numbers.{has_moment_come};
 ghost use Rattle.sched_ops.specs.Seen.{Seen as SchedulerSeen};
 ghost use Rattle.unit_state.specs.Seen.{IsNow, done_among, is_awake_among};
 ghost use Rattle.pool_core.specs.Seen.{guest_among, pool_of};
@@ -33,7 +33,7 @@ pub fn block(guests: &mut Guests, cores: &mut CoreState, p: ProcId, v: VcpuId, t
     requires now { IsNow guests.old t.0 }
     requires same { cores.old.granularity ≡ guests.old.granularity }
     requires some { 0 < guests.old.granularity }
-    requires done { has_come t.0 (done_among guests.old.domains v) ≡ true }
+    requires done { has_moment_come t.0 (done_among guests.old.domains v) ≡ true }
     ensures pool { (s : SchedulerSeen) → pool_of guests.new cores.new s
         ≡ after_block guests.old.granularity t.0 p.0 v (pool_of guests.old cores.old s) }
     ensures works { cores.new.works ≡ slice_set cores.old.works p.0 None }

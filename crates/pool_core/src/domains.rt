@@ -3,15 +3,15 @@
 ghost use Rattle.std.specs.Prelude.{◌≡◌, ◌≤◌, ◌<◌, ◌+◌, ◌-◌, ◌&&◌, not, true, is_some, ℕ, None, Some, length};
 ghost use Rattle.std.specs.Option.{ForSome};
 ghost use Rattle.sched_model.specs.declared.state.Resource.{Resource};
-ghost use Rattle.sched_model.specs.Places.{at_place, change_each, clear_at, has_unit, numbers_from, put_at, test_at};
-ghost use Rattle.sched_model.specs.Policy.{dequeue_domain as dequeue_domain_spec, kind_of};
-ghost use Rattle.sched_model.specs.Pool.{is_of_domain as is_of_domain_spec, pause as pause_spec, queue_if_off as queue_if_off_spec, queue_units as queue_units_spec, set_moving as set_moving_spec, unit_count as unit_count_spec, unpause as unpause_spec, with_domain, without_domain};
+ghost use Rattle.sched_model.specs.Places.{at_place, change_each, clear_at, has_listed_unit, numbers_from, put_at, test_at};
+ghost use Rattle.sched_model.specs.Policy.{scheduler_without_queued, records_kind};
+ghost use Rattle.sched_model.specs.Pool.{is_domain_unit, paused_pool, pool_with_queued_if_off, pool_with_queued_units, pool_with_moving, domain_unit_count, unpaused_pool, pool_with_domain, pool_without_domain};
 ghost use Rattle.sched_model.specs.State.{runnable_among};
 ghost use Rattle.sched_laws.specs.PoolFacts.{OnePlace};
-ghost use Rattle.sched_ops.specs.Seen.{dequeue as dequeue_spec, units_of, with_scheduler};
+ghost use Rattle.sched_ops.specs.Seen.{scheduler_without_unit, units_of, with_scheduler};
 ghost use Rattle.core_state.specs.Seen.{Seen as CoresSeen, changed_core};
 ghost use Rattle.pool_records.specs.Marks.{pending_of};
-ghost use Rattle.sched_ops.specs.Conditions.{AreDomParams, HasNoneBusy, IsNow, has_joined};
+ghost use Rattle.sched_ops.specs.Conditions.{AreDomParams, HasNoneBusy, IsNow, has_joined_domain};
 ghost use Rattle.unit_state.specs.Parts.{IsPart, IsStill};
 ghost use Rattle.policy_laws.specs.Holds.{AreOn, HasMembers, Holds};
 ghost use Rattle.pool_core.specs.Seen.{pool_of};
@@ -31,7 +31,7 @@ use unit_state::{DomPart, Guests};
 fn queue_if_off<P: Policy>(guests: &Guests, cores: &CoreState, policy: &mut P, u: UnitId)
     requires may { MayQueue (pool_of guests.now cores.now (P.seen policy.old)) u }
     ensures pool { pool_of guests.now cores.now (P.seen policy.new)
-        ≡ queue_if_off_spec guests.now.granularity u
+        ≡ pool_with_queued_if_off guests.now.granularity u
         (pool_of guests.now cores.now (P.seen policy.old)) }
     ensures room { KeepsRoom (P.seen policy.old) (P.seen policy.new) }
 {
@@ -52,7 +52,7 @@ pub fn queue_units<P: Policy>(
     requires may { (n : ℕ) → n < count → MayQueue (pool_of guests.now cores.now (P.seen policy.old))
         (unit_id d.0 n) }
     ensures pool { pool_of guests.now cores.now (P.seen policy.new)
-        ≡ queue_units_spec guests.now.granularity d.0 (numbers_from 0 count)
+        ≡ pool_with_queued_units guests.now.granularity d.0 (numbers_from 0 count)
         (pool_of guests.now cores.now (P.seen policy.old)) }
     ensures room { KeepsRoom (P.seen policy.old) (P.seen policy.new) }
 {
@@ -74,22 +74,22 @@ pub fn join<P: Policy>(
     requires place { part.d.0 < length guests.old.domains }
     requires absent { at_place guests.old.domains part.d.0 ≡ None }
     requires granularity { part.granularity ≡ guests.old.granularity }
-    requires room { unit_count_spec part.granularity part.domain ≤ guests.old.spare }
+    requires room { domain_unit_count part.granularity part.domain ≤ guests.old.spare }
     requires known { guests.old.spare ≤ (P.seen policy.old).spare }
-    requires params { AreDomParams (kind_of (P.seen policy.old).scheduler.records) params.now }
+    requires params { AreDomParams (records_kind (P.seen policy.old).scheduler.records) params.now }
     requires now { IsNow (P.seen policy.old) t.0 }
     requires holds { Holds guests.old.granularity t.0
         (pool_of guests.old cores.now (P.seen policy.old)) }
     ensures pool { pool_of guests.new cores.now (P.seen policy.new)
-        ≡ with_domain guests.old.granularity t.0 part.d.0 part.domain params.now
+        ≡ pool_with_domain guests.old.granularity t.0 part.d.0 part.domain params.now
         (pool_of guests.old cores.now (P.seen policy.old)) }
     ensures guests { guests.new ≡ record guests.old {
       domains = put_at part.d.0 part.domain guests.old.domains;
       spare = guests.old.spare -
-          unit_count_spec part.granularity part.domain;
+          domain_unit_count part.granularity part.domain;
     } }
     ensures spare { (P.seen policy.new).spare
-        ≡ (P.seen policy.old).spare - unit_count_spec part.granularity part.domain }
+        ≡ (P.seen policy.old).spare - domain_unit_count part.granularity part.domain }
     ensures latest { (P.seen policy.new).latest ≡ t.0 }
 {
     guests.keeps();
@@ -110,10 +110,10 @@ fn is_waiting(guests: &Guests, cores: &CoreState, u: UnitId) -> bool
 
 /// The unit, which waits exactly where it is runnable and no core has it, waits no more.
 fn dequeue<P: Policy>(guests: &Guests, cores: &CoreState, policy: &mut P, u: UnitId)
-    requires waits { has_unit (P.seen policy.old).scheduler.queue u
+    requires waits { has_listed_unit (P.seen policy.old).scheduler.queue u
         ≡ (runnable_among guests.now.granularity guests.now.domains u
         && not (is_held_among cores.now.resources u)) }
-    ensures { P.seen policy.new ≡ with_scheduler (dequeue_spec u (P.seen policy.old).scheduler)
+    ensures { P.seen policy.new ≡ with_scheduler (scheduler_without_unit u (P.seen policy.old).scheduler)
         (P.seen policy.old) }
 {
     if is_waiting(guests, cores, u) {
@@ -129,7 +129,7 @@ fn dequeue_domain<P: Policy>(guests: &Guests, cores: &CoreState, policy: &mut P,
     requires members { HasMembers guests.now.granularity
         (pool_of guests.now cores.now (P.seen policy.old)) }
     ensures { P.seen policy.new ≡ with_scheduler
-        (dequeue_domain_spec d.0 (P.seen policy.old).scheduler) (P.seen policy.old) }
+        (scheduler_without_queued d.0 (P.seen policy.old).scheduler) (P.seen policy.old) }
 {
     for n in 0..guests.unit_count(d) {
         dequeue(guests, cores, policy, UnitId { dom: d, n });
@@ -139,7 +139,7 @@ fn dequeue_domain<P: Policy>(guests: &Guests, cores: &CoreState, policy: &mut P,
 /// Whether the core's own unit is one of the domain.
 pub(crate) fn runs_one_of(cores: &CoreState, d: DomId, r: ResId) -> bool
     ensures { result ≡ test_at cores.now.resources r.0
-        (λ (c : Resource). is_of_domain_spec d.0 c.cur) }
+        (λ (c : Resource). is_domain_unit d.0 c.cur) }
 {
     match cores.core(r) {
         None => false,
@@ -174,7 +174,7 @@ pub fn pause<P: Policy>(guests: &mut Guests, cores: &mut CoreState, policy: &mut
     requires members { HasMembers guests.old.granularity
         (pool_of guests.old cores.old (P.seen policy.old)) }
     ensures pool { pool_of guests.new cores.new (P.seen policy.new)
-        ≡ pause_spec d.0 (pool_of guests.old cores.old (P.seen policy.old)) }
+        ≡ paused_pool d.0 (pool_of guests.old cores.old (P.seen policy.old)) }
     ensures guests { guests.new ≡ record guests.old { domains = guests.new.domains } }
     ensures cores { cores.new ≡ record cores.old { resources = cores.new.resources } }
     ensures room { KeepsRoom (P.seen policy.old) (P.seen policy.new) }
@@ -200,7 +200,7 @@ pub fn set_moving<P: Policy>(
     requires members { HasMembers guests.old.granularity
         (pool_of guests.old cores.old (P.seen policy.old)) }
     ensures pool { pool_of guests.new cores.new (P.seen policy.new)
-        ≡ set_moving_spec d.0 to.0 (pool_of guests.old cores.old (P.seen policy.old)) }
+        ≡ pool_with_moving d.0 to.0 (pool_of guests.old cores.old (P.seen policy.old)) }
     ensures guests { guests.new ≡ record guests.old { domains = guests.new.domains } }
     ensures cores { cores.new ≡ record cores.old { resources = cores.new.resources } }
     ensures room { KeepsRoom (P.seen policy.old) (P.seen policy.new) }
@@ -219,7 +219,7 @@ pub fn unpause<P: Policy>(guests: &mut Guests, cores: &CoreState, policy: &mut P
         (pool_of guests.old cores.now (P.seen policy.old)) }
     requires on { AreOn (pool_of guests.old cores.now (P.seen policy.old)) }
     ensures pool { pool_of guests.new cores.now (P.seen policy.new)
-        ≡ unpause_spec guests.old.granularity d.0
+        ≡ unpaused_pool guests.old.granularity d.0
         (pool_of guests.old cores.now (P.seen policy.old)) }
     ensures guests { guests.new ≡ record guests.old { domains = guests.new.domains } }
     ensures room { KeepsRoom (P.seen policy.old) (P.seen policy.new) }
@@ -235,17 +235,17 @@ pub fn unpause<P: Policy>(guests: &mut Guests, cores: &CoreState, policy: &mut P
 pub fn take<P: Policy>(guests: &mut Guests, policy: &mut P, d: DomId) -> DomPart
     requires here { is_some (at_place guests.old.domains d.0) ≡ true }
     requires still { ForSome (at_place guests.old.domains d.0) IsStill }
-    requires joined { has_joined (P.seen policy.old).scheduler d.0 ≡ true }
+    requires joined { has_joined_domain (P.seen policy.old).scheduler d.0 ≡ true }
     requires idle { HasNoneBusy (P.seen policy.old).scheduler d.0 }
     ensures pool { (cores : CoresSeen) → pool_of guests.new cores (P.seen policy.new)
-        ≡ without_domain d.0 (pool_of guests.old cores (P.seen policy.old)) }
+        ≡ pool_without_domain d.0 (pool_of guests.old cores (P.seen policy.old)) }
     ensures number { result.d ≡ d }
     ensures granularity { result.granularity ≡ guests.old.granularity }
     ensures domain { at_place guests.old.domains d.0 ≡ Some result.domain }
     ensures part { IsPart result }
     ensures guests { guests.new ≡ record guests.old {
       domains = clear_at d.0 guests.old.domains;
-      spare = guests.old.spare + unit_count_spec
+      spare = guests.old.spare + domain_unit_count
           result.granularity result.domain;
     } }
     ensures spare { (P.seen policy.new).spare

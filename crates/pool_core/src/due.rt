@@ -7,7 +7,7 @@ ghost use Rattle.policy_laws.specs.Holds.{AreOn};
 ghost use Rattle.unit_state.specs.Seen.{Seen as GuestsSeen};
 ghost use Rattle.core_state.specs.Firsts.{IsLeast};
 ghost use Rattle.sched_ops.specs.Seen.{Seen as SchedulerSeen};
-ghost use Rattle.sched_ops.specs.Timers.{action_of as action_of_spec};
+ghost use Rattle.sched_ops.specs.Timers.{timer_action};
 ghost use Rattle.pool_core.specs.PoolState.{AreWorks};
 ghost use Rattle.pool_core.specs.Order.{IsFirstIn};
 ghost use Rattle.pool_laws.specs.FirstEvents.{IsFirstEnabled, IsNextMoment};
@@ -22,7 +22,7 @@ use unit_state::Guests;
 
 /// The event of a timer.
 fn action_of(timer: Timer) -> Action
-    ensures { result ≡ action_of_spec timer }
+    ensures { result ≡ timer_action timer }
 {
     match timer {
         Timer::Repl(u) => Action::Repl(u),
@@ -115,7 +115,7 @@ fn next_timer<P: Policy>(cores: &CoreState, policy: &P) -> Option<Moment>
     ensures { (g : ℕ) → (guests : GuestsSeen) →
         AreOn (pool_of guests cores.now (P.seen policy.now)) →
         IsLeast (λ timer. ready_in g (pool_of guests cores.now (P.seen policy.now))
-        (action_of_spec timer)) result }
+        (timer_action timer)) result }
 {
     let (at, _) = policy.timer_due(Moment(0))?;
     let end = cores.lowest_end()?;

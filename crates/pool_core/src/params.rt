@@ -2,8 +2,8 @@
 
 ghost use Rattle.std.specs.Prelude.{◌≡◌, ◌≤◌, ◌<◌, ℕ, Some, true, map};
 ghost use Rattle.sched_model.specs.Places.{change_each, numbers_from};
-ghost use Rattle.sched_model.specs.Policy.{kind_of, rate_of};
-ghost use Rattle.sched_model.specs.Pool.{set_params as set_params_spec};
+ghost use Rattle.sched_model.specs.Policy.{records_kind, pool_rate_limit};
+ghost use Rattle.sched_model.specs.Pool.{changed_pool};
 ghost use Rattle.sched_ops.specs.Conditions.{IsChange, IsNow, is_member};
 ghost use Rattle.core_state.specs.Seen.{changed_core};
 ghost use Rattle.pool_records.specs.Cores.{ends_of};
@@ -78,10 +78,10 @@ pub fn set_params<P: Policy>(
     t: Moment,
 )
     requires now { IsNow (P.seen policy.old) t.0 }
-    requires change { IsChange (kind_of (P.seen policy.old).scheduler.records)
+    requires change { IsChange (records_kind (P.seen policy.old).scheduler.records)
         (P.seen policy.old).scheduler change.now }
     ensures pool { pool_of guests.now cores.new (P.seen policy.new)
-        ≡ set_params_spec change.now t.0 (pool_of guests.now cores.old (P.seen policy.old)) }
+        ≡ changed_pool change.now t.0 (pool_of guests.now cores.old (P.seen policy.old)) }
     ensures cores { cores.new ≡ record cores.old { resources = cores.new.resources } }
     ensures spare { (P.seen policy.new).spare ≡ (P.seen policy.old).spare }
     ensures latest { (P.seen policy.new).latest ≡ t.0 }
@@ -126,7 +126,7 @@ fn stored_values<P: Policy>(guests: &Guests, policy: &P, d: Option<DomId>) -> St
 pub fn facts<P: Policy>(guests: &Guests, policy: &P, d: Option<DomId>) -> Facts
     requires known { AreKnown guests.now.granularity guests.now.domains
         (P.seen policy.now).scheduler d }
-    ensures rate { result.rate ≡ rate_of (P.seen policy.now).scheduler.records }
+    ensures rate { result.rate ≡ pool_rate_limit (P.seen policy.now).scheduler.records }
     ensures units { map Some result.units ≡ stored_in guests.now.granularity guests.now.domains
         (P.seen policy.now).scheduler.records d }
 {

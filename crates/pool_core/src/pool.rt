@@ -80,13 +80,13 @@ impl<P: Policy> Model for PoolState<P> {
 impl<P: Policy> PoolState<P> {
     ghost use Rattle.std.specs.Prelude.{◌≡◌, ℕ, ◌≤◌, ◌<◌, ◌+◌, ◌-◌, ◌*◌, true, false, is_some, IsTrue, IfOk, None, Some, length, map, option_map};
     ghost use Rattle.sched_model.specs.CheckedMachine.{IsGranularity};
-    ghost use Rattle.sched_model.specs.State.{has_core as has_bit};
-    ghost use Rattle.sched_model.specs.Commands.{set_rtds};
+    ghost use Rattle.sched_model.specs.State.{has_core_bit};
+    ghost use Rattle.sched_model.specs.Commands.{pool_with_rtds};
     ghost use Rattle.sched_model.specs.Places.{at_place, numbers_from};
-    ghost use Rattle.sched_model.specs.Policy.{default_pool_params, kind_of, rate_of};
+    ghost use Rattle.sched_model.specs.Policy.{standard_pool_params, records_kind, pool_rate_limit};
     ghost use Rattle.sched_ops.specs.Conditions.{AreDomParams, ArePoolParams, IsChange, is_vacant};
     ghost use Rattle.sched_ops.specs.Seen.{restarted_scheduler};
-    ghost use Rattle.core_state.specs.Seen.{stall_until};
+    ghost use Rattle.core_state.specs.Seen.{extended_stall_end};
     ghost use Rattle.pool_records.specs.Cores.{ends_of};
     ghost use Rattle.pool_laws.specs.ReadyMoments.{ready_in};
     ghost use Rattle.pool_laws.specs.CoreLooks.{IsSettled};
@@ -98,7 +98,7 @@ impl<P: Policy> PoolState<P> {
     ghost use Rattle.pool_laws.specs.Actors.{IsFirstBy};
     ghost use Rattle.pool_laws.specs.FirstEvents.{IsFirstEnabled, IsNextMoment};
     ghost use Rattle.sched_model.specs.declared.action.Action.TheVariants.{Arrive, Block, Decide, DomMoved, Leave, Moved, Refill, Repl, Save, Slice, Wake};
-    ghost use Rattle.sched_model.specs.Pool.{enabled_in, event_in, pause as pause_spec, processor_of, set_leaving, set_moving as set_moving_spec, set_params as set_params_spec, settled_pool, unit_count, unpause as unpause_spec, with_domain, without_domain};
+    ghost use Rattle.sched_model.specs.Pool.{enabled_in, event_in, paused_pool, pool_processor, pool_with_leaving, pool_with_moving, changed_pool, settled_pool, domain_unit_count, unpaused_pool, pool_with_domain, pool_without_domain};
     ghost use Rattle.pool_core.specs.Seen.{IsEmpty, IsNow, seen_after, seen_at, vacant_pool, with_core, with_spare, with_stall, without_core};
 
     /// A pool with so many places for domains and for cores of 1, 2 or 4 processors each, at most 64 domains and 64 processors, and room
@@ -117,7 +117,7 @@ impl<P: Policy> PoolState<P> {
         requires vacant { is_vacant (P.seen policy).scheduler ≡ true }
         requires early { (P.seen policy).latest ≡ 0 }
         ensures { IfOk result (λ pool. pool
-            ≡ vacant_pool (default_pool_params (kind_of (P.seen policy).scheduler.records))
+            ≡ vacant_pool (standard_pool_params (records_kind (P.seen policy).scheduler.records))
             granularity
             places.domains places.cores units) }
     {
@@ -139,7 +139,7 @@ impl<P: Policy> PoolState<P> {
     pub fn open(&mut self, params: &PoolParams)
         requires unused { self.old.in_use ≡ false }
         requires empty { IsEmpty self.old.pool }
-        requires params { ArePoolParams (kind_of self.old.pool.scheduler.records) params.now }
+        requires params { ArePoolParams (records_kind self.old.pool.scheduler.records) params.now }
         ensures { self.new ≡ record self.old {
           pool = record self.old.pool {
             scheduler = restarted_scheduler params.now self.old.pool.scheduler;
@@ -209,10 +209,10 @@ impl<P: Policy> PoolState<P> {
     /// The parameters of the scheduler, or of a domain or a unit of it, change. The cores that this concerns are to decide anew.
     pub fn set_params(&mut self, change: &ParamChange, t: Moment)
         requires now { IsNow self.old t.0 }
-        requires change { IsChange (kind_of self.old.pool.scheduler.records) self.old.pool.scheduler
+        requires change { IsChange (records_kind self.old.pool.scheduler.records) self.old.pool.scheduler
             change.now }
         ensures { self.new ≡ seen_at t.0
-            (settled_pool t.0 (set_params_spec change.now t.0 self.old.pool)) self.old }
+            (settled_pool t.0 (changed_pool change.now t.0 self.old.pool)) self.old }
     {
         set_params(&self.guests, &mut self.cores, &mut self.policy, change, t);
         self.latest = t;
@@ -228,7 +228,7 @@ impl<P: Policy> PoolState<P> {
             (at_place self.old.pool.domains d.0) }
         requires given { 0 < count → AreGiven given.period given.budget }
         ensures { self.new ≡ seen_at t.0
-            (settled_pool t.0 (set_rtds t.0 d.0 given.period given.budget given.extra
+            (settled_pool t.0 (pool_with_rtds t.0 d.0 given.period given.budget given.extra
             (numbers_from first count) self.old.pool)) self.old }
     {
         self.guests.keeps();
@@ -241,7 +241,7 @@ impl<P: Policy> PoolState<P> {
     /// The rate limit in microseconds, 0 where the scheduler has none, and the set values of the units of the domain, where one is
     /// named: in order, at most 32, and none where the domain is not here.
     pub fn facts(&self, d: Option<DomId>) -> Facts
-        ensures rate { result.rate ≡ rate_of self.now.pool.scheduler.records }
+        ensures rate { result.rate ≡ pool_rate_limit self.now.pool.scheduler.records }
         ensures units { map Some result.units ≡ stored_in self.now.granularity self.now.pool.domains
             self.now.pool.scheduler.records d }
     {
@@ -251,9 +251,9 @@ impl<P: Policy> PoolState<P> {
     /// The cores and the domains that are here: core r is bit r of the first number, domain d is bit d of the second.
     #[tactic(auto, using(sched_laws::proofs::HomeCores::home_has))]
     pub fn members(&self) -> (u64, u64)
-        ensures cores { (r : ℕ) → has_bit result.0 r
+        ensures cores { (r : ℕ) → has_core_bit result.0 r
             ≡ is_some (at_place self.now.pool.resources r) }
-        ensures domains { (d : ℕ) → has_bit result.1 d
+        ensures domains { (d : ℕ) → has_core_bit result.1 d
             ≡ is_some (at_place self.now.pool.domains d) }
     {
         (self.cores.home().0, self.guests.members())
@@ -269,11 +269,11 @@ impl<P: Policy> PoolState<P> {
         requires place { part.d.0 < length self.old.pool.domains }
         requires absent { at_place self.old.pool.domains part.d.0 ≡ None }
         requires granularity { part.granularity ≡ self.old.granularity }
-        requires room { unit_count part.granularity part.domain ≤ self.old.spare }
-        requires params { AreDomParams (kind_of self.old.pool.scheduler.records) params.now }
-        ensures { self.new ≡ with_spare (self.old.spare - unit_count part.granularity part.domain)
+        requires room { domain_unit_count part.granularity part.domain ≤ self.old.spare }
+        requires params { AreDomParams (records_kind self.old.pool.scheduler.records) params.now }
+        ensures { self.new ≡ with_spare (self.old.spare - domain_unit_count part.granularity part.domain)
             (seen_at t.0 (settled_pool t.0
-            (with_domain self.old.granularity t.0 part.d.0 part.domain
+            (pool_with_domain self.old.granularity t.0 part.d.0 part.domain
             params.now self.old.pool)) self.old) }
     {
         join(
@@ -298,8 +298,8 @@ impl<P: Policy> PoolState<P> {
         ensures domain { at_place self.old.pool.domains d.0 ≡ Some result.domain }
         ensures part { IsPart result }
         ensures after { self.new ≡ with_spare
-            (self.old.spare + unit_count result.granularity result.domain)
-            (record self.old { pool = without_domain d.0 self.old.pool }) }
+            (self.old.spare + domain_unit_count result.granularity result.domain)
+            (record self.old { pool = pool_without_domain d.0 self.old.pool }) }
     {
         self.settled = false;
         take(&mut self.guests, &mut self.policy, d)
@@ -307,7 +307,7 @@ impl<P: Policy> PoolState<P> {
 
     /// A core is leaving; it is to decide where it has a unit.
     pub fn set_leaving(&mut self, r: ResId)
-        ensures { self.new ≡ record self.old { pool = set_leaving r.0 self.old.pool } }
+        ensures { self.new ≡ record self.old { pool = pool_with_leaving r.0 self.old.pool } }
     {
         self.settled = false;
         self.cores.set_leaving(r);
@@ -315,7 +315,7 @@ impl<P: Policy> PoolState<P> {
 
     /// A processor is stalled up to this moment, if it is not yet for longer: the end of its stall.
     pub fn stall(&mut self, p: ProcId, until: Moment) -> Moment
-        ensures end { result ≡ stall_until (processor_of self.old.granularity self.old.pool p.0)
+        ensures end { result ≡ extended_stall_end (pool_processor self.old.granularity self.old.pool p.0)
             until }
         ensures after { self.new ≡ record self.old
             { pool = with_stall self.old.granularity p.0 result self.old.pool } }
@@ -439,7 +439,7 @@ impl<P: Policy> PoolState<P> {
     pub fn pause(&mut self, d: DomId, t: Moment)
         requires now { IsNow self.old t.0 }
         ensures { self.new
-            ≡ seen_at t.0 (settled_pool t.0 (pause_spec d.0 self.old.pool)) self.old }
+            ≡ seen_at t.0 (settled_pool t.0 (paused_pool d.0 self.old.pool)) self.old }
     {
         pause(&mut self.guests, &mut self.cores, &mut self.policy, d);
         self.latest = t;
@@ -452,7 +452,7 @@ impl<P: Policy> PoolState<P> {
     pub fn unpause(&mut self, d: DomId, t: Moment)
         requires now { IsNow self.old t.0 }
         ensures { self.new ≡ seen_at t.0
-            (settled_pool t.0 (unpause_spec self.old.granularity d.0 self.old.pool)) self.old }
+            (settled_pool t.0 (unpaused_pool self.old.granularity d.0 self.old.pool)) self.old }
     {
         unpause(&mut self.guests, &self.cores, &mut self.policy, d);
         self.latest = t;
@@ -463,7 +463,7 @@ impl<P: Policy> PoolState<P> {
     /// A domain is moving to a pool: its units stop waiting, and the cores that run one are to decide anew.
     pub fn set_moving(&mut self, d: DomId, to: PoolId, t: Moment)
         requires now { IsNow self.old t.0 }
-        ensures { self.new ≡ seen_at t.0 (settled_pool t.0 (set_moving_spec d.0 to.0 self.old.pool))
+        ensures { self.new ≡ seen_at t.0 (settled_pool t.0 (pool_with_moving d.0 to.0 self.old.pool))
             self.old }
     {
         set_moving(&mut self.guests, &mut self.cores, &mut self.policy, d, to);

@@ -9,7 +9,7 @@ ghost use Rattle.sched_ops.specs.Seen.{Seen as SchedulerSeen};
 ghost use Rattle.unit_state.specs.Seen.{IsNow, is_awake_among, is_due_among};
 ghost use Rattle.pool_core.specs.Seen.{pool_of};
 ghost use Rattle.pool_core.specs.ProcessorEvents.{IsMoved};
-ghost use Rattle.pool_core.specs.Wakes.{done_started, idles_among, is_held_among, is_queued as is_queued_spec, is_queued_by, joined_works, woken_works, KeepsRoom};
+ghost use Rattle.pool_core.specs.Wakes.{done_started, idles_among, is_held_among, is_queued_save, is_queued_by, joined_works, woken_works, KeepsRoom};
 
 use core_state::CoreState;
 use pool_records::cores::is_idle;
@@ -102,7 +102,7 @@ pub fn wake<P: Policy>(
 
 /// Whether it is the event of a core whose saved unit waits again.
 pub fn is_queued(event: &Event) -> bool
-    ensures { result ≡ is_queued_spec event.now }
+    ensures { result ≡ is_queued_save event.now }
 {
     match event {
         Event::Save { queued, .. } => *queued,

@@ -5,8 +5,8 @@ use Rattle.sched_model.specs.declared.state.Resource.{Resource}
 use Rattle.sched_model.specs.declared.state.Scheduler.{Scheduler}
 use Rattle.sched_model.specs.declared.state.Pool.{Pool}
 use Rattle.sched_model.specs.Places.{change_at, change_each}
-use Rattle.sched_model.specs.Policy.{better_waits}
-use Rattle.sched_model.specs.Pool.{settled_pool, reconsidered_core, change_core, home_cores}
+use Rattle.sched_model.specs.Policy.{has_better_waiting}
+use Rattle.sched_model.specs.Pool.{settled_pool, reconsidered_core, change_core, pool_core_set}
 use Rattle.sched_model.proofs.PlaceLemmas.{cores_from-change_each, cores_from-change_at}
 use Rattle.pool_laws.specs.CoreLooks.{IsSettled, settled_core}
 
@@ -20,10 +20,10 @@ again_core : (t home : ℕ) (scheduler : Scheduler) (r : ℕ) (c : Resource) →
 again_core t home scheduler r c =
     elim c.leaving as (λ leaving. c.leaving ≡ leaving → reconsidered_core t home scheduler r (reconsidered_core t home scheduler r c) ≡ reconsidered_core t home scheduler r c) [
       | true ↦ λ is.
-          let same : reconsidered_core t home scheduler r c ≡ c = ap (λ (b : Bool). if b then c else record c { pending = c.pending || better_waits c.cur c.since.0 t r home scheduler }) is in
+          let same : reconsidered_core t home scheduler r c ≡ c = ap (λ (b : Bool). if b then c else record c { pending = c.pending || has_better_waiting c.cur c.since.0 t r home scheduler }) is in
           ap (reconsidered_core t home scheduler r) same
       | false ↦ λ is.
-          let better : Bool = better_waits c.cur c.since.0 t r home scheduler in
+          let better : Bool = has_better_waiting c.cur c.since.0 t r home scheduler in
           let once : reconsidered_core t home scheduler r c ≡ record c { pending = c.pending || better } = ap (λ (b : Bool). if b then c else record c { pending = c.pending || better }) is in
           let twice : reconsidered_core t home scheduler r (record c { pending = c.pending || better }) ≡ record c { pending = (c.pending || better) || better } =
           ap (λ (b : Bool). if b then record c { pending = c.pending || better } else record c { pending = (c.pending || better) || better }) is in
@@ -39,9 +39,9 @@ again_each n f (Some c ∷ cores) once =
 
 pub settled_again : (t : ℕ) (pool : Pool) → IsSettled t (settled_pool t pool)
 settled_again t pool =
-    let home = home_cores pool in
+    let home = pool_core_set pool in
     let scheduler = pool.scheduler in
-    let same : home_cores (settled_pool t pool) ≡ home = cores_from-change_each 0 0 (reconsidered_core t home scheduler) pool.resources in
+    let same : pool_core_set (settled_pool t pool) ≡ home = cores_from-change_each 0 0 (reconsidered_core t home scheduler) pool.resources in
     ap (λ (k : ℕ). record pool { resources = change_each 0 (reconsidered_core t k scheduler) (change_each 0 (reconsidered_core t home scheduler) pool.resources) }) same
     ∙ ap (λ (cores : List (Option Resource)). record pool { resources = cores }) (again_each 0 (reconsidered_core t home scheduler) pool.resources (again_core t home scheduler))
 
@@ -81,8 +81,8 @@ each_alone n (suc i) look f (c ∷ cores) same =
 
 pub settled_alone : (t r : ℕ) (f : Resource → Resource) (pool : Pool) → IsSettled t pool → settled_pool t (change_core r f pool) ≡ settled_core t r f pool
 settled_alone t r f pool settled_before =
-    let home = home_cores pool in
-    let same : home_cores (change_core r f pool) ≡ home = cores_from-change_at 0 r f pool.resources in
+    let home = pool_core_set pool in
+    let same : pool_core_set (change_core r f pool) ≡ home = cores_from-change_at 0 r f pool.resources in
     let before : change_each 0 (reconsidered_core t home pool.scheduler) pool.resources ≡ pool.resources = ap (λ (x : Pool). x.resources) settled_before in
     ap (λ (k : ℕ). record pool { resources = change_each 0 (reconsidered_core t k pool.scheduler) (change_at r f pool.resources) }) same
     ∙ ap (λ (cores : List (Option Resource)). record pool { resources = cores }) (each_alone 0 r (reconsidered_core t home pool.scheduler) f pool.resources before)

@@ -1,7 +1,7 @@
 //! From when on events may come, and which cores a closure looks at.
 
 ghost use Rattle.std.specs.Prelude.{◌≡◌, ℕ};
-ghost use Rattle.sched_base.specs.Numbers.{has_come};
+ghost use Rattle.sched_base.specs.Numbers.{has_moment_come};
 ghost use Rattle.sched_model.specs.declared.action.Action.{Action};
 ghost use Rattle.sched_model.specs.declared.state.Resource.{Resource};
 ghost use Rattle.sched_model.specs.declared.state.Pool.{Pool};
@@ -13,7 +13,7 @@ ghost use Rattle.pool_laws.specs.CoreLooks.{IsSettled, settled_core};
 /// the first event of a kind.
 pub fn law_ready()
     ensures { (g t : ℕ) → (pool : Pool) → (action : Action) → enabled_in g t pool action
-        ≡ has_come t (ready_in g pool action) }
+        ≡ has_moment_come t (ready_in g pool action) }
 {}
 
 /// After the cores of a pool are looked at, looking again changes nothing. And where one core of such a pool changes alone, at the

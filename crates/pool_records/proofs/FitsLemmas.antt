@@ -8,7 +8,7 @@ use Rattle.sched_base.proofs.Lists.{each_get}
 use Rattle.sched_model.specs.declared.state.Vcpu.{Vcpu}
 use Rattle.sched_model.specs.declared.state.Pool.{Pool}
 use Rattle.sched_model.specs.declared.state.Resource.{Resource}
-use Rattle.sched_model.specs.Pool.{vcpu_for, vcpu_among}
+use Rattle.sched_model.specs.Pool.{vcpu_to_run, vcpu_among}
 use Rattle.sched_model.specs.declared.state.Domain.{Domain}
 use Rattle.sched_model.specs.Places.{at_place, first_place, is_unit}
 use Rattle.sched_laws.specs.EachPlace.{AllPlaces}
@@ -40,11 +40,11 @@ vcpu_among-past domains v all past =
     ] refl
 
 -- past the 32nd no processor has a vCPU
-pub vcpu_for-past : (g : ℕ) (pool : Pool) (c : Resource) (i : ℕ) (u : UnitId) → c.cur ≡ Some u → AllPlaces DomainFits pool.domains → 32 ≤ u.n * g + i → None ≡ vcpu_for g pool c i
+pub vcpu_for-past : (g : ℕ) (pool : Pool) (c : Resource) (i : ℕ) (u : UnitId) → c.cur ≡ Some u → AllPlaces DomainFits pool.domains → 32 ≤ u.n * g + i → None ≡ vcpu_to_run g pool c i
 vcpu_for-past g pool c i u is all past =
     let v : VcpuId = record { dom = u.dom; n = u.n * g + i } in
     let none : vcpu_among pool.domains v ≡ None = vcpu_among-past pool.domains v all past in
-    rw is (rw (none, vcpu_for) refl)
+    rw is (rw (none, vcpu_to_run) refl)
 
 -- what was read at a place inside stands there
 pub at_place-item : {X : Type 0} (places : List (Option X)) (i : ℕ) (o : Option X) → i < length places → o ≡ slice_index_or places i o → at_place places i ≡ o

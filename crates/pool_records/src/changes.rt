@@ -3,7 +3,7 @@
 ghost use Rattle.std.specs.Prelude.{◌≡◌, ◌+◌, min};
 ghost use Rattle.sched_base.specs.Numbers.{moment};
 ghost use Rattle.sched_model.specs.Places.{change_at};
-ghost use Rattle.sched_model.specs.Pool.{due_within, open_if_left as open_if_left_spec, saved_core, saving_among};
+ghost use Rattle.sched_model.specs.Pool.{due_within, reopened_core, saved_core, saving_among};
 
 use crate::cores::any_held;
 use sched_base::{Moment, ResId, UnitId};
@@ -39,7 +39,7 @@ pub fn bring_due_at(r: usize, t: Moment, budget: u64, cores: &mut Row<Option<Res
 
 /// The stage is open again once nobody is held.
 pub fn open_if_left(r: ResId, cores: &mut Row<Option<Resource>>)
-    ensures { cores.new ≡ change_at r.0 open_if_left_spec cores.old }
+    ensures { cores.new ≡ change_at r.0 reopened_core cores.old }
 {
     let place = r.0 as usize;
     if place < cores.len() {

@@ -4,9 +4,9 @@ ghost use Rattle.std.specs.Prelude.{◌≡◌, ℕ, ◌+◌, ◌<◌, ◌≤◌,
 ghost use Rattle.std.specs.List.{list_any, list_all};
 ghost use Rattle.sched_model.specs.declared.state.Resource.{Resource as ResourceRecord};
 ghost use Rattle.sched_model.specs.Places.{first_place, numbered_items, is_unit};
-ghost use Rattle.sched_model.specs.Pool.{cores_from, is_held as is_held_spec, is_idle as is_idle_spec, is_of_domain as is_of_domain_spec, is_open as is_open_spec, first_up as first_up_spec, lateness};
-ghost use Rattle.sched_model.specs.State.{is_up as is_up_spec};
-ghost use Rattle.sched_base.specs.Numbers.{has_come as has_come_spec, span};
+ghost use Rattle.sched_model.specs.Pool.{cores_from, is_held_back, is_idling, is_domain_unit, is_gathering, is_first_processor_up, lateness};
+ghost use Rattle.sched_model.specs.State.{is_not_stalled};
+ghost use Rattle.sched_base.specs.Numbers.{has_moment_come, span};
 
 use sched_base::{DomId, Moment, Span, UnitId};
 use sched_model::state::{Doing, Processor, Resource, Stage};
@@ -28,7 +28,7 @@ pub fn home_cores(cores: &[Option<Resource>]) -> u64
 
 /// Whether the moment has come at t.
 pub fn has_come(t: Moment, moment: Option<Moment>) -> bool
-    ensures { result ≡ has_come_spec t.0 moment }
+    ensures { result ≡ has_moment_come t.0 moment }
 {
     match moment {
         None => false,
@@ -38,14 +38,14 @@ pub fn has_come(t: Moment, moment: Option<Moment>) -> bool
 
 /// Whether the processor is not stalled at t.
 pub fn is_up(t: Moment, p: &Processor) -> bool
-    ensures { result ≡ is_up_spec t.0 p.now }
+    ensures { result ≡ is_not_stalled t.0 p.now }
 {
     p.stall_end.0 <= t.0
 }
 
 /// Whether the processor waits for its siblings.
 pub fn is_held(p: &Processor) -> bool
-    ensures { result ≡ is_held_spec p.now }
+    ensures { result ≡ is_held_back p.now }
 {
     match p.doing {
         Doing::Held => true,
@@ -55,7 +55,7 @@ pub fn is_held(p: &Processor) -> bool
 
 /// Whether the processor idles.
 pub fn is_idle(p: &Processor) -> bool
-    ensures { result ≡ is_idle_spec p.now }
+    ensures { result ≡ is_idling p.now }
 {
     match p.doing {
         Doing::Idle => true,
@@ -65,7 +65,7 @@ pub fn is_idle(p: &Processor) -> bool
 
 /// Whether the core's siblings still gather.
 pub fn is_open(c: &Resource) -> bool
-    ensures { result ≡ is_open_spec c.now }
+    ensures { result ≡ is_gathering c.now }
 {
     match c.stage {
         Stage::Open => true,
@@ -75,7 +75,7 @@ pub fn is_open(c: &Resource) -> bool
 
 /// Whether the core's first processor is up at t.
 pub fn first_up(t: Moment, c: &Resource) -> bool
-    ensures { result ≡ first_up_spec t.0 c.now }
+    ensures { result ≡ is_first_processor_up t.0 c.now }
 {
     match c.processors.as_slice() {
         [] => false,
@@ -85,14 +85,14 @@ pub fn first_up(t: Moment, c: &Resource) -> bool
 
 /// Whether each of the processors waits for its siblings.
 pub fn all_held(processors: &[Processor]) -> bool
-    ensures { result ≡ list_all is_held_spec processors.now }
+    ensures { result ≡ list_all is_held_back processors.now }
 {
     processors.iter().all(|p| is_held(p))
 }
 
 /// Whether some of the processors waits for its siblings.
 pub fn any_held(processors: &[Processor]) -> bool
-    ensures { result ≡ list_any is_held_spec processors.now }
+    ensures { result ≡ list_any is_held_back processors.now }
 {
     processors.iter().any(|p| is_held(p))
 }
@@ -153,8 +153,8 @@ pub fn is_on_core(r: usize, cores: &[Option<Resource>], u: UnitId) -> bool
 /// Whether some unit of the domain is cur or saving of one of the cores, where the first of these has the number r.
 pub fn has_domain(r: usize, cores: &[Option<Resource>], d: DomId) -> bool
     requires { r + length cores.now < 2 ^ 64 }
-    ensures { result ≡ list_any (λ (e : ℕ × ResourceRecord). is_of_domain_spec d.0 e.1.cur
-        || is_of_domain_spec d.0 e.1.saving) (numbered_items r cores.now) }
+    ensures { result ≡ list_any (λ (e : ℕ × ResourceRecord). is_domain_unit d.0 e.1.cur
+        || is_domain_unit d.0 e.1.saving) (numbered_items r cores.now) }
 {
     match cores {
         [] => false,
@@ -177,7 +177,7 @@ pub fn lateness_of(t: Moment, c: &Resource) -> Span
 
 /// Whether the unit that stands there, if any does, is one of the domain.
 pub fn is_of_domain(d: DomId, there: Option<UnitId>) -> bool
-    ensures { result ≡ is_of_domain_spec d.0 there }
+    ensures { result ≡ is_domain_unit d.0 there }
 {
     match there {
         None => false,

@@ -1,9 +1,9 @@
 //! Cores that join a pool and leave it, and the ends of their stalls. g is the number of a core's processors.
 
 ghost use Rattle.std.specs.Prelude.{◌≡◌, ◌<◌, ◌/◌, ◌%◌, map, option_map};
-ghost use Rattle.sched_model.specs.Opening.{fresh_core as fresh_core_spec};
+ghost use Rattle.sched_model.specs.Opening.{joined_core};
 ghost use Rattle.sched_model.specs.Places.{at_place, put_at, clear_at, change_at, change_item};
-ghost use Rattle.sched_model.specs.Pool.{set_leaving as set_leaving_spec, change_processor};
+ghost use Rattle.sched_model.specs.Pool.{pool_with_leaving, change_processor};
 ghost use Rattle.pool_records.specs.Cores.{fresh_processor, ends_of, leaving_core, stalled_to, with_sibling};
 
 use sched_base::{Moment, ProcId, ResId};
@@ -29,7 +29,7 @@ fn fresh_processors(stall_ends: &StallEnds) -> Processors
 
 /// A core that joins a pool, with the ends of its processors' stalls: it is to decide.
 pub fn fresh_core(stall_ends: &StallEnds) -> Resource
-    ensures { result ≡ fresh_core_spec stall_ends.now }
+    ensures { result ≡ joined_core stall_ends.now }
 {
     Resource {
         cur: None,
@@ -46,7 +46,7 @@ pub fn fresh_core(stall_ends: &StallEnds) -> Resource
 /// The core joins the pool, with the ends of its processors' stalls.
 pub fn put_core(r: ResId, stall_ends: &StallEnds, pool: &mut Pool)
     ensures { pool.new ≡ record pool.old
-        { resources = put_at r.0 (fresh_core_spec stall_ends.now) pool.old.resources } }
+        { resources = put_at r.0 (joined_core stall_ends.now) pool.old.resources } }
 {
     set_place(&mut pool.resources, r.0, Some(fresh_core(stall_ends)));
 }
@@ -88,7 +88,7 @@ pub fn mark_leaving(r: ResId, cores: &mut Row<Option<Resource>>)
 
 /// The pool's core is leaving.
 pub fn set_leaving(r: ResId, pool: &mut Pool)
-    ensures { pool.new ≡ set_leaving_spec r.0 pool.old }
+    ensures { pool.new ≡ pool_with_leaving r.0 pool.old }
 {
     mark_leaving(r, &mut pool.resources);
 }

@@ -2,8 +2,8 @@
 
 ghost use Rattle.std.specs.Prelude.{◌≡◌, ◌≤◌, ◌<◌, replicate};
 ghost use Rattle.sched_base.specs.Numbers.{moment};
-ghost use Rattle.sched_model.specs.State.{has_core as has_core_spec};
-ghost use Rattle.sched_model.specs.Opening.{core_count as core_count_spec};
+ghost use Rattle.sched_model.specs.State.{has_core_bit};
+ghost use Rattle.sched_model.specs.Opening.{machine_core_count};
 
 use sched_base::{Moment, ResId};
 use sched_model::config::Config;
@@ -13,7 +13,7 @@ use sched_model::short::Short;
 /// Whether the core is in the set.
 pub fn has_core(cores: u64, r: ResId) -> bool
     requires { r.0 < 64 }
-    ensures { result ≡ has_core_spec cores r.0 }
+    ensures { result ≡ has_core_bit cores r.0 }
 {
     cores / (1u64 << r.0) % 2 == 1
 }
@@ -34,7 +34,7 @@ pub fn no_stalls(g: u8) -> StallEnds
 /// How many cores the machine has.
 pub fn core_count(config: &Config) -> u8
     requires { 0 < config.now.granularity }
-    ensures { result ≡ core_count_spec config.now }
+    ensures { result ≡ machine_core_count config.now }
 {
     config.processors / config.granularity
 }

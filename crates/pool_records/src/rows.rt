@@ -1,7 +1,7 @@
 //! The vCPUs of a domain at the opening, and scripts once more.
 
 ghost use Rattle.std.specs.Prelude.{◌≡◌, ◌+◌, ◌≤◌, ◌<◌, ◌^◌, ◌∷◌, [], List, Option, Some, None, IfOk, replicate, length, map};
-ghost use Rattle.sched_model.specs.Opening.{fresh_vcpu as fresh_vcpu_spec};
+ghost use Rattle.sched_model.specs.Opening.{vcpu_at_opening};
 
 use sched_base::{NoMemory, Span};
 use sched_model::config::Script;
@@ -22,7 +22,7 @@ fn same_script(alloc: Global, script: &Script) -> Result<Script, NoMemory>
 
 /// A vCPU at the opening: awake, with the first run of its script as work left.
 fn fresh_vcpu(alloc: Global, script: &Script) -> Result<Vcpu, NoMemory>
-    ensures { IfOk result (λ v. v ≡ fresh_vcpu_spec script.now) }
+    ensures { IfOk result (λ v. v ≡ vcpu_at_opening script.now) }
 {
     let work_left = match script.as_slice() {
         [] => None,
@@ -39,7 +39,7 @@ fn fresh_vcpu(alloc: Global, script: &Script) -> Result<Vcpu, NoMemory>
 
 /// The vCPUs of a domain at the opening.
 pub fn fresh_vcpus(alloc: Global, guests: &[Script]) -> Result<Vcpus, NoMemory>
-    ensures { IfOk result (λ vcpus. vcpus ≡ map fresh_vcpu_spec guests.now) }
+    ensures { IfOk result (λ vcpus. vcpus ≡ map vcpu_at_opening guests.now) }
 {
     let mut vcpus = Vec::new(alloc);
     for script in guests {

@@ -1,7 +1,7 @@
 //! The units of a domain. g is the number of a core's processors.
 
 ghost use Rattle.std.specs.Prelude.{◌≡◌, ◌<◌, ◌≤◌, length};
-ghost use Rattle.sched_model.specs.Pool.{unit_count as unit_count_spec, unit_of as unit_of_spec};
+ghost use Rattle.sched_model.specs.Pool.{domain_unit_count, vcpu_unit};
 
 use sched_base::{UnitId, VcpuId};
 use sched_model::state::Domain;
@@ -11,7 +11,7 @@ pub fn unit_count(g: u8, domain: &Domain) -> u8
     requires some { 0 < g }
     requires few { g ≤ 4 }
     requires vcpus { length domain.now.vcpus ≤ 32 }
-    ensures count { result ≡ unit_count_spec g domain.now }
+    ensures count { result ≡ domain_unit_count g domain.now }
     ensures fits { result ≤ 32 }
 {
     ((domain.vcpus.len() + g as usize - 1) / g as usize) as u8
@@ -20,7 +20,7 @@ pub fn unit_count(g: u8, domain: &Domain) -> u8
 /// The unit of a vCPU.
 pub fn unit_of(g: u8, v: VcpuId) -> UnitId
     requires { 0 < g }
-    ensures { result ≡ unit_of_spec g v }
+    ensures { result ≡ vcpu_unit g v }
 {
     UnitId {
         dom: v.dom,

@@ -8,7 +8,7 @@ ghost use Rattle.sched_model.specs.declared.state.Vcpu.{Vcpu as VcpuRecord};
 ghost use Rattle.sched_model.specs.declared.state.Domain.{Domain as DomainRecord};
 ghost use Rattle.sched_model.specs.Places.{change_at, change_item};
 ghost use Rattle.sched_laws.specs.EachPlace.{AllPlaces};
-ghost use Rattle.sched_model.specs.Pool.{done_at as done_at_spec, put_to_sleep, stopped_vcpu, woken_vcpu, vcpu_among};
+ghost use Rattle.sched_model.specs.Pool.{done_moment, put_to_sleep, stopped_vcpu, woken_vcpu, vcpu_among};
 ghost use Rattle.pool_records.specs.Fits.{DomainFits, VcpuFits};
 
 use sched_base::{Moment, Span, VcpuId};
@@ -36,7 +36,7 @@ fn vcpu_in(domain: &Domain, n: usize) -> Option<&Vcpu>
 /// The moment at which the vCPU's work is done, where it is run and its work has an end.
 pub fn done_at(v: &Vcpu) -> Option<Moment>
     requires { VcpuFits v.now }
-    ensures { result ≡ done_at_spec v.now }
+    ensures { result ≡ done_moment v.now }
 {
     let from = v.started?;
     let work = v.work_left?;

@@ -6,7 +6,7 @@ use Rattle.std.proofs.Math.Decide.{ℕ_discrete}
 use Rattle.std.proofs.lemmas.List.{length-replicate, length-append}
 use Rattle.sched_base.specs.declared.UnitId.{UnitId}
 use Rattle.sched_base.specs.declared.Cores.{Cores}
-use Rattle.sched_model.specs.Places.{at_place, put_at, clear_at, has_unit, same_unit}
+use Rattle.sched_model.specs.Places.{at_place, put_at, clear_at, has_listed_unit, same_unit}
 use Rattle.sched_model.specs.Policy.{pinned_cores}
 use Rattle.sched_base.specs.CoreSets.{every_core}
 use Rattle.sched_ops.specs.Conditions.{IsApart}
@@ -19,19 +19,19 @@ use Rattle.sched_ops.specs.Affinity.{is_member_among}
 use Rattle.sched_ops.proofs.Affinity.{count_all-put_at, count_all-clear_at, count_all-change_at, count_at-change_at, count_all-empty, no_more_wait, each_here}
 use Rattle.std.proofs.Math.Bool.{or-false}
 
-pub has_unit-push : (u w : UnitId) (units : List UnitId) → has_unit (units ++ w ∷ []) u ≡ (has_unit units u || same_unit u w)
+pub has_unit-push : (u w : UnitId) (units : List UnitId) → has_listed_unit (units ++ w ∷ []) u ≡ (has_listed_unit units u || same_unit u w)
 has_unit-push u w [] = or-false (same_unit u w)
 has_unit-push u w (x ∷ units) =
-    elim (same_unit u x) as (λ b. (b || has_unit (units ++ w ∷ []) u) ≡ ((b || has_unit units u) || same_unit u w)) [
+    elim (same_unit u x) as (λ b. (b || has_listed_unit (units ++ w ∷ []) u) ≡ ((b || has_listed_unit units u) || same_unit u w)) [
       | true ↦ refl
       | false ↦ has_unit-push u w units
     ]
 
 -- a unit behind all others
-apart_push : (units : List UnitId) (w : UnitId) → has_unit units w ≡ false → IsApart units → IsApart (units ++ w ∷ [])
+apart_push : (units : List UnitId) (w : UnitId) → has_listed_unit units w ≡ false → IsApart units → IsApart (units ++ w ∷ [])
 apart_push [] w absent apart = (refl, tt)
 apart_push (x ∷ units) w absent apart =
-    let split : (same_unit w x ≡ false) × (has_unit units w ≡ false) = elim (same_unit w x) as (λ b. (b || has_unit units w) ≡ false → (b ≡ false) × (has_unit units w ≡ false)) [ true ↦ λ e. absurd (cc) | false ↦ λ e. (refl, e) ] absent in
+    let split : (same_unit w x ≡ false) × (has_listed_unit units w ≡ false) = elim (same_unit w x) as (λ b. (b || has_listed_unit units w) ≡ false → (b ≡ false) × (has_listed_unit units w ≡ false)) [ true ↦ λ e. absurd (cc) | false ↦ λ e. (refl, e) ] absent in
     let other : same_unit x w ≡ false = elim (same_unit x w) as (λ b. same_unit x w ≡ b → b ≡ false) [
       | true ↦ λ is. (let e = same_unit_same x w is in let s : same_unit w x ≡ true = subst (λ (y : UnitId). same_unit w y ≡ true) (sym e) (same_unit_refl w) in cc)
       | false ↦ λ is. refl
@@ -39,17 +39,17 @@ apart_push (x ∷ units) w absent apart =
     (has_unit-push x w units ∙ ap (λ b. b || same_unit x w) apart.0 ∙ other, apart_push units w split.1 apart.1)
 
 -- some of the units
-has_unit-filter : (test : UnitId → Bool) (u : UnitId) (units : List UnitId) → has_unit (filter test units) u ≡ true → has_unit units u ≡ true
+has_unit-filter : (test : UnitId → Bool) (u : UnitId) (units : List UnitId) → has_listed_unit (filter test units) u ≡ true → has_listed_unit units u ≡ true
 has_unit-filter test u [] has = has
 has_unit-filter test u (w ∷ units) has =
-    elim (test w) as (λ b. has_unit (cond b (w ∷ filter test units) (filter test units)) u ≡ true → (same_unit u w || has_unit units u) ≡ true) [
-      | true ↦ λ is. elim (same_unit u w) as (λ b. (b || has_unit (filter test units) u) ≡ true → (b || has_unit units u) ≡ true) [ true ↦ λ e. refl | false ↦ λ e. has_unit-filter test u units e ] is
+    elim (test w) as (λ b. has_listed_unit (cond b (w ∷ filter test units) (filter test units)) u ≡ true → (same_unit u w || has_listed_unit units u) ≡ true) [
+      | true ↦ λ is. elim (same_unit u w) as (λ b. (b || has_listed_unit (filter test units) u) ≡ true → (b || has_listed_unit units u) ≡ true) [ true ↦ λ e. refl | false ↦ λ e. has_unit-filter test u units e ] is
       | false ↦ λ is. (let r = has_unit-filter test u units is in let or_true : (b : Bool) → (b || true) ≡ true = elim [ true ↦ refl | false ↦ refl ] in ap (λ b. same_unit u w || b) r ∙ or_true (same_unit u w))
     ] has
 
-has_unit-filter_none : (test : UnitId → Bool) (u : UnitId) (units : List UnitId) → has_unit units u ≡ false → has_unit (filter test units) u ≡ false
+has_unit-filter_none : (test : UnitId → Bool) (u : UnitId) (units : List UnitId) → has_listed_unit units u ≡ false → has_listed_unit (filter test units) u ≡ false
 has_unit-filter_none test u units none =
-    elim (has_unit (filter test units) u) as (λ b. has_unit (filter test units) u ≡ b → b ≡ false) [
+    elim (has_listed_unit (filter test units) u) as (λ b. has_listed_unit (filter test units) u ≡ b → b ≡ false) [
       | true ↦ λ is. (let has = has_unit-filter test u units is in cc)
       | false ↦ λ is. refl
     ] refl
@@ -111,13 +111,13 @@ whole_parted d units none whole =
       room = (let less = count_all-clear_at d units.affinity in let was = whole.room in omega (arith, less, was));
     }
 
-pub whole_enqueued : (u : UnitId) (units : Units) → is_member_among units.affinity u ≡ true → has_unit units.queue u ≡ false → IsWhole units → IsWhole (after_enqueue u units)
+pub whole_enqueued : (u : UnitId) (units : Units) → is_member_among units.affinity u ≡ true → has_listed_unit units.queue u ≡ false → IsWhole units → IsWhole (after_enqueue u units)
 whole_enqueued u units member absent whole =
     record {
       apart = apart_push units.queue u absent whole.apart;
       members = λ w has. (
-          let split : (has_unit units.queue w || same_unit w u) ≡ true = sym (has_unit-push w u units.queue) ∙ has in
-          elim (has_unit units.queue w) as (λ b. has_unit units.queue w ≡ b → (b || same_unit w u) ≡ true → is_member_among units.affinity w ≡ true) [
+          let split : (has_listed_unit units.queue w || same_unit w u) ≡ true = sym (has_unit-push w u units.queue) ∙ has in
+          elim (has_listed_unit units.queue w) as (λ b. has_listed_unit units.queue w ≡ b → (b || same_unit w u) ≡ true → is_member_among units.affinity w ≡ true) [
             | true ↦ λ is e. whole.members w is
             | false ↦ λ is e. subst (λ (x : UnitId). is_member_among units.affinity x ≡ true) (sym (same_unit_same w u e)) member
           ] refl split
@@ -150,7 +150,7 @@ whole_vacant domains spare few =
     }
 
 -- a unit that has joined and does not wait finds room to wait
-pub room_to_wait : (u : UnitId) (units : Units) → is_member_among units.affinity u ≡ true → has_unit units.queue u ≡ false → IsWhole units → length units.queue < 256
+pub room_to_wait : (u : UnitId) (units : Units) → is_member_among units.affinity u ≡ true → has_listed_unit units.queue u ≡ false → IsWhole units → length units.queue < 256
 room_to_wait u units member absent whole =
     let more = whole_enqueued u units member absent whole in
     let few = no_more_wait units.affinity (units.queue ++ u ∷ []) more.apart (each_here (λ w. is_member_among units.affinity w ≡ true) (units.queue ++ u ∷ []) more.members) in
@@ -164,10 +164,10 @@ affinity_of_vacant [] vacant = refl
 affinity_of_vacant (None ∷ places) vacant = ap (λ (ps : List (Option (List Cores))). None ∷ ps) (affinity_of_vacant places vacant)
 affinity_of_vacant (Some sets ∷ places) vacant = absurd (cc)
 
-none_waits : (queue : List UnitId) → ((u : UnitId) → has_unit queue u ≡ true → ⊥) → queue ≡ []
+none_waits : (queue : List UnitId) → ((u : UnitId) → has_listed_unit queue u ≡ true → ⊥) → queue ≡ []
 none_waits [] none = refl
 none_waits (u ∷ queue) none = absurd (none u (let s = same_unit_refl u in rw s refl))
 
-pub queue_of_vacant : (queue : List UnitId) (affinity : List (Option (List Cores))) → ((u : UnitId) → has_unit queue u ≡ true → is_member_among affinity u ≡ true) → not (list_any is_some affinity) ≡ true → queue ≡ []
+pub queue_of_vacant : (queue : List UnitId) (affinity : List (Option (List Cores))) → ((u : UnitId) → has_listed_unit queue u ≡ true → is_member_among affinity u ≡ true) → not (list_any is_some affinity) ≡ true → queue ≡ []
 queue_of_vacant queue affinity members vacant =
     none_waits queue (λ u has. none_in u affinity (ap (λ (ps : List (Option (List Cores))). at_place ps u.dom.0) (affinity_of_vacant affinity vacant) ∙ at_place-replicate (length affinity) u.dom.0) (members u has))

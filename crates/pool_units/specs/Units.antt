@@ -2,11 +2,11 @@
 use Rattle.std.specs.Prelude.{ℕ, ◌+◌, ◌-◌, ◌≡◌, ◌≤◌, true, false, List, [], ◌∷◌, ◌++◌, Option, None, replicate}
 use Rattle.sched_base.specs.declared.UnitId.{UnitId}
 use Rattle.sched_base.specs.declared.Cores.{Cores}
-use Rattle.sched_model.specs.Places.{put_at, clear_at, change_at, has_unit, without_unit}
+use Rattle.sched_model.specs.Places.{put_at, clear_at, change_at, has_listed_unit, without_unit}
 use Rattle.sched_model.specs.Policy.{pinned_cores}
 use Rattle.sched_base.specs.CoreSets.{every_core}
 use Rattle.sched_ops.specs.Conditions.{IsApart}
-use Rattle.sched_ops.specs.Affinity.{count_at, count_all, is_member_among}
+use Rattle.sched_ops.specs.Affinity.{joined_unit_count, count_all, is_member_among}
 
 -- the units that wait, in order of arrival; the sets of cores of each domain's units; and how many units may still join
 pub record Units : Type 0 where
@@ -20,7 +20,7 @@ vacant_units domains units = record { queue = []; affinity = replicate domains N
 
 -- none of the domain's units waits
 abbrev pub HasNoneWaiting : Units → ℕ → Type 0
-HasNoneWaiting units d = (u : UnitId) → u.dom.0 ≡ d → has_unit units.queue u ≡ false
+HasNoneWaiting units d = (u : UnitId) → u.dom.0 ≡ d → has_listed_unit units.queue u ≡ false
 
 -- the domain d joins with so many units, which may have all cores
 abbrev pub after_join : ℕ → ℕ → Units → Units
@@ -28,7 +28,7 @@ after_join d count units = record units { affinity = put_at d (replicate count e
 
 -- the domain d parts
 abbrev pub after_part : ℕ → Units → Units
-after_part d units = record units { affinity = clear_at d units.affinity; spare = units.spare + count_at units.affinity d }
+after_part d units = record units { affinity = clear_at d units.affinity; spare = units.spare + joined_unit_count units.affinity d }
 
 -- the unit waits behind all others
 abbrev pub after_enqueue : UnitId → Units → Units
@@ -45,5 +45,5 @@ pinned_in d unit cores units = record units { affinity = change_at d (pinned_cor
 -- no unit waits twice, those that wait have joined, and no more than 256 ever do
 pub record IsWhole (units : Units) : Type 0 where
   pub apart : IsApart units.queue
-  pub members : (u : UnitId) → has_unit units.queue u ≡ true → is_member_among units.affinity u ≡ true
+  pub members : (u : UnitId) → has_listed_unit units.queue u ≡ true → is_member_among units.affinity u ≡ true
   pub room : count_all units.affinity + units.spare ≤ 256

@@ -4,7 +4,7 @@
 #![tactic(auto)]
 
 ghost use Rattle.std.specs.Prelude.{◌≡◌, ◌≤◌, ◌<◌, Some, None, true, false, length, IfOk, unwrap_or, [], slice_set};
-ghost use Rattle.sched_model.specs.Places.{at_place, change_at, has_unit};
+ghost use Rattle.sched_model.specs.Places.{at_place, change_at, has_listed_unit};
 ghost use Rattle.sched_model.specs.Policy.{pinned_cores};
 ghost use Rattle.sched_model.specs.EligibleUnits.{is_allowed_by};
 ghost use Rattle.sched_ops.specs.Conditions.{IsApart};
@@ -75,7 +75,7 @@ fn pin_sets(affinity: &mut Option<Row<Option<Pins>>>, d: DomId, unit: Option<u8>
 impl PoolUnits {
     ghost use Rattle.std.specs.Prelude.{◌≡◌, ◌≤◌, ◌<◌, Some, None, true, false, length, IfOk};
     ghost use Rattle.pool_units.specs.Units.{vacant_units, HasNoneWaiting, after_join, after_part, after_enqueue, after_dequeue, pinned_in};
-    ghost use Rattle.sched_ops.specs.Affinity.{count_at, is_member_among};
+    ghost use Rattle.sched_ops.specs.Affinity.{joined_unit_count, is_member_among};
     /// No unit, no place for a domain and no room. It has no memory.
     pub fn empty() -> Self
         ensures { result ≡ vacant_units 0 0 }
@@ -118,7 +118,7 @@ impl PoolUnits {
 
     /// How many units the domain has: none where it has not joined.
     pub fn count(&self, d: DomId) -> usize
-        ensures { result ≡ count_at self.now.affinity d.0 }
+        ensures { result ≡ joined_unit_count self.now.affinity d.0 }
     {
         let affinity = self.affinity();
         match item_at(affinity, d.0 as usize) {
@@ -140,7 +140,7 @@ impl PoolUnits {
     /// The unit, which has joined and does not wait, waits behind all others.
     pub fn enqueue(&mut self, u: UnitId)
         requires member { is_member_among self.old.affinity u ≡ true }
-        requires waits_not { has_unit self.old.queue u ≡ false }
+        requires waits_not { has_listed_unit self.old.queue u ≡ false }
         ensures { self.new ≡ after_enqueue u self.old }
     {
         self.marks.set(u, true);
@@ -160,7 +160,7 @@ impl PoolUnits {
 
     /// Whether the unit waits.
     pub fn waits(&self, u: UnitId) -> bool
-        ensures { result ≡ has_unit self.now.queue u }
+        ensures { result ≡ has_listed_unit self.now.queue u }
     {
         self.marks.get(u)
     }
@@ -200,7 +200,7 @@ impl PoolUnits {
     /// Does nothing, and tells what is always so: no unit waits twice, and those that wait have joined.
     pub fn keeps(&self)
         ensures apart { IsApart self.now.queue }
-        ensures members { (u : UnitId) → has_unit self.now.queue u ≡ true →
+        ensures members { (u : UnitId) → has_listed_unit self.now.queue u ≡ true →
             is_member_among self.now.affinity u ≡ true }
     {
         let _ = &self.queue;

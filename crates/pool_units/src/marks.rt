@@ -50,7 +50,7 @@ fn has_mark(places: &[bool], place: usize) -> bool
 
 impl Marks {
     ghost use Rattle.std.specs.Prelude.{◌≡◌, ◌*◌, true, false, [], replicate, slice_set, IfOk};
-    ghost use Rattle.unit_places.specs.Places.{has_place as placed, index_of as place_index};
+    ghost use Rattle.unit_places.specs.Places.{has_unit_place, unit_index};
     ghost use Rattle.pool_units.specs.Marks.{is_marked};
 
     /// No place. It has no memory.
@@ -72,8 +72,8 @@ impl Marks {
 
     /// Marks a unit that has a place, or takes its mark away.
     pub fn set(&mut self, u: UnitId, mark: bool)
-        requires { placed u ≡ true }
-        ensures { self.new ≡ slice_set self.old (place_index u) mark }
+        requires { has_unit_place u ≡ true }
+        ensures { self.new ≡ slice_set self.old (unit_index u) mark }
     {
         set_mark(&mut self.places, index_of(u), mark);
     }

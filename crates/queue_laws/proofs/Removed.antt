@@ -5,7 +5,7 @@ use Rattle.std.specs.List.{AllByRecursion}
 use Rattle.std.proofs.lemmas.Bool.{cases_eq, cases_lt, cases_Bool, eq-eqb, ne_eqb, lt-ltb, le-ltb}
 use Rattle.sched_base.specs.declared.UnitId.{UnitId}
 use Rattle.unit_places.specs.Places.{number_of}
-use Rattle.sched_model.specs.Places.{same_unit, without_unit, has_unit as has}
+use Rattle.sched_model.specs.Places.{same_unit, without_unit, has_listed_unit}
 use Rattle.arrival_queue.specs.declared.key.Key.{Key}
 use Rattle.arrival_queue.specs.Queues.{Queued, queued_unit, goes_before, is_of, put_first, list_with, list_without, rank_in, closed_up, has_unit}
 use Rattle.queue_laws.specs.Arrivals.{arrival_order, arrivals, LacksRank, HasRanks, LacksUnit, HasUnits, HasIndices}
@@ -337,7 +337,7 @@ arrivals_moved u key es others ranks units low lows has r is_rank =
         among (y ∷ l) each = among l each.1
 
 -- a unit waits where it is in the queue
-pub has_arrived : (u : UnitId) (es : List Queued) → u.n < 256 → HasIndices es → has (arrivals es) u ≡ has_unit u es
+pub has_arrived : (u : UnitId) (es : List Queued) → u.n < 256 → HasIndices es → has_listed_unit (arrivals es) u ≡ has_unit u es
 has_arrived u [] low lows = refl
 has_arrived u (e ∷ es) low lows =
     has_put (arrival_order es) ∙ ap (λ (t : Bool). same_unit u e.unit || t) (has_arrived u es low lows.1) ∙ ap (λ (t : Bool). t || has_unit u es) (sym (is_of_same u e low lows.0))
@@ -347,10 +347,10 @@ has_arrived u (e ∷ es) low lows =
     swap true false c = refl
     swap false b c = refl
 
-    has_put : (xs : List Queued) → has (map (λ (x : Queued). x.unit) (ins e xs)) u ≡ (same_unit u e.unit || has (map (λ (x : Queued). x.unit) xs) u)
+    has_put : (xs : List Queued) → has_listed_unit (map (λ (x : Queued). x.unit) (ins e xs)) u ≡ (same_unit u e.unit || has_listed_unit (map (λ (x : Queued). x.unit) xs) u)
     has_put [] = refl
     has_put (x ∷ xs) =
-        elim (nat_lt e.rank x.rank) as (λ t. has (map (λ (y : Queued). y.unit) (if t then e ∷ x ∷ xs else x ∷ ins e xs)) u ≡ (same_unit u e.unit || (same_unit u x.unit || has (map (λ (y : Queued). y.unit) xs) u))) [
+        elim (nat_lt e.rank x.rank) as (λ t. has_listed_unit (map (λ (y : Queued). y.unit) (if t then e ∷ x ∷ xs else x ∷ ins e xs)) u ≡ (same_unit u e.unit || (same_unit u x.unit || has_listed_unit (map (λ (y : Queued). y.unit) xs) u))) [
           | true ↦ refl
-          | false ↦ ap (λ (t : Bool). same_unit u x.unit || t) (has_put xs) ∙ swap (same_unit u x.unit) (same_unit u e.unit) (has (map (λ (y : Queued). y.unit) xs) u)
+          | false ↦ ap (λ (t : Bool). same_unit u x.unit || t) (has_put xs) ∙ swap (same_unit u x.unit) (same_unit u e.unit) (has_listed_unit (map (λ (y : Queued). y.unit) xs) u)
         ]

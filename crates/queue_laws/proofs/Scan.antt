@@ -6,7 +6,7 @@ use Rattle.std.proofs.lemmas.Bool.{cases_lt, cases_Bool, lt-ltb, le-ltb}
 use Rattle.sched_base.specs.declared.UnitId.{UnitId}
 use Rattle.sched_base.proofs.Bools.{and_left}
 use Rattle.arrival_queue.specs.declared.key.Key.{Key}
-use Rattle.arrival_queue.specs.Queues.{Queued, is_less, goes_before}
+use Rattle.arrival_queue.specs.Queues.{Queued, is_lesser_key, goes_before}
 use Rattle.arrival_queue.specs.Filters.{first_that}
 use Rattle.arrival_queue.specs.Order.{GoesBeforeAll, IsInOrder}
 use Rattle.queue_laws.specs.Arrivals.{arrival_order, arrivals, HasKeys, least_by, own_or}
@@ -18,13 +18,13 @@ abbrev passing : (UnitId → Bool) → List Queued → List UnitId
 passing p xs = filter p (map (λ (e : Queued). e.unit) xs)
 
 -- an item goes before another only where its key is no greater
-pub not_after : (x y : Queued) → goes_before x y ≡ true → is_less y.key x.key ≡ false
+pub not_after : (x y : Queued) → goes_before x y ≡ true → is_lesser_key y.key x.key ≡ false
 not_after x y before =
-    elim (cases_Bool (is_less x.key y.key)) [
+    elim (cases_Bool (is_lesser_key x.key y.key)) [
       | inl less ↦ less_asym x.key y.key less
       | inr not_less ↦
-          let rest : (not (is_less y.key x.key) && nat_lt x.rank y.rank) ≡ true = sym (ap (λ (t : Bool). t || (not (is_less y.key x.key) && nat_lt x.rank y.rank)) not_less) ∙ before in
-          no_more (is_less y.key x.key) (and_left (not (is_less y.key x.key)) (nat_lt x.rank y.rank) rest)
+          let rest : (not (is_lesser_key y.key x.key) && nat_lt x.rank y.rank) ≡ true = sym (ap (λ (t : Bool). t || (not (is_lesser_key y.key x.key) && nat_lt x.rank y.rank)) not_less) ∙ before in
+          no_more (is_lesser_key y.key x.key) (and_left (not (is_lesser_key y.key x.key)) (nat_lt x.rank y.rank) rest)
     ]
   where
     no_more : (t : Bool) → not t ≡ true → t ≡ false
@@ -32,14 +32,14 @@ not_after x y before =
     no_more false e = refl
 
 -- and one that arrived later goes before another only by its key
-by_key : (x y : Queued) → goes_before x y ≡ true → y.rank ≤ x.rank → is_less x.key y.key ≡ true
+by_key : (x y : Queued) → goes_before x y ≡ true → y.rank ≤ x.rank → is_lesser_key x.key y.key ≡ true
 by_key x y before late =
-    elim (cases_Bool (is_less x.key y.key)) [
+    elim (cases_Bool (is_lesser_key x.key y.key)) [
       | inl less ↦ less
       | inr not_less ↦
-          let rest : (not (is_less y.key x.key) && nat_lt x.rank y.rank) ≡ true = sym (ap (λ (t : Bool). t || (not (is_less y.key x.key) && nat_lt x.rank y.rank)) not_less) ∙ before in
+          let rest : (not (is_lesser_key y.key x.key) && nat_lt x.rank y.rank) ≡ true = sym (ap (λ (t : Bool). t || (not (is_lesser_key y.key x.key) && nat_lt x.rank y.rank)) not_less) ∙ before in
           let none : nat_lt x.rank y.rank ≡ false = le-ltb x.rank y.rank late in
-          absurd (no_such (not (is_less y.key x.key)) (nat_lt x.rank y.rank) rest none)
+          absurd (no_such (not (is_lesser_key y.key x.key)) (nat_lt x.rank y.rank) rest none)
     ]
   where
     no_such : (a b : Bool) → (a && b) ≡ true → b ≡ false → ⊥
@@ -48,11 +48,11 @@ by_key x y before late =
 
 module _ (key : UnitId → Key) (p : UnitId → Bool) (e : Queued) (own_key : e.key ≡ key e.unit) where
   -- the item is not displaced by items whose keys are no less
-  stays : (xs : List Queued) → HasKeys key xs → AllByRecursion (λ (x : Queued). is_less x.key e.key ≡ false) xs → least_by key (Some e.unit) (passing p xs) ≡ Some e.unit
+  stays : (xs : List Queued) → HasKeys key xs → AllByRecursion (λ (x : Queued). is_lesser_key x.key e.key ≡ false) xs → least_by key (Some e.unit) (passing p xs) ≡ Some e.unit
   stays [] keys each = refl
   stays (x ∷ xs) keys each =
       let rest = stays xs keys.1 each.1 in
-      let test : is_less (key x.unit) (key e.unit) ≡ false = ap (λ (k : Key). is_less k (key e.unit)) (sym keys.0) ∙ ap (is_less x.key) (sym own_key) ∙ each.0 in
+      let test : is_lesser_key (key x.unit) (key e.unit) ≡ false = ap (λ (k : Key). is_lesser_key k (key e.unit)) (sym keys.0) ∙ ap (is_lesser_key x.key) (sym own_key) ∙ each.0 in
       elim (p x.unit) as (λ t. least_by key (Some e.unit) (if t then x.unit ∷ passing p xs else passing p xs) ≡ Some e.unit) [
         | true ↦ ap (λ (t : Bool). least_by key (Some (if t then x.unit else e.unit)) (passing p xs)) test ∙ rest
         | false ↦ rest
@@ -61,15 +61,15 @@ module _ (key : UnitId → Key) (p : UnitId → Bool) (e : Queued) (own_key : e.
   -- the item's key is less than that of the best so far, if there is one
   abbrev Beats : Option UnitId → Type 0
   Beats None = Unit {0}
-  Beats (Some b) = is_less (key e.unit) (key b) ≡ true
+  Beats (Some b) = is_lesser_key (key e.unit) (key b) ≡ true
 
   taken : (best : Option UnitId) (units : List UnitId) → Beats best → least_by key best (e.unit ∷ units) ≡ least_by key (Some e.unit) units
   taken None units beats = refl
   taken (Some b) units beats = ap (λ (t : Bool). least_by key (Some (if t then e.unit else b)) units) beats
 
-  next : (best : Option UnitId) (x : UnitId) (units : List UnitId) → Beats best → is_less (key e.unit) (key x) ≡ true → (b : UnitId) × (least_by key best (x ∷ units) ≡ least_by key (Some b) units) × Beats (Some b)
+  next : (best : Option UnitId) (x : UnitId) (units : List UnitId) → Beats best → is_lesser_key (key e.unit) (key x) ≡ true → (b : UnitId) × (least_by key best (x ∷ units) ≡ least_by key (Some b) units) × Beats (Some b)
   next None x units beats less = (x, refl, less)
-  next (Some b) x units beats less = elim (is_less (key x) (key b)) as (λ t. (c : UnitId) × (least_by key (Some (if t then x else b)) units ≡ least_by key (Some c) units) × Beats (Some c)) [
+  next (Some b) x units beats less = elim (is_lesser_key (key x) (key b)) as (λ t. (c : UnitId) × (least_by key (Some (if t then x else b)) units ≡ least_by key (Some c) units) × Beats (Some c)) [
     | true ↦ (x, refl, less)
     | false ↦ (b, refl, beats)
   ]
@@ -91,7 +91,7 @@ module _ (key : UnitId → Key) (p : UnitId → Bool) (e : Queued) (own_key : e.
         | inr more ↦
             let e1 = le-ltb e.rank x.rank more in
             let put : ins e (x ∷ xs) ≡ x ∷ ins e xs = ap (λ (t : Bool). if t then e ∷ x ∷ xs else x ∷ ins e xs) e1 in
-            let strict : is_less (key e.unit) (key x.unit) ≡ true = ap (λ (k : Key). is_less k (key x.unit)) (sym own_key) ∙ ap (is_less e.key) (sym keys.0) ∙ by_key e x leads.0 more in
+            let strict : is_lesser_key (key e.unit) (key x.unit) ≡ true = ap (λ (k : Key). is_lesser_key k (key x.unit)) (sym own_key) ∙ ap (is_lesser_key e.key) (sym keys.0) ∙ by_key e x leads.0 more in
             ap (λ (ys : List Queued). least_by key best (passing p ys)) put
             ∙ elim (p x.unit) as (λ t. least_by key best (if t then x.unit ∷ passing p (ins e xs) else passing p (ins e xs)) ≡ Some e.unit) [
               | true ↦ let n = next best x.unit (passing p (ins e xs)) beats strict in n.1 ∙ found passes (Some n.0) xs keys.1 leads.1 n.2
@@ -99,7 +99,7 @@ module _ (key : UnitId → Key) (p : UnitId → Bool) (e : Queued) (own_key : e.
             ]
       ]
     where
-      none_less : (ys : List Queued) → AllByRecursion (λ (y : Queued). goes_before e y ≡ true) ys → AllByRecursion (λ (y : Queued). is_less y.key e.key ≡ false) ys
+      none_less : (ys : List Queued) → AllByRecursion (λ (y : Queued). goes_before e y ≡ true) ys → AllByRecursion (λ (y : Queued). is_lesser_key y.key e.key ≡ false) ys
       none_less [] each = tt
       none_less (y ∷ ys) each = (not_after e y each.0, none_less ys each.1)
 
@@ -134,13 +134,13 @@ first_is_least key p (e ∷ es) sorted keys =
     ]
 
 -- a scan that begins with the core's own unit
-own_step : (key : UnitId → Key) (own u : UnitId) (w : Option UnitId) → own_or key (if is_less (key u) (key own) then u else own) w ≡ own_or key own (Some (own_or key u w))
+own_step : (key : UnitId → Key) (own u : UnitId) (w : Option UnitId) → own_or key (if is_lesser_key (key u) (key own) then u else own) w ≡ own_or key own (Some (own_or key u w))
 own_step key own u None = refl
 own_step key own u (Some w) =
-    elim (cases_Bool (is_less (key u) (key own))) [
+    elim (cases_Bool (is_lesser_key (key u) (key own))) [
       | inl u_own ↦
           ap (λ (t : Bool). own_or key (if t then u else own) (Some w)) u_own
-          ∙ elim (cases_Bool (is_less (key w) (key u))) [
+          ∙ elim (cases_Bool (is_lesser_key (key w) (key u))) [
             | inl w_u ↦
                 let w_own = less_trans (key w) (key u) (key own) w_u u_own in
                 simp (w_u, w_own) refl
@@ -148,7 +148,7 @@ own_step key own u (Some w) =
           ]
       | inr u_own ↦
           ap (λ (t : Bool). own_or key (if t then u else own) (Some w)) u_own
-          ∙ elim (cases_Bool (is_less (key w) (key u))) [
+          ∙ elim (cases_Bool (is_lesser_key (key w) (key u))) [
             | inl w_u ↦ simp w_u refl
             | inr w_u ↦
                 let w_own = less_back (key w) (key u) (key own) w_u u_own in
@@ -159,6 +159,6 @@ own_step key own u (Some w) =
 pub least_by_own : (key : UnitId → Key) (own : UnitId) (units : List UnitId) → least_by key (Some own) units ≡ Some (own_or key own (least_by key None units))
 least_by_own key own [] = refl
 least_by_own key own (u ∷ units) =
-    least_by_own key (if is_less (key u) (key own) then u else own) units
+    least_by_own key (if is_lesser_key (key u) (key own) then u else own) units
     ∙ ap Some (own_step key own u (least_by key None units))
     ∙ ap (λ (w : Option UnitId). Some (own_or key own w)) (sym (least_by_own key u units))

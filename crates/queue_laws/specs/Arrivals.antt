@@ -3,7 +3,7 @@ use Rattle.std.specs.Prelude.{ℕ, ◌≡◌, ◌≢◌, ◌<◌, false, if◌th
 use Rattle.std.specs.List.{AllByRecursion}
 use Rattle.sched_base.specs.declared.UnitId.{UnitId}
 use Rattle.arrival_queue.specs.declared.key.Key.{Key}
-use Rattle.arrival_queue.specs.Queues.{Queued, is_less, is_of, put_first}
+use Rattle.arrival_queue.specs.Queues.{Queued, is_lesser_key, is_of, put_first}
 
 -- the queued units, that of the least rank first
 abbrev pub arrival_order : List Queued → List Queued
@@ -48,9 +48,9 @@ HasKeys key es = AllByRecursion (λ e. e.key ≡ key e.unit) es
 abbrev pub least_by : (UnitId → Key) → Option UnitId → List UnitId → Option UnitId
 least_by key best [] = best
 least_by key None (u ∷ units) = least_by key (Some u) units
-least_by key (Some best) (u ∷ units) = least_by key (Some (if is_less (key u) (key best) then u else best)) units
+least_by key (Some best) (u ∷ units) = least_by key (Some (if is_lesser_key (key u) (key best) then u else best)) units
 
 -- the core's own unit, where no unit that waits has a lesser key; or else the one that waits
 abbrev pub own_or : (UnitId → Key) → UnitId → Option UnitId → UnitId
 own_or key own None = own
-own_or key own (Some u) = (if is_less (key u) (key own) then u else own)
+own_or key own (Some u) = (if is_lesser_key (key u) (key own) then u else own)

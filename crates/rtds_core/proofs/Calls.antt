@@ -9,9 +9,9 @@ use Rattle.sched_base.specs.declared.Cores.{Cores}
 use Rattle.sched_base.specs.declared.Moment.{Moment}
 use Rattle.sched_base.specs.declared.UnitId.{UnitId}
 use Rattle.sched_model.specs.CheckedMachine.{IsWithin}
-use Rattle.sched_model.specs.Places.{at_place, has_unit}
+use Rattle.sched_model.specs.Places.{at_place, has_listed_unit}
 use Rattle.sched_model.specs.declared.state.RtdsUnit.{RtdsUnit}
-use Rattle.sched_model.specs.EligibleUnits.{rtds_unit, cores_of}
+use Rattle.sched_model.specs.EligibleUnits.{rtds_unit_at, unit_cores}
 use Rattle.sched_base.proofs.Bools.{clash, and_left, and_right}
 use Rattle.sched_base.proofs.Lists.{AllByRecursion-map}
 use Rattle.arrival_queue.specs.Queues.{Queued, queued_unit}
@@ -28,11 +28,11 @@ use Rattle.sched_model.specs.declared.config.DomParams.TheVariants as dom_params
 use Rattle.sched_model.specs.declared.config.SchedKind.TheVariants as kinds
 use Rattle.sched_model.specs.declared.state.Scheduler.{Scheduler}
 use Rattle.sched_model.specs.declared.state.Records.TheVariants.{RtdsPool}
-use Rattle.sched_model.specs.Policy.{replenish_due, joined_records}
+use Rattle.sched_model.specs.Policy.{is_replenish_due, joined_records}
 use Rattle.sched_base.specs.CoreSets.{every_core}
 use Rattle.sched_model.specs.Places.{put_at}
-use Rattle.sched_model.specs.Rtds.{own_candidate, choice, foremost_unit, budget_left, unit_before, fresh_units}
-use Rattle.sched_model.specs.EligibleUnits.{eligible_units, is_allowed, is_eligible}
+use Rattle.sched_model.specs.Rtds.{rtds_candidate, rtds_choice, first_of_units, unit_left_budget, is_unit_before, fresh_rtds_units}
+use Rattle.sched_model.specs.EligibleUnits.{eligible_units, is_unit_allowed, is_unit_eligible}
 use Rattle.sched_ops.specs.Seen.{Seen}
 use Rattle.rtds_core.proofs.Steps.{kept_later}
 use Rattle.sched_ops.specs.Conditions.{IsAsked, IsOwn, IsOwnOf, AreDomParams, IsTerm, Keeps, is_on}
@@ -62,7 +62,7 @@ none_burned None e = refl
 none_burned (Some b) e = absurd (cc)
 
 -- a unit that is not on by the records
-pub off_record : (domains : List (Option (List RtdsUnit))) (u : UnitId) (x : RtdsUnit) → rtds_unit domains u ≡ Some x → is_on (RtdsPool domains) u ≡ false → x.burned ≡ None
+pub off_record : (domains : List (Option (List RtdsUnit))) (u : UnitId) (x : RtdsUnit) → rtds_unit_at domains u ≡ Some x → is_on (RtdsPool domains) u ≡ false → x.burned ≡ None
 off_record domains u x at off = none_burned x.burned (sym (ap on_in at) ∙ off)
 
 -- a core's own unit
@@ -80,16 +80,16 @@ own_low domains affinity q (Some w) is own u at = (let e : w ≡ u = cc in subst
 
 -- the unit that is due at t
 pub replenished_of : (domains : List (Option (List RtdsUnit))) (affinity : List (Option (List Cores))) (q : Lists) (masks : List Cores) (dues : List (Option Moment)) (spare t : ℕ) (u : UnitId)
-    → ((has_unit (queue_of q) u || is_on (RtdsPool domains) u) && replenish_due (RtdsPool domains) t u) ≡ true → IsReplenished domains affinity q masks dues spare t u
-replenished_of domains affinity q masks dues spare t u due = by_record (rtds_unit domains u) refl due
+    → ((has_listed_unit (queue_of q) u || is_on (RtdsPool domains) u) && is_replenish_due (RtdsPool domains) t u) ≡ true → IsReplenished domains affinity q masks dues spare t u
+replenished_of domains affinity q masks dues spare t u due = by_record (rtds_unit_at domains u) refl due
   where
-    by_record : (o : Option RtdsUnit) → rtds_unit domains u ≡ o → ((has_unit (queue_of q) u || on_in o) && (elim o as (λ _. Bool) [ None ↦ false | Some x ↦ nat_le x.deadline t ])) ≡ true → IsReplenished domains affinity q masks dues spare t u
-    by_record None at e = absurd (clash ((has_unit (queue_of q) u || false) && false) e (and-false (has_unit (queue_of q) u || false)))
+    by_record : (o : Option RtdsUnit) → rtds_unit_at domains u ≡ o → ((has_listed_unit (queue_of q) u || on_in o) && (elim o as (λ _. Bool) [ None ↦ false | Some x ↦ nat_le x.deadline t ])) ≡ true → IsReplenished domains affinity q masks dues spare t u
+    by_record None at e = absurd (clash ((has_listed_unit (queue_of q) u || false) && false) e (and-false (has_listed_unit (queue_of q) u || false)))
     by_record (Some x) at e = record {
       unit = x;
       at = at;
-      come = (let c : nat_le x.deadline t ≡ true = and_right (has_unit (queue_of q) u || is_some x.burned) (nat_le x.deadline t) e in grind (arith, nat_tests, c));
-      busy = and_left (has_unit (queue_of q) u || is_some x.burned) (nat_le x.deadline t) e;
+      come = (let c : nat_le x.deadline t ≡ true = and_right (has_listed_unit (queue_of q) u || is_some x.burned) (nat_le x.deadline t) e in grind (arith, nat_tests, c));
+      busy = and_left (has_listed_unit (queue_of q) u || is_some x.burned) (nat_le x.deadline t) e;
     }
 
 pub term_budget : (period budget : ℕ) → IsTerm period budget → IsWithin 10000 1000000000000 budget
@@ -100,7 +100,7 @@ pub kept_with : (domains domains2 : List (Option (List RtdsUnit))) (affinity : L
     → d < length affinity → at_place affinity d ≡ None → count ≤ 32 → count ≤ spare → Sets masks masks2 d None every_core → IsKept domains affinity q masks dues spare t
     → IsKept domains2 (put_at d (replicate count every_core) affinity) q masks2 dues (spare - count) t
 kept_with domains domains2 affinity q masks masks2 dues spare t d count (dom_params.Rtds period budget extra) are joined place absent few room set kept =
-    subst (λ (ds : List (Option (List RtdsUnit))). IsKept ds (put_at d (replicate count every_core) affinity) q masks2 dues (spare - count) t) (same_domains (put_at d (fresh_units period.0 budget.0 extra count t) domains) domains2 (sym joined))
+    subst (λ (ds : List (Option (List RtdsUnit))). IsKept ds (put_at d (replicate count every_core) affinity) q masks2 dues (spare - count) t) (same_domains (put_at d (fresh_rtds_units period.0 budget.0 extra count t) domains) domains2 (sym joined))
     (kept_joined domains affinity q masks masks2 dues spare t d count period.0 budget.0 extra place absent few room are.long (term_budget period.0 budget.0 are) set kept)
   where
     same_domains : (a b : List (Option (List RtdsUnit))) → RtdsPool a ≡ RtdsPool b → a ≡ b
@@ -116,8 +116,8 @@ keeps_of domains affinity q masks dues spare latest order kept = record {
 }
 
 -- the first of the queues that may have the core, as a scan finds it
-eligible_sets : (domains : List (Option (List RtdsUnit))) (affinity : List (Option (List Cores))) (masks : List Cores) (es : List Queued) → IsShaped domains affinity → AreMasks affinity masks → AllByRecursion (IsEligible domains) es → AllByRecursion (λ e. (mask_of masks e.unit).0 ≡ cores_of affinity e.unit) es
-eligible_sets domains affinity masks es is are each = AllByRecursion-map (IsEligible domains) (λ e. (mask_of masks e.unit).0 ≡ cores_of affinity e.unit) (λ e el. (let s = sets_of domains affinity e.unit el.unit is el.at in are.each e.unit s.sets s.at s.inside)) es each
+eligible_sets : (domains : List (Option (List RtdsUnit))) (affinity : List (Option (List Cores))) (masks : List Cores) (es : List Queued) → IsShaped domains affinity → AreMasks affinity masks → AllByRecursion (IsEligible domains) es → AllByRecursion (λ e. (mask_of masks e.unit).0 ≡ unit_cores affinity e.unit) es
+eligible_sets domains affinity masks es is are each = AllByRecursion-map (IsEligible domains) (λ e. (mask_of masks e.unit).0 ≡ unit_cores affinity e.unit) (λ e el. (let s = sets_of domains affinity e.unit el.unit is el.at in are.each e.unit s.sets s.at s.inside)) es each
 
 pub first_is : (domains : List (Option (List RtdsUnit))) (affinity : List (Option (List Cores))) (q : Lists) (masks : List Cores) (home core t : ℕ) → IsOrdered q → IsShaped domains affinity → AreQueued domains q → AreMasks affinity masks
     → first_that (λ u. may_run masks (record { 0 = core }) (record { 0 = home }) u) q.eligible ≡ least_by (key_in domains) None (filter (test domains affinity home core t) (queue_of q))
@@ -125,13 +125,13 @@ first_is domains affinity q masks home core t order is queued_unit are =
     first_waits domains affinity home core t q masks queued_unit order.order (once_ranks (q.eligible ++ q.spent) order.ranks) are (eligible_sets domains affinity masks q.eligible is are queued_unit.eligible)
 
 -- the core's own unit, where it may go on, has a record
-own_known : (domains : List (Option (List RtdsUnit))) (ask : Ask) (scheduler : Scheduler) → IfSome (own_candidate ask scheduler domains) (IsKnown domains)
+own_known : (domains : List (Option (List RtdsUnit))) (ask : Ask) (scheduler : Scheduler) → IfSome (rtds_candidate ask scheduler domains) (IsKnown domains)
 own_known domains ask scheduler = by_cur ask.cur
   where
-    by_cur : (cur : Option UnitId) → IfSome (elim cur as (λ _. Option UnitId) [ None ↦ None | Some u ↦ (if ask.runnable && is_allowed scheduler ask.home.0 ask.core.0 u && nat_lt 0 (budget_left domains u) then Some u else None) ]) (IsKnown domains)
+    by_cur : (cur : Option UnitId) → IfSome (elim cur as (λ _. Option UnitId) [ None ↦ None | Some u ↦ (if ask.runnable && is_unit_allowed scheduler ask.home.0 ask.core.0 u && nat_lt 0 (unit_left_budget domains u) then Some u else None) ]) (IsKnown domains)
     by_cur None = tt
-    by_cur (Some u) = elim (cases_Bool (ask.runnable && is_allowed scheduler ask.home.0 ask.core.0 u && nat_lt 0 (budget_left domains u))) [
-      | inl is_so ↦ subst (λ (b : Bool). IfSome (if b then Some u else None) (IsKnown domains)) (sym is_so) (with_budget u (rtds_unit domains u) refl (last ask.runnable (is_allowed scheduler ask.home.0 ask.core.0 u) (nat_lt 0 (budget_left domains u)) is_so))
+    by_cur (Some u) = elim (cases_Bool (ask.runnable && is_unit_allowed scheduler ask.home.0 ask.core.0 u && nat_lt 0 (unit_left_budget domains u))) [
+      | inl is_so ↦ subst (λ (b : Bool). IfSome (if b then Some u else None) (IsKnown domains)) (sym is_so) (with_budget u (rtds_unit_at domains u) refl (last ask.runnable (is_unit_allowed scheduler ask.home.0 ask.core.0 u) (nat_lt 0 (unit_left_budget domains u)) is_so))
       | inr not_so ↦ subst (λ (b : Bool). IfSome (if b then Some u else None) (IsKnown domains)) (sym not_so) tt
     ]
       where
@@ -140,48 +140,48 @@ own_known domains ask scheduler = by_cur ask.cur
         last true false c e = absurd (cc)
         last false b c e = absurd (cc)
 
-        with_budget : (u : UnitId) (o : Option RtdsUnit) → rtds_unit domains u ≡ o → nat_lt 0 (elim o as (λ _. ℕ) [ None ↦ 0 | Some x ↦ x.left ]) ≡ true → IsKnown domains u
+        with_budget : (u : UnitId) (o : Option RtdsUnit) → rtds_unit_at domains u ≡ o → nat_lt 0 (elim o as (λ _. ℕ) [ None ↦ 0 | Some x ↦ x.left ]) ≡ true → IsKnown domains u
         with_budget u None at e = absurd (grind (arith, nat_tests, e))
         with_budget u (Some x) at e = record { unit = x; at = at }
 
 -- the choice among the core's own and the first is that of a scan
 pub choice_of_first : (domains : List (Option (List RtdsUnit))) (affinity : List (Option (List Cores))) (q : Lists) (masks : List Cores) (ask : Ask) → ask.leaving ≡ false → IsOrdered q → IsShaped domains affinity → AreQueued domains q → AreMasks affinity masks
-    → foremost_unit domains (own_candidate ask (scheduler_of [] affinity (RtdsPool domains)) domains) (list_of (first_that (λ u. may_run masks (record { 0 = ask.core.0 }) (record { 0 = ask.home.0 }) u) q.eligible))
-    ≡ choice ask (scheduler_of (queue_of q) affinity (RtdsPool domains)) domains
+    → first_of_units domains (rtds_candidate ask (scheduler_of [] affinity (RtdsPool domains)) domains) (list_of (first_that (λ u. may_run masks (record { 0 = ask.core.0 }) (record { 0 = ask.home.0 }) u) q.eligible))
+    ≡ rtds_choice ask (scheduler_of (queue_of q) affinity (RtdsPool domains)) domains
 choice_of_first domains affinity q masks ask stays order is queued_unit are =
-    scan_of_first domains affinity ask.home.0 ask.core.0 ask.at.0 (own_candidate ask (scheduler_of [] affinity (RtdsPool domains)) domains) (queue_of q)
+    scan_of_first domains affinity ask.home.0 ask.core.0 ask.at.0 (rtds_candidate ask (scheduler_of [] affinity (RtdsPool domains)) domains) (queue_of q)
     (first_that (λ u. may_run masks (record { 0 = ask.core.0 }) (record { 0 = ask.home.0 }) u) q.eligible) (own_known domains ask (scheduler_of [] affinity (RtdsPool domains)))
     (first_is domains affinity q masks ask.home.0 ask.core.0 ask.at.0 order is queued_unit are)
-    ∙ sym (ap (λ (b : Bool). if b then None else foremost_unit domains (own_candidate ask (scheduler_of [] affinity (RtdsPool domains)) domains) (eligible_units (scheduler_of (queue_of q) affinity (RtdsPool domains)) ask.home.0 ask.core.0 ask.at.0)) stays)
+    ∙ sym (ap (λ (b : Bool). if b then None else first_of_units domains (rtds_candidate ask (scheduler_of [] affinity (RtdsPool domains)) domains) (eligible_units (scheduler_of (queue_of q) affinity (RtdsPool domains)) ask.home.0 ask.core.0 ask.at.0)) stays)
 
 -- the chosen unit has a record
-pub choice_known : (domains : List (Option (List RtdsUnit))) (ask : Ask) (scheduler : Scheduler) → IfSome (choice ask scheduler domains) (IsKnown domains)
+pub choice_known : (domains : List (Option (List RtdsUnit))) (ask : Ask) (scheduler : Scheduler) → IfSome (rtds_choice ask scheduler domains) (IsKnown domains)
 choice_known domains ask scheduler = elim (cases_Bool ask.leaving) [
-  | inl leaves ↦ subst (λ (b : Bool). IfSome (if b then None else foremost_unit domains (own_candidate ask scheduler domains) (filter may (scheduler.queue))) (IsKnown domains)) (sym leaves) tt
-  | inr stays ↦ subst (λ (b : Bool). IfSome (if b then None else foremost_unit domains (own_candidate ask scheduler domains) (filter may (scheduler.queue))) (IsKnown domains)) (sym stays) (walk (own_candidate ask scheduler domains) scheduler.queue (own_known domains ask scheduler))
+  | inl leaves ↦ subst (λ (b : Bool). IfSome (if b then None else first_of_units domains (rtds_candidate ask scheduler domains) (filter may (scheduler.queue))) (IsKnown domains)) (sym leaves) tt
+  | inr stays ↦ subst (λ (b : Bool). IfSome (if b then None else first_of_units domains (rtds_candidate ask scheduler domains) (filter may (scheduler.queue))) (IsKnown domains)) (sym stays) (walk (rtds_candidate ask scheduler domains) scheduler.queue (own_known domains ask scheduler))
 ]
   where
     may : UnitId → Bool
-    may u = is_eligible (record scheduler { records = RtdsPool domains }) ask.home.0 ask.core.0 ask.at.0 u
+    may u = is_unit_eligible (record scheduler { records = RtdsPool domains }) ask.home.0 ask.core.0 ask.at.0 u
 
-    next : (best : Option UnitId) (u : UnitId) (units : List UnitId) → IsKnown domains u → IfSome best (IsKnown domains) → ((b : Option UnitId) → IfSome b (IsKnown domains) → IfSome (foremost_unit domains b units) (IsKnown domains)) → IfSome (foremost_unit domains best (u ∷ units)) (IsKnown domains)
+    next : (best : Option UnitId) (u : UnitId) (units : List UnitId) → IsKnown domains u → IfSome best (IsKnown domains) → ((b : Option UnitId) → IfSome b (IsKnown domains) → IfSome (first_of_units domains b units) (IsKnown domains)) → IfSome (first_of_units domains best (u ∷ units)) (IsKnown domains)
     next None u units mine known rest = rest (Some u) mine
-    next (Some b) u units mine known rest = elim (unit_before domains u b) as (λ t. IfSome (foremost_unit domains (Some (if t then u else b)) units) (IsKnown domains)) [
+    next (Some b) u units mine known rest = elim (is_unit_before domains u b) as (λ t. IfSome (first_of_units domains (Some (if t then u else b)) units) (IsKnown domains)) [
       | true ↦ rest (Some u) mine
       | false ↦ rest (Some b) known
     ]
 
-    walk : (best : Option UnitId) (units : List UnitId) → IfSome best (IsKnown domains) → IfSome (foremost_unit domains best (filter may units)) (IsKnown domains)
+    walk : (best : Option UnitId) (units : List UnitId) → IfSome best (IsKnown domains) → IfSome (first_of_units domains best (filter may units)) (IsKnown domains)
     walk best [] known = known
     walk best (u ∷ units) known = elim (cases_Bool (may u)) [
       | inl passes ↦
-          subst (λ (b : Bool). IfSome (foremost_unit domains best (if b then u ∷ filter may units else filter may units)) (IsKnown domains)) (sym passes)
+          subst (λ (b : Bool). IfSome (first_of_units domains best (if b then u ∷ filter may units else filter may units)) (IsKnown domains)) (sym passes)
           (next best u (filter may units) (known_passes domains scheduler.affinity ask.home.0 ask.core.0 ask.at.0 u passes) known (λ b k. walk b units k))
-      | inr fails ↦ subst (λ (b : Bool). IfSome (foremost_unit domains best (if b then u ∷ filter may units else filter may units)) (IsKnown domains)) (sym fails) (walk best units known)
+      | inr fails ↦ subst (λ (b : Bool). IfSome (first_of_units domains best (if b then u ∷ filter may units else filter may units)) (IsKnown domains)) (sym fails) (walk best units known)
     ]
 
 -- a unit that is not on, by its record
-pub on_record : (domains : List (Option (List RtdsUnit))) (u : UnitId) (x : RtdsUnit) → rtds_unit domains u ≡ Some x → is_on (RtdsPool domains) u ≡ false → is_some x.burned ≡ false
+pub on_record : (domains : List (Option (List RtdsUnit))) (u : UnitId) (x : RtdsUnit) → rtds_unit_at domains u ≡ Some x → is_on (RtdsPool domains) u ≡ false → is_some x.burned ≡ false
 on_record domains u x at off = sym (ap on_in at) ∙ off
 
 -- the same parts, under other names

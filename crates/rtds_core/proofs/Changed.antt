@@ -6,11 +6,11 @@ use Rattle.std.proofs.lemmas.Bool.Decides.{nat_tests}
 use Rattle.std.proofs.lemmas.List.Elements.{All-from_recursion}
 use Rattle.sched_base.specs.declared.Cores.{Cores}
 use Rattle.sched_base.specs.declared.UnitId.{UnitId}
-use Rattle.unit_places.specs.Places.{has_place, index_of}
+use Rattle.unit_places.specs.Places.{has_unit_place, unit_index}
 use Rattle.unit_places.proofs.Placed.{placed}
 use Rattle.sched_model.specs.Places.{at_place, change_at, change_item}
 use Rattle.sched_model.specs.declared.state.RtdsUnit.{RtdsUnit}
-use Rattle.sched_model.specs.EligibleUnits.{rtds_unit}
+use Rattle.sched_model.specs.EligibleUnits.{rtds_unit_at}
 use Rattle.sched_model.specs.Rtds.{change_unit}
 use Rattle.sched_laws.proofs.EachPlace.{by_option, place_below, length_set, EachPlace-change_at, at_place-set_other, at_place-change_at}
 use Rattle.sched_laws.proofs.Lists.{item_below, length_change_item}
@@ -73,7 +73,7 @@ pub record Home (domains : List (Option (List RtdsUnit))) (u : UnitId) : Type 0 
   pub at : at_place domains u.dom.0 ≡ Some units
   pub inside : u.n < length units
 
-pub home_of : (domains : List (Option (List RtdsUnit))) (u : UnitId) (x : RtdsUnit) → rtds_unit domains u ≡ Some x → Home domains u
+pub home_of : (domains : List (Option (List RtdsUnit))) (u : UnitId) (x : RtdsUnit) → rtds_unit_at domains u ≡ Some x → Home domains u
 home_of domains u x at =
     by_option (λ (o : Option RtdsUnit). o ≡ Some x → Home domains u) (at_place domains u.dom.0) _ _ (λ none e. absurd (cc))
     (λ units there e. record { units = units; at = there; inside = slice_get_within units u.n x e }) at
@@ -82,10 +82,10 @@ pub record IsLow (u : UnitId) : Type 0 where
   pub dom : u.dom.0 < 64
   pub index : u.n < 32
   pub byte : u.n < 256
-  pub place : has_place u ≡ true
-  pub id : index_of u < 2048
+  pub place : has_unit_place u ≡ true
+  pub id : unit_index u < 2048
 
-pub low_unit : (domains : List (Option (List RtdsUnit))) (affinity : List (Option (List Cores))) (u : UnitId) (x : RtdsUnit) → IsShaped domains affinity → rtds_unit domains u ≡ Some x → IsLow u
+pub low_unit : (domains : List (Option (List RtdsUnit))) (affinity : List (Option (List Cores))) (u : UnitId) (x : RtdsUnit) → IsShaped domains affinity → rtds_unit_at domains u ≡ Some x → IsLow u
 low_unit domains affinity u x is at =
     let home = home_of domains u x at in
     let few : length home.units ≤ 32 = is.small u.dom.0 home.units home.at in
@@ -111,7 +111,7 @@ same_size {X} (Some zs) (Some ys) xs same is =
     let l : length zs ≡ length ys = cc in
     (ys, refl, ap (λ (k : List X). length k) (sym e) ∙ l)
 
-pub sets_of : (domains : List (Option (List RtdsUnit))) (affinity : List (Option (List Cores))) (u : UnitId) (x : RtdsUnit) → IsShaped domains affinity → rtds_unit domains u ≡ Some x → Sets affinity u
+pub sets_of : (domains : List (Option (List RtdsUnit))) (affinity : List (Option (List Cores))) (u : UnitId) (x : RtdsUnit) → IsShaped domains affinity → rtds_unit_at domains u ≡ Some x → Sets affinity u
 sets_of domains affinity u x is at =
     let home = home_of domains u x at in
     let s = same_size (at_place domains u.dom.0) (at_place affinity u.dom.0) home.units (is.same u.dom.0) home.at in
@@ -119,7 +119,7 @@ sets_of domains affinity u x is at =
     let long = s.2 in
     record { sets = s.0; at = s.1; inside = omega (arith, inside, long) }
 
-pub record_of : (domains : List (Option (List RtdsUnit))) (affinity : List (Option (List Cores))) (u : UnitId) (sets : List Cores) → IsShaped domains affinity → at_place affinity u.dom.0 ≡ Some sets → u.n < length sets → (x : RtdsUnit) × (rtds_unit domains u ≡ Some x)
+pub record_of : (domains : List (Option (List RtdsUnit))) (affinity : List (Option (List Cores))) (u : UnitId) (sets : List Cores) → IsShaped domains affinity → at_place affinity u.dom.0 ≡ Some sets → u.n < length sets → (x : RtdsUnit) × (rtds_unit_at domains u ≡ Some x)
 record_of domains affinity u sets is at inside =
     let s = same_size (at_place affinity u.dom.0) (at_place domains u.dom.0) sets (sym (is.same u.dom.0)) at in
     let long = s.2 in
@@ -130,14 +130,14 @@ abbrev pub count_in : Option (List Cores) → ℕ
 count_in o = elim o as (λ _. ℕ) [ None ↦ 0 | Some sets ↦ length sets ]
 
 -- a member has a record, and the other way round
-pub member_record : (domains : List (Option (List RtdsUnit))) (affinity : List (Option (List Cores))) (u : UnitId) → IsShaped domains affinity → nat_lt u.n (count_in (at_place affinity u.dom.0)) ≡ true → (x : RtdsUnit) × (rtds_unit domains u ≡ Some x)
+pub member_record : (domains : List (Option (List RtdsUnit))) (affinity : List (Option (List Cores))) (u : UnitId) → IsShaped domains affinity → nat_lt u.n (count_in (at_place affinity u.dom.0)) ≡ true → (x : RtdsUnit) × (rtds_unit_at domains u ≡ Some x)
 member_record domains affinity u is member = there (at_place affinity u.dom.0) refl member
   where
-    there : (o : Option (List Cores)) → at_place affinity u.dom.0 ≡ o → nat_lt u.n (count_in o) ≡ true → (x : RtdsUnit) × (rtds_unit domains u ≡ Some x)
+    there : (o : Option (List Cores)) → at_place affinity u.dom.0 ≡ o → nat_lt u.n (count_in o) ≡ true → (x : RtdsUnit) × (rtds_unit_at domains u ≡ Some x)
     there None at e = absurd (grind (arith, nat_tests, e))
     there (Some sets) at e = record_of domains affinity u sets is at (grind (arith, nat_tests, e))
 
-pub record_member : (domains : List (Option (List RtdsUnit))) (affinity : List (Option (List Cores))) (u : UnitId) (x : RtdsUnit) → IsShaped domains affinity → rtds_unit domains u ≡ Some x → nat_lt u.n (count_in (at_place affinity u.dom.0)) ≡ true
+pub record_member : (domains : List (Option (List RtdsUnit))) (affinity : List (Option (List Cores))) (u : UnitId) (x : RtdsUnit) → IsShaped domains affinity → rtds_unit_at domains u ≡ Some x → nat_lt u.n (count_in (at_place affinity u.dom.0)) ≡ true
 record_member domains affinity u x is at =
     let s = sets_of domains affinity u x is at in
     ap (λ (o : Option (List Cores)). nat_lt u.n (count_in o)) s.at ∙ (let i = s.inside in grind (arith, nat_tests, i))

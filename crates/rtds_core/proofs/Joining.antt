@@ -4,21 +4,21 @@ use Rattle.std.specs.Prelude.{Option, Some, None, slice_get, slice_set, is_some,
 use Rattle.std.specs.List.{AllByRecursion}
 use Rattle.std.proofs.lemmas.Bool.Decides.{nat_tests}
 use Rattle.sched_base.specs.Numbers.{moment}
-use Rattle.unit_places.specs.Places.{number_of, index_of}
+use Rattle.unit_places.specs.Places.{number_of, unit_index}
 use Rattle.unit_places.specs.Masks.{mask_of}
 use Rattle.sched_base.specs.declared.Cores.{Cores}
 use Rattle.sched_base.specs.declared.Moment.{Moment}
 use Rattle.sched_base.specs.declared.UnitId.{UnitId}
 use Rattle.sched_model.specs.CheckedMachine.{IsWithin, most_span}
-use Rattle.sched_model.specs.Places.{at_place, has_unit, change_item}
+use Rattle.sched_model.specs.Places.{at_place, has_listed_unit, change_item}
 use Rattle.sched_model.specs.declared.state.RtdsUnit.{RtdsUnit}
-use Rattle.sched_model.specs.EligibleUnits.{rtds_unit}
+use Rattle.sched_model.specs.EligibleUnits.{rtds_unit_at}
 use Rattle.sched_laws.specs.EachPlace.{EachPlace}
 use Rattle.sched_base.proofs.Bools.{clash}
 use Rattle.sched_laws.proofs.Lists.{length-pinned_cores}
 use Rattle.sched_laws.proofs.EachPlace.{place_below, length_set}
 use Rattle.state_ranges.specs.Fits.{RtdsFits}
-use Rattle.due_heap.specs.Dues.{due_of}
+use Rattle.due_heap.specs.Dues.{armed_moment}
 use Rattle.arrival_queue.specs.Queues.{Queued, queued_unit as queued, is_of}
 use Rattle.arrival_queue.specs.Queues.{has_unit as has_queued}
 use Rattle.rtds_queue.specs.Lists.{Lists, count}
@@ -34,7 +34,7 @@ use Rattle.sched_base.proofs.Lists.{each_get}
 use Rattle.sched_model.specs.Places.{change_at, put_at, clear_at}
 use Rattle.sched_model.specs.Policy.{pinned_cores}
 use Rattle.sched_base.specs.CoreSets.{every_core}
-use Rattle.sched_model.specs.Rtds.{fresh_units}
+use Rattle.sched_model.specs.Rtds.{fresh_rtds_units}
 use Rattle.sched_laws.proofs.EachPlace.{EachPlace-put_at, EachPlace-clear_at, EachPlace-empty}
 use Rattle.state_ranges.proofs.Rtds.{rtds_fresh}
 use Rattle.rtds_queue.specs.Lists.{empty_lists}
@@ -49,7 +49,7 @@ use Rattle.std.proofs.lemmas.Bool.{eq-eqb, cases_Bool, and_from}
 use Rattle.arrival_queue.proofs.Counting.{has_unit-append}
 
 -- the queues' units have the records that they had
-pub queued_by : (domains domains2 : List (Option (List RtdsUnit))) (q : Lists) → ((e : Queued) (x : RtdsUnit) → has_queued e.unit (q.eligible ++ q.spent) ≡ true → rtds_unit domains e.unit ≡ Some x → rtds_unit domains2 e.unit ≡ Some x) → AreQueued domains q → AreQueued domains2 q
+pub queued_by : (domains domains2 : List (Option (List RtdsUnit))) (q : Lists) → ((e : Queued) (x : RtdsUnit) → has_queued e.unit (q.eligible ++ q.spent) ≡ true → rtds_unit_at domains e.unit ≡ Some x → rtds_unit_at domains2 e.unit ≡ Some x) → AreQueued domains q → AreQueued domains2 q
 queued_by domains domains2 q same is = record {
   eligible = eligible q.eligible (λ e has. has_unit-append e.unit q.eligible q.spent ∙ ap (λ (b : Bool). b || has_queued e.unit q.spent) has) is.eligible;
   spent = spent q.spent (λ e has. has_unit-append e.unit q.eligible q.spent ∙ ap (λ (b : Bool). has_queued e.unit q.eligible || b) has ∙ or-true (has_queued e.unit q.eligible)) is.spent;
@@ -85,7 +85,7 @@ sizes_set (suc d) a b (x ∷ xs) (y ∷ ys) long size same zero = same 0
 sizes_set (suc d) a b (x ∷ xs) (y ∷ ys) long size same (suc k) = sizes_set d a b xs ys (omega (arith, long)) size (λ j. same (suc j)) k
 
 -- what stands at a place that has no records
-pub no_record : (domains : List (Option (List RtdsUnit))) (u : UnitId) → at_place domains u.dom.0 ≡ None → rtds_unit domains u ≡ None
+pub no_record : (domains : List (Option (List RtdsUnit))) (u : UnitId) → at_place domains u.dom.0 ≡ None → rtds_unit_at domains u ≡ None
 no_record domains u none = ap (λ (o : Option (List RtdsUnit)). unit_in o u.n) none
 
 pub absent_size : (a : Option (List RtdsUnit)) (b : Option (List Cores)) → option_map length a ≡ option_map length b → b ≡ None → a ≡ None
@@ -94,8 +94,8 @@ absent_size (Some xs) None same none = absurd (cc)
 absent_size (Some xs) (Some ys) same none = absurd (cc)
 
 -- a unit without a record does not wait
-not_waiting : (domains : List (Option (List RtdsUnit))) (q : Lists) (w : UnitId) → AreQueued domains q → rtds_unit domains w ≡ None → has_unit (queue_of q) w ≡ false
-not_waiting domains q w queued none = elim (cases_Bool (has_unit (queue_of q) w)) [
+not_waiting : (domains : List (Option (List RtdsUnit))) (q : Lists) (w : UnitId) → AreQueued domains q → rtds_unit_at domains w ≡ None → has_listed_unit (queue_of q) w ≡ false
+not_waiting domains q w queued none = elim (cases_Bool (has_listed_unit (queue_of q) w)) [
   | inl waiting ↦ (let k = waiting_known domains q w queued waiting in let f : ◌≡◌ {A = Option RtdsUnit} None (Some k.0) = sym none ∙ k.1 in absurd (cc))
   | inr not_so ↦ not_so
 ]
@@ -104,10 +104,10 @@ not_waiting domains q w queued none = elim (cases_Bool (has_unit (queue_of q) w)
 abbrev due_if : Bool → Option RtdsUnit → Option Moment
 due_if waits o = elim o as (λ _. Option Moment) [ None ↦ None | Some x ↦ (if waits || is_some x.burned then Some (moment x.deadline) else None) ]
 
-idle_due : (queue : List UnitId) (domains : List (Option (List RtdsUnit))) (w : UnitId) → has_unit queue w ≡ false → ((x : RtdsUnit) → rtds_unit domains w ≡ Some x → is_some x.burned ≡ false) → due_for queue domains w ≡ None
-idle_due queue domains w none off = of_record (rtds_unit domains w) off ∙ refl
+idle_due : (queue : List UnitId) (domains : List (Option (List RtdsUnit))) (w : UnitId) → has_listed_unit queue w ≡ false → ((x : RtdsUnit) → rtds_unit_at domains w ≡ Some x → is_some x.burned ≡ false) → due_for queue domains w ≡ None
+idle_due queue domains w none off = of_record (rtds_unit_at domains w) off ∙ refl
   where
-    of_record : (o : Option RtdsUnit) → ((x : RtdsUnit) → o ≡ Some x → is_some x.burned ≡ false) → due_if (has_unit queue w) o ≡ None
+    of_record : (o : Option RtdsUnit) → ((x : RtdsUnit) → o ≡ Some x → is_some x.burned ≡ false) → due_if (has_listed_unit queue w) o ≡ None
     of_record None off = refl
     of_record (Some x) off = ap (λ (b : Bool). if b || is_some x.burned then Some (moment x.deadline) else None) none ∙ ap (λ (b : Bool). if b then Some (moment x.deadline) else None) (off x refl)
 
@@ -182,9 +182,9 @@ module _ (domains : List (Option (List RtdsUnit))) (affinity : List (Option (Lis
   -- a domain joins
   pub kept_joined : (d count period budget : ℕ) (extra : Bool) → d < length affinity → at_place affinity d ≡ None → count ≤ 32 → count ≤ spare → IsWithin 10000 1000000000000 period → IsWithin 10000 1000000000000 budget
       → Sets masks masks2 d None every_core → IsKept domains affinity q masks dues spare t
-      → IsKept (put_at d (fresh_units period budget extra count t) domains) (put_at d (replicate count every_core) affinity) q masks2 dues (spare - count) t
+      → IsKept (put_at d (fresh_rtds_units period budget extra count t) domains) (put_at d (replicate count every_core) affinity) q masks2 dues (spare - count) t
   kept_joined d count period budget extra place absent few room periods budgets set kept =
-      let fresh : List RtdsUnit = fresh_units period budget extra count t in
+      let fresh : List RtdsUnit = fresh_rtds_units period budget extra count t in
       let domains2 : List (Option (List RtdsUnit)) = put_at d fresh domains in
       let none : at_place domains d ≡ None = absent_size (at_place domains d) (at_place affinity d) (kept.shape.same d) absent in
       let many : length fresh ≡ count = length-replicate count _ in
@@ -194,7 +194,7 @@ module _ (domains : List (Option (List RtdsUnit))) (affinity : List (Option (Lis
       let zero_size : size (at_place domains d) ≡ 0 = ap (λ (o : Option (List RtdsUnit)). size o) none in
       let old_few = kept.few in
       let old_room = kept.room in
-      let other : (w : UnitId) (x : RtdsUnit) → rtds_unit domains w ≡ Some x → d ≢ w.dom.0 =
+      let other : (w : UnitId) (x : RtdsUnit) → rtds_unit_at domains w ≡ Some x → d ≢ w.dom.0 =
       λ w x at e. (let f : ◌≡◌ {A = Option RtdsUnit} None (Some x) = sym (no_record domains w (subst (λ (k : ℕ). at_place domains k ≡ None) e none)) ∙ at in absurd (cc)) in
       record {
         shape =
@@ -212,9 +212,9 @@ module _ (domains : List (Option (List RtdsUnit))) (affinity : List (Option (Lis
         sets = joined_sets affinity masks masks2 d count few place (small_sets domains affinity kept.shape) set kept.sets;
         armed = armed_alike (queue_of q) (queue_of q) domains domains2 dues kept.armed (λ w. elim (ℕ_discrete d w.dom.0) [
           | yes e ↦
-              let old : rtds_unit domains w ≡ None = no_record domains w (subst (λ (k : ℕ). at_place domains k ≡ None) e none) in
-              let off : has_unit (queue_of q) w ≡ false = not_waiting domains q w kept.queued old in
-              let there : rtds_unit domains2 w ≡ slice_get fresh w.n = subst (λ (k : ℕ). unit_in (at_place domains2 k) w.n ≡ slice_get fresh w.n) e (ap (λ (o : Option (List RtdsUnit)). unit_in o w.n) (at_place-set d (Some fresh) domains inside)) in
+              let old : rtds_unit_at domains w ≡ None = no_record domains w (subst (λ (k : ℕ). at_place domains k ≡ None) e none) in
+              let off : has_listed_unit (queue_of q) w ≡ false = not_waiting domains q w kept.queued old in
+              let there : rtds_unit_at domains2 w ≡ slice_get fresh w.n = subst (λ (k : ℕ). unit_in (at_place domains2 k) w.n ≡ slice_get fresh w.n) e (ap (λ (o : Option (List RtdsUnit)). unit_in o w.n) (at_place-set d (Some fresh) domains inside)) in
               idle_due (queue_of q) domains2 w off (λ x at. ap (λ (o : Option ℕ). is_some o) (each_get (λ (y : RtdsUnit). y.burned ≡ None) fresh w.n x (all_off _ count refl) (sym there ∙ at)))
               ∙ sym (idle_due (queue_of q) domains w off (λ x at. (let f : ◌≡◌ {A = Option RtdsUnit} None (Some x) = sym old ∙ at in absurd (cc))))
           | no ne ↦ due_alike (queue_of q) (queue_of q) domains domains2 w (ap (λ (o : Option (List RtdsUnit)). unit_in o w.n) (at_place-set_other d w.dom.0 (Some fresh) domains ne)) refl
@@ -222,7 +222,7 @@ module _ (domains : List (Option (List RtdsUnit))) (affinity : List (Option (Lis
       }
 
   -- a domain parts, none of whose units waits or is on
-  pub kept_parted : (d : ℕ) → d < length affinity → ((u : UnitId) → u.dom.0 ≡ d → has_unit (queue_of q) u ≡ false) → ((u : UnitId) (x : RtdsUnit) → u.dom.0 ≡ d → rtds_unit domains u ≡ Some x → is_some x.burned ≡ false)
+  pub kept_parted : (d : ℕ) → d < length affinity → ((u : UnitId) → u.dom.0 ≡ d → has_listed_unit (queue_of q) u ≡ false) → ((u : UnitId) (x : RtdsUnit) → u.dom.0 ≡ d → rtds_unit_at domains u ≡ Some x → is_some x.burned ≡ false)
       → IsOrdered q → IsKept domains affinity q masks dues spare t → IsKept (clear_at d domains) (clear_at d affinity) q masks dues (spare + size (at_place affinity d)) t
   kept_parted d place waiting on order kept =
       let domains2 : List (Option (List RtdsUnit)) = clear_at d domains in
@@ -244,8 +244,8 @@ module _ (domains : List (Option (List RtdsUnit))) (affinity : List (Option (Lis
         early = kept.early;
         queued = queued_by domains domains2 q (λ e x has at. (
             let low : IsLow e.unit = low_unit domains affinity e.unit x kept.shape at in
-            let waits_there : has_unit (queue_of q) e.unit ≡ true = waits q e.unit low.byte (low_queued domains affinity q kept.shape kept.queued) ∙ sym (has_unit-append e.unit q.eligible q.spent) ∙ has in
-            let ne : d ≢ e.unit.dom.0 = λ same. clash (has_unit (queue_of q) e.unit) waits_there (waiting e.unit (sym same)) in
+            let waits_there : has_listed_unit (queue_of q) e.unit ≡ true = waits q e.unit low.byte (low_queued domains affinity q kept.shape kept.queued) ∙ sym (has_unit-append e.unit q.eligible q.spent) ∙ has in
+            let ne : d ≢ e.unit.dom.0 = λ same. clash (has_listed_unit (queue_of q) e.unit) waits_there (waiting e.unit (sym same)) in
             ap (λ (o : Option (List RtdsUnit)). unit_in o e.unit.n) (at_place-set_other d e.unit.dom.0 None domains ne) ∙ at)) kept.queued;
         room = omega (arith, old_room, sum, sizes);
         few = omega (arith, old_few, sum, sizes);
@@ -257,7 +257,7 @@ module _ (domains : List (Option (List RtdsUnit))) (affinity : List (Option (Lis
         };
         armed = armed_alike (queue_of q) (queue_of q) domains domains2 dues kept.armed (λ w. elim (ℕ_discrete d w.dom.0) [
           | yes e ↦
-              let gone : rtds_unit domains2 w ≡ None = no_record domains2 w (subst (λ (k : ℕ). at_place domains2 k ≡ None) e (at_place-set d None domains inside)) in
+              let gone : rtds_unit_at domains2 w ≡ None = no_record domains2 w (subst (λ (k : ℕ). at_place domains2 k ≡ None) e (at_place-set d None domains inside)) in
               idle_due (queue_of q) domains2 w (waiting w (sym e)) (λ x at. (let f : ◌≡◌ {A = Option RtdsUnit} None (Some x) = sym gone ∙ at in absurd (cc)))
               ∙ sym (idle_due (queue_of q) domains w (waiting w (sym e)) (λ x at. on w x (sym e) at))
           | no ne ↦ due_alike (queue_of q) (queue_of q) domains domains2 w (ap (λ (o : Option (List RtdsUnit)). unit_in o w.n) (at_place-set_other d w.dom.0 None domains ne)) refl
@@ -386,7 +386,7 @@ get_no_sets zero d = refl
 get_no_sets (suc n) zero = refl
 get_no_sets (suc n) (suc d) = get_no_sets n d
 
-get_no_due : (n d : ℕ) → due_of (let dues : List (Option Moment) = replicate n None in dues) d ≡ None
+get_no_due : (n d : ℕ) → armed_moment (let dues : List (Option Moment) = replicate n None in dues) d ≡ None
 get_no_due zero d = refl
 get_no_due (suc n) zero = refl
 get_no_due (suc n) (suc d) = get_no_due n d
@@ -415,6 +415,6 @@ kept_none n units latest masks few room early =
       armed =
           record {
             count = length-replicate {A = Option Moment} 2048 None;
-            each = λ u low. get_no_due 2048 (index_of u) ∙ sym (idle_due [] (replicate n None) u refl (λ x at. (let f : ◌≡◌ {A = Option RtdsUnit} None (Some x) = sym (no_record (replicate n None) u (get_none n u.dom.0)) ∙ at in absurd (cc))));
+            each = λ u low. get_no_due 2048 (unit_index u) ∙ sym (idle_due [] (replicate n None) u refl (λ x at. (let f : ◌≡◌ {A = Option RtdsUnit} None (Some x) = sym (no_record (replicate n None) u (get_none n u.dom.0)) ∙ at in absurd (cc))));
           };
     }

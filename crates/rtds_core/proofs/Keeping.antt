@@ -8,9 +8,9 @@ use Rattle.unit_places.specs.Places.{number_of}
 use Rattle.sched_base.specs.declared.Cores.{Cores}
 use Rattle.sched_base.specs.declared.Moment.{Moment}
 use Rattle.sched_base.specs.declared.UnitId.{UnitId}
-use Rattle.sched_model.specs.Places.{has_unit, same_unit}
+use Rattle.sched_model.specs.Places.{has_listed_unit, same_unit}
 use Rattle.sched_model.specs.declared.state.RtdsUnit.{RtdsUnit}
-use Rattle.sched_model.specs.EligibleUnits.{rtds_unit}
+use Rattle.sched_model.specs.EligibleUnits.{rtds_unit_at}
 use Rattle.sched_model.specs.Rtds.{change_unit}
 use Rattle.sched_base.proofs.Bools.{clash, or_left, or_right}
 use Rattle.sched_laws.proofs.Choices.{same_unit_same}
@@ -18,7 +18,7 @@ use Rattle.sched_base.proofs.Lists.{AllByRecursion-map, AllByRecursion-push}
 use Rattle.sched_laws.proofs.RtdsUnits.{rtds_unit-same, rtds_unit-other}
 use Rattle.arrival_queue.specs.Queues.{Queued, queued_unit as queued, is_of, put_first, goes_before, list_without as without, closed_up}
 use Rattle.arrival_queue.specs.Queues.{has_unit as has_queued}
-use Rattle.rtds_queue.specs.Lists.{Lists, key_of, holds, count, rank_of, put, after_remove, after_renew}
+use Rattle.rtds_queue.specs.Lists.{Lists, key_of, holds, count, rank_of, lists_after_arrival, after_remove, after_renew}
 use Rattle.queue_laws.specs.Arrivals.{arrival_order, arrivals, HasUnits, HasIndices}
 use Rattle.queue_laws.proofs.Arrivals.{each_arrived, length-arrivals}
 use Rattle.queue_laws.proofs.Removed.{each_without, stands, each-append}
@@ -38,21 +38,21 @@ low_queued domains affinity q is queued =
     (AllByRecursion-map (IsSpent domains) (λ (e : Queued). e.unit.n < 256) (λ e sp. (low_unit domains affinity e.unit sp.unit is sp.at).byte) q.spent queued.spent)
 
 -- a unit that waits has a record, and is not on
-pub waiting_known : (domains : List (Option (List RtdsUnit))) (q : Lists) (w : UnitId) → AreQueued domains q → has_unit (queue_of q) w ≡ true → (x : RtdsUnit) × (rtds_unit domains w ≡ Some x) × (x.burned ≡ None)
+pub waiting_known : (domains : List (Option (List RtdsUnit))) (q : Lists) (w : UnitId) → AreQueued domains q → has_listed_unit (queue_of q) w ≡ true → (x : RtdsUnit) × (rtds_unit_at domains w ≡ Some x) × (x.burned ≡ None)
 waiting_known domains q w queued has = arrived_known (q.eligible ++ q.spent)
-    (each-append (λ e. (x : RtdsUnit) × (rtds_unit domains e.unit ≡ Some x) × (x.burned ≡ None)) q.eligible q.spent
-    (AllByRecursion-map (IsEligible domains) (λ e. (x : RtdsUnit) × (rtds_unit domains e.unit ≡ Some x) × (x.burned ≡ None)) (λ e el. (el.unit, el.at, el.off)) q.eligible queued.eligible)
-    (AllByRecursion-map (IsSpent domains) (λ e. (x : RtdsUnit) × (rtds_unit domains e.unit ≡ Some x) × (x.burned ≡ None)) (λ e sp. (sp.unit, sp.at, sp.off)) q.spent queued.spent)) has
+    (each-append (λ e. (x : RtdsUnit) × (rtds_unit_at domains e.unit ≡ Some x) × (x.burned ≡ None)) q.eligible q.spent
+    (AllByRecursion-map (IsEligible domains) (λ e. (x : RtdsUnit) × (rtds_unit_at domains e.unit ≡ Some x) × (x.burned ≡ None)) (λ e el. (el.unit, el.at, el.off)) q.eligible queued.eligible)
+    (AllByRecursion-map (IsSpent domains) (λ e. (x : RtdsUnit) × (rtds_unit_at domains e.unit ≡ Some x) × (x.burned ≡ None)) (λ e sp. (sp.unit, sp.at, sp.off)) q.spent queued.spent)) has
   where
-    in_units : (es : List Queued) → AllByRecursion (λ e. (x : RtdsUnit) × (rtds_unit domains e.unit ≡ Some x) × (x.burned ≡ None)) es → has_unit (map (λ (e : Queued). e.unit) es) w ≡ true → (x : RtdsUnit) × (rtds_unit domains w ≡ Some x) × (x.burned ≡ None)
+    in_units : (es : List Queued) → AllByRecursion (λ e. (x : RtdsUnit) × (rtds_unit_at domains e.unit ≡ Some x) × (x.burned ≡ None)) es → has_listed_unit (map (λ (e : Queued). e.unit) es) w ≡ true → (x : RtdsUnit) × (rtds_unit_at domains w ≡ Some x) × (x.burned ≡ None)
     in_units [] each has = absurd (cc)
-    in_units (e ∷ es) each has = elim (or_cases (same_unit w e.unit) (has_unit (map (λ (x : Queued). x.unit) es) w) has) [
-      | inl is ↦ subst (λ (v : UnitId). (x : RtdsUnit) × (rtds_unit domains v ≡ Some x) × (x.burned ≡ None)) (sym (same_unit_same w e.unit is)) each.0
+    in_units (e ∷ es) each has = elim (or_cases (same_unit w e.unit) (has_listed_unit (map (λ (x : Queued). x.unit) es) w) has) [
+      | inl is ↦ subst (λ (v : UnitId). (x : RtdsUnit) × (rtds_unit_at domains v ≡ Some x) × (x.burned ≡ None)) (sym (same_unit_same w e.unit is)) each.0
       | inr rest ↦ in_units es each.1 rest
     ]
 
-    arrived_known : (es : List Queued) → AllByRecursion (λ e. (x : RtdsUnit) × (rtds_unit domains e.unit ≡ Some x) × (x.burned ≡ None)) es → has_unit (arrivals es) w ≡ true → (x : RtdsUnit) × (rtds_unit domains w ≡ Some x) × (x.burned ≡ None)
-    arrived_known es each has = in_units (arrival_order es) (each_arrived (λ e. (x : RtdsUnit) × (rtds_unit domains e.unit ≡ Some x) × (x.burned ≡ None)) es each) has
+    arrived_known : (es : List Queued) → AllByRecursion (λ e. (x : RtdsUnit) × (rtds_unit_at domains e.unit ≡ Some x) × (x.burned ≡ None)) es → has_listed_unit (arrivals es) w ≡ true → (x : RtdsUnit) × (rtds_unit_at domains w ≡ Some x) × (x.burned ≡ None)
+    arrived_known es each has = in_units (arrival_order es) (each_arrived (λ e. (x : RtdsUnit) × (rtds_unit_at domains e.unit ≡ Some x) × (x.burned ≡ None)) es each) has
 
 -- an item of another unit
 item_other : (u : UnitId) (e : Queued) → is_of u e ≡ false → same_unit u e.unit ≡ false
@@ -88,23 +88,23 @@ module _ (u : UnitId) (f : RtdsUnit → RtdsUnit) (domains : List (Option (List 
   queued_like lefts ons keys q is = record {
     eligible = AllByRecursion-map (IsEligible domains) (IsEligible (change_unit u f domains)) (λ e el. elim (cases_Bool (same_unit u e.unit)) [
       | inl same ↦
-          let at : rtds_unit (change_unit u f domains) e.unit ≡ Some (f el.unit) = subst (λ (v : UnitId). rtds_unit (change_unit u f domains) v ≡ Some (f el.unit)) (same_unit_same u e.unit same) (rtds_unit-same u f domains el.unit (subst (λ (v : UnitId). rtds_unit domains v ≡ Some el.unit) (sym (same_unit_same u e.unit same)) el.at)) in
+          let at : rtds_unit_at (change_unit u f domains) e.unit ≡ Some (f el.unit) = subst (λ (v : UnitId). rtds_unit_at (change_unit u f domains) v ≡ Some (f el.unit)) (same_unit_same u e.unit same) (rtds_unit-same u f domains el.unit (subst (λ (v : UnitId). rtds_unit_at domains v ≡ Some el.unit) (sym (same_unit_same u e.unit same)) el.at)) in
           record { unit = f el.unit; at = at; off = ons el.unit ∙ el.off; left = (let l = el.left in let e1 = lefts el.unit in omega (arith, l, e1)); key = el.key ∙ sym (ap key_of (keys el.unit)) }
       | inr other ↦ record { unit = el.unit; at = rtds_unit-other u e.unit f domains other ∙ el.at; off = el.off; left = el.left; key = el.key }
     ]) q.eligible is.eligible;
     spent = AllByRecursion-map (IsSpent domains) (IsSpent (change_unit u f domains)) (λ e sp. elim (cases_Bool (same_unit u e.unit)) [
       | inl same ↦
-          let at : rtds_unit (change_unit u f domains) e.unit ≡ Some (f sp.unit) = subst (λ (v : UnitId). rtds_unit (change_unit u f domains) v ≡ Some (f sp.unit)) (same_unit_same u e.unit same) (rtds_unit-same u f domains sp.unit (subst (λ (v : UnitId). rtds_unit domains v ≡ Some sp.unit) (sym (same_unit_same u e.unit same)) sp.at)) in
+          let at : rtds_unit_at (change_unit u f domains) e.unit ≡ Some (f sp.unit) = subst (λ (v : UnitId). rtds_unit_at (change_unit u f domains) v ≡ Some (f sp.unit)) (same_unit_same u e.unit same) (rtds_unit-same u f domains sp.unit (subst (λ (v : UnitId). rtds_unit_at domains v ≡ Some sp.unit) (sym (same_unit_same u e.unit same)) sp.at)) in
           record { unit = f sp.unit; at = at; off = ons sp.unit ∙ sp.off; left = lefts sp.unit ∙ sp.left }
       | inr other ↦ record { unit = sp.unit; at = rtds_unit-other u e.unit f domains other ∙ sp.at; off = sp.off; left = sp.left }
     ]) q.spent is.spent;
   }
 
 -- a unit that is put
-pub queued_put : (domains : List (Option (List RtdsUnit))) (q : Lists) (u : UnitId) (x : RtdsUnit) → rtds_unit domains u ≡ Some x → x.burned ≡ None → AreQueued domains q → AreQueued domains (put q u (key_by x) (x.left == 0))
+pub queued_put : (domains : List (Option (List RtdsUnit))) (q : Lists) (u : UnitId) (x : RtdsUnit) → rtds_unit_at domains u ≡ Some x → x.burned ≡ None → AreQueued domains q → AreQueued domains (lists_after_arrival q u (key_by x) (x.left == 0))
 queued_put domains q u x at off is = by_left (x.left == 0) refl
   where
-    by_left : (b : Bool) → (x.left == 0) ≡ b → AreQueued domains (put q u (key_by x) b)
+    by_left : (b : Bool) → (x.left == 0) ≡ b → AreQueued domains (lists_after_arrival q u (key_by x) b)
     by_left true e = record { eligible = is.eligible; spent = AllByRecursion-push (IsSpent domains) q.spent (queued u (key_of (key_by x)) (count q)) is.spent (record { unit = x; at = at; off = off; left = grind (arith, nat_tests, e) }) }
     by_left false e = record { eligible = each_placed (IsEligible domains) (queued u (key_of (key_by x)) (count q)) q.eligible (record { unit = x; at = at; off = off; left = grind (arith, nat_tests, e); key = refl }) is.eligible; spent = is.spent }
 
@@ -123,7 +123,7 @@ none_without u (e ∷ es) = elim (cases_Bool (is_of u e)) [
 ]
 
 -- one that is changed and renewed, with budget left then
-pub queued_renewed : (domains : List (Option (List RtdsUnit))) (q : Lists) (u : UnitId) (f : RtdsUnit → RtdsUnit) (x : RtdsUnit) → rtds_unit domains u ≡ Some x → (f x).burned ≡ None → 0 < (f x).left → AreQueued domains q → AreQueued (change_unit u f domains) (after_renew q u (key_by (f x)))
+pub queued_renewed : (domains : List (Option (List RtdsUnit))) (q : Lists) (u : UnitId) (f : RtdsUnit → RtdsUnit) (x : RtdsUnit) → rtds_unit_at domains u ≡ Some x → (f x).burned ≡ None → 0 < (f x).left → AreQueued domains q → AreQueued (change_unit u f domains) (after_renew q u (key_by (f x)))
 queued_renewed domains q u f x at off left is = record {
   eligible = each_placed (IsEligible (change_unit u f domains)) (queued u (key_of (key_by (f x))) (rank_of q u)) (without u q.eligible)
       (record { unit = f x; at = rtds_unit-same u f domains x at; off = off; left = left; key = refl })
@@ -143,7 +143,7 @@ length_closed : (r : ℕ) (xs : List Queued) → length (map (closed_up r) xs) �
 length_closed r [] = refl
 length_closed r (x ∷ xs) = ap suc (length_closed r xs)
 
-pub count_put : (q : Lists) (u : UnitId) (x : RtdsUnit) (b : Bool) → 0 < q.spare → (put q u (key_by x) b).spare + count (put q u (key_by x) b) ≡ q.spare + count q
+pub count_put : (q : Lists) (u : UnitId) (x : RtdsUnit) (b : Bool) → 0 < q.spare → (lists_after_arrival q u (key_by x) b).spare + count (lists_after_arrival q u (key_by x) b) ≡ q.spare + count q
 count_put q u x true some = (let e = length-append q.spent (queued u (key_of (key_by x)) (count q) ∷ []) in omega (arith, e, some))
 count_put q u x false some = (let e = length_put (goes_before (queued u (key_of (key_by x)) (count q))) (queued u (key_of (key_by x)) (count q)) q.eligible in omega (arith, e, some))
 
@@ -180,7 +180,7 @@ count_renewed q u x is here =
 
 -- there is room for a unit that does not wait
 pub room_left : (domains : List (Option (List RtdsUnit))) (affinity : List (Option (List Cores))) (q : Lists) (masks : List Cores) (dues : List (Option Moment)) (spare latest : ℕ) (u : UnitId) (x : RtdsUnit) → IsKept domains affinity q masks dues spare latest → IsOrdered q
-    → rtds_unit domains u ≡ Some x → has_unit (queue_of q) u ≡ false → 0 < q.spare
+    → rtds_unit_at domains u ≡ Some x → has_listed_unit (queue_of q) u ≡ false → 0 < q.spare
 room_left domains affinity q masks dues spare latest u x kept order at none =
     let all : List Queued = q.eligible ++ q.spent in
     let apart = apart_arrivals all (once_units all order.units) (low_queued domains affinity q kept.shape kept.queued) in
@@ -191,8 +191,8 @@ room_left domains affinity q masks dues spare latest u x kept order at none =
     let room = kept.room in
     omega (arith, few, n, l, c, room)
   where
-    within : (w : UnitId) → has_unit (u ∷ queue_of q) w ≡ true → has_unit (all_names 0 domains) w ≡ true
-    within w has = elim (or_cases (same_unit w u) (has_unit (queue_of q) w) has) [
-      | inl same ↦ subst (λ (v : UnitId). has_unit (all_names 0 domains) v ≡ true) (sym (same_unit_same w u same)) (known_named domains u x at)
+    within : (w : UnitId) → has_listed_unit (u ∷ queue_of q) w ≡ true → has_listed_unit (all_names 0 domains) w ≡ true
+    within w has = elim (or_cases (same_unit w u) (has_listed_unit (queue_of q) w) has) [
+      | inl same ↦ subst (λ (v : UnitId). has_listed_unit (all_names 0 domains) v ≡ true) (sym (same_unit_same w u same)) (known_named domains u x at)
       | inr waits ↦ (let k = waiting_known domains q w kept.queued waits in known_named domains w k.0 k.1)
     ]

@@ -3,11 +3,11 @@ use Rattle.std.proofs.Common.{◌≡◌, ◌≢◌, ◌<◌, ℕ, Bool, true, fa
 use Rattle.std.specs.Prelude.{◌||◌, if◌then◌else◌}
 use Rattle.std.specs.List.{AllByRecursion}
 use Rattle.sched_base.specs.declared.UnitId.{UnitId}
-use Rattle.sched_model.specs.Places.{without_unit, has_unit as has}
+use Rattle.sched_model.specs.Places.{without_unit, has_listed_unit}
 use Rattle.arrival_queue.specs.Queues.{Queued, queued_unit, is_of, list_without, rank_in, closed_up, has_unit}
 use Rattle.arrival_queue.specs.Order.{IsInOrder, EachRankOnce, EachUnitOnce}
 use Rattle.rtds_queue.specs.declared.RtdsKey.{RtdsKey}
-use Rattle.rtds_queue.specs.Lists.{Lists, key_of, holds, count, rank_of, put, after_remove, after_renew}
+use Rattle.rtds_queue.specs.Lists.{Lists, key_of, holds, count, rank_of, lists_after_arrival, after_remove, after_renew}
 use Rattle.queue_laws.specs.Arrivals.{arrival_order, arrivals, LacksRank, HasRanks, RanksBelow, HasIndices}
 use Rattle.queue_laws.proofs.Arrivals.{ins, arrived_split, arrivals_placed, arrivals_appended}
 use Rattle.queue_laws.proofs.Removed.{arrivals_removed, arrivals_moved, has_arrived, lacks_own}
@@ -39,14 +39,14 @@ map-append f [] r = refl
 map-append f (x ∷ l) r = ap (λ (ys : List Queued). f x ∷ ys) (map-append f l r)
 
 -- whether a unit waits
-pub waits : (q : Lists) (u : UnitId) → u.n < 256 → HasIndices (q.eligible ++ q.spent) → has (queue_of q) u ≡ holds q u
+pub waits : (q : Lists) (u : UnitId) → u.n < 256 → HasIndices (q.eligible ++ q.spent) → has_listed_unit (queue_of q) u ≡ holds q u
 waits q u low lows = has_arrived u (q.eligible ++ q.spent) low lows ∙ has_unit-append u q.eligible q.spent
 
 below_count : (q : Lists) → IsOrdered q → RanksBelow (count q) (q.eligible ++ q.spent)
 below_count q is = subst (λ (n : ℕ). RanksBelow n (q.eligible ++ q.spent)) (length-append q.eligible q.spent) (once_below (q.eligible ++ q.spent) is.ranks)
 
 -- a unit that is put arrives last
-pub queue_put : (q : Lists) (u : UnitId) (key : RtdsKey) (spent : Bool) → IsOrdered q → queue_of (put q u key spent) ≡ queue_of q ++ u ∷ []
+pub queue_put : (q : Lists) (u : UnitId) (key : RtdsKey) (spent : Bool) → IsOrdered q → queue_of (lists_after_arrival q u key spent) ≡ queue_of q ++ u ∷ []
 queue_put q u key true is =
     ap arrivals (sym (append_assoc q.eligible q.spent (queued_unit u (key_of key) (count q) ∷ [])))
     ∙ arrivals_appended u (key_of key) (count q) (q.eligible ++ q.spent) (below_count q is)

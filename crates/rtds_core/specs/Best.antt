@@ -8,8 +8,8 @@ use Rattle.sched_base.specs.declared.Moment.{Moment}
 use Rattle.sched_base.specs.declared.UnitId.{UnitId}
 use Rattle.sched_model.specs.declared.state.RtdsUnit.{RtdsUnit}
 use Rattle.sched_model.specs.Places.{at_place}
-use Rattle.sched_model.specs.EligibleUnits.{cores_of, rtds_unit}
-use Rattle.sched_model.specs.Rtds.{budget_left, unit_before, set_running}
+use Rattle.sched_model.specs.EligibleUnits.{unit_cores, rtds_unit_at}
+use Rattle.sched_model.specs.Rtds.{unit_left_budget, is_unit_before, running_domains}
 use Rattle.arrival_queue.specs.Queues.{Queued}
 use Rattle.rtds_queue.specs.declared.RtdsKey.{RtdsKey}
 use Rattle.rtds_queue.specs.Lists.{Lists, rtds_key, key_of, holds, after_remove}
@@ -27,7 +27,7 @@ key_by x = rtds_key x.level x.deadline
 -- a waiting unit with budget left: it is on no core, and is sorted by its level and deadline
 pub record IsEligible (domains : List (Option (List RtdsUnit))) (e : Queued) : Type 0 where
   pub unit : RtdsUnit
-  pub at : rtds_unit domains e.unit ≡ Some unit
+  pub at : rtds_unit_at domains e.unit ≡ Some unit
   pub off : unit.burned ≡ None
   pub left : 0 < unit.left
   pub key : e.key ≡ key_of (key_by unit)
@@ -35,7 +35,7 @@ pub record IsEligible (domains : List (Option (List RtdsUnit))) (e : Queued) : T
 -- a waiting unit without budget
 pub record IsSpent (domains : List (Option (List RtdsUnit))) (e : Queued) : Type 0 where
   pub unit : RtdsUnit
-  pub at : rtds_unit domains e.unit ≡ Some unit
+  pub at : rtds_unit_at domains e.unit ≡ Some unit
   pub off : unit.burned ≡ None
   pub left : unit.left ≡ 0
 
@@ -46,7 +46,7 @@ pub record AreQueued (domains : List (Option (List RtdsUnit))) (q : Lists) : Typ
 
 -- the table has the sets of cores of the units that have joined
 pub record AreMasks (affinity : List (Option (List Cores))) (masks : List Cores) : Type 0 where
-  pub each : (u : UnitId) (sets : List Cores) → at_place affinity u.dom.0 ≡ Some sets → u.n < length sets → (mask_of masks u).0 ≡ cores_of affinity u
+  pub each : (u : UnitId) (sets : List Cores) → at_place affinity u.dom.0 ≡ Some sets → u.n < length sets → (mask_of masks u).0 ≡ unit_cores affinity u
 
 -- the list of what there is
 abbrev pub list_of : {X : Type 0} → Option X → List X
@@ -54,23 +54,23 @@ list_of None = []
 list_of (Some x) = x ∷ []
 
 -- whether the first that waits, if one does, goes before the core's own
-abbrev pub goes_first : List (Option (List RtdsUnit)) → Option UnitId → UnitId → Bool
-goes_first domains None own = false
-goes_first domains (Some u) own = unit_before domains u own
+abbrev pub is_waiting_first : List (Option (List RtdsUnit)) → Option UnitId → UnitId → Bool
+is_waiting_first domains None own = false
+is_waiting_first domains (Some u) own = is_unit_before domains u own
 
 -- the moment at which the budget of the chosen unit is used up
 abbrev pub due_at : List (Option (List RtdsUnit)) → ℕ → Option UnitId → Option Moment
 due_at domains at None = None
-due_at domains at (Some u) = Some (moment (at + budget_left domains u))
+due_at domains at (Some u) = Some (moment (at + unit_left_budget domains u))
 
 -- the unit's deadline
 abbrev pub deadline_in : List (Option (List RtdsUnit)) → UnitId → ℕ
-deadline_in domains u = elim (rtds_unit domains u) [ None ↦ 0 | Some x ↦ x.deadline ]
+deadline_in domains u = elim (rtds_unit_at domains u) [ None ↦ 0 | Some x ↦ x.deadline ]
 
 -- the records where the chosen unit runs from a moment
 abbrev pub run_from : ℕ → Option UnitId → List (Option (List RtdsUnit)) → List (Option (List RtdsUnit))
 run_from at None domains = domains
-run_from at (Some u) domains = set_running (Some at) u domains
+run_from at (Some u) domains = running_domains (Some at) u domains
 
 -- the queues without the chosen unit, which may wait or be on already
 abbrev pub queues_without : Option UnitId → Lists → Lists

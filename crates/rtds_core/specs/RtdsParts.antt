@@ -5,20 +5,20 @@ use Rattle.sched_base.specs.declared.Cores.{Cores}
 use Rattle.sched_base.specs.declared.Moment.{Moment}
 use Rattle.sched_base.specs.declared.UnitId.{UnitId}
 use Rattle.sched_model.specs.declared.config.SchedKind.TheVariants as kinds
-use Rattle.sched_model.specs.Policy.{kind_of}
+use Rattle.sched_model.specs.Policy.{records_kind}
 use Rattle.sched_model.specs.declared.config.PoolParams.TheVariants as pool_params
 use Rattle.sched_model.specs.declared.state.RtdsUnit.{RtdsUnit}
 use Rattle.sched_model.specs.declared.state.Records.TheVariants.{RtdsPool}
-use Rattle.sched_model.specs.Places.{at_place, has_unit}
+use Rattle.sched_model.specs.Places.{at_place, has_listed_unit}
 use Rattle.sched_model.specs.CheckedMachine.{most_span}
-use Rattle.sched_model.specs.EligibleUnits.{rtds_unit}
+use Rattle.sched_model.specs.EligibleUnits.{rtds_unit_at}
 use Rattle.sched_laws.specs.EachPlace.{EachPlace}
 use Rattle.state_ranges.specs.Fits.{RtdsFit}
-use Rattle.due_heap.specs.Dues.{due_of}
+use Rattle.due_heap.specs.Dues.{armed_moment}
 use Rattle.rtds_queue.specs.Lists.{Lists, count, after_renew}
 use Rattle.sched_ops.specs.Seen.{Seen, vacant_scheduler}
 use Rattle.rtds_core.specs.Alarms.{with_due}
-use Rattle.unit_places.specs.Places.{index_of}
+use Rattle.unit_places.specs.Places.{unit_index}
 use Rattle.rtds_core.specs.Best.{queue_of, key_by, AreQueued, AreMasks}
 
 -- the records and the sets of cores are of the same domains and units, at most 64 and 32 of them
@@ -40,12 +40,12 @@ total (o ∷ domains) = size o + total domains
 
 -- the moment at which a unit is replenished, while it waits or is on
 abbrev pub due_for : List UnitId → List (Option (List RtdsUnit)) → UnitId → Option Moment
-due_for queue domains u = elim (rtds_unit domains u) [ None ↦ None | Some x ↦ (if has_unit queue u || is_some x.burned then Some (moment x.deadline) else None) ]
+due_for queue domains u = elim (rtds_unit_at domains u) [ None ↦ None | Some x ↦ (if has_listed_unit queue u || is_some x.burned then Some (moment x.deadline) else None) ]
 
 -- the armed moments are those
 pub record AreArmed (queue : List UnitId) (domains : List (Option (List RtdsUnit))) (dues : List (Option Moment)) : Type 0 where
   pub count : length dues ≡ 2048
-  pub each : (u : UnitId) → u.n < 32 → due_of dues (index_of u) ≡ due_for queue domains u
+  pub each : (u : UnitId) → u.n < 32 → armed_moment dues (unit_index u) ≡ due_for queue domains u
 
 -- what the parts keep
 pub record IsKept (domains : List (Option (List RtdsUnit))) (affinity : List (Option (List Cores))) (q : Lists) (masks : List Cores) (dues : List (Option Moment)) (spare latest : ℕ) : Type 0 where
@@ -78,4 +78,4 @@ rearmed_dues (Some x) u dues = with_due u (Some (moment x.deadline)) dues
 
 -- the records are of RTDS
 abbrev pub IsRtds : Seen → Type 0
-IsRtds seen = kind_of seen.scheduler.records ≡ kinds.Rtds
+IsRtds seen = records_kind seen.scheduler.records ≡ kinds.Rtds

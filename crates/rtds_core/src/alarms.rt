@@ -1,8 +1,8 @@
 //! The moments at which units are replenished: a heap of them, and beside it each unit's own.
 
 ghost use Rattle.std.specs.Prelude.{◌≡◌, ◌<◌, length, replicate, IfOk};
-ghost use Rattle.rtds_core.specs.Alarms.{unit_of as unit_of_id, timer_of};
-ghost use Rattle.unit_places.specs.Places.{index_of};
+ghost use Rattle.rtds_core.specs.Alarms.{unit_of_id, timer_of};
+ghost use Rattle.unit_places.specs.Places.{unit_index};
 
 use due_heap::DueHeap;
 use sched_base::{DomId, Moment, NoMemory, UnitId};
@@ -38,7 +38,7 @@ fn none_times(alloc: Global, times: usize) -> Result<Vec<Option<Moment>>, NoMemo
 }
 
 fn id_of_unit(u: UnitId) -> u16
-    ensures { result ≡ index_of u }
+    ensures { result ≡ unit_index u }
 {
     u.dom.0 as u16 * 32 + u.n as u16
 }
@@ -66,9 +66,9 @@ fn timer_at(dues: &[Option<Moment>], id: u16) -> Option<(Moment, Timer)>
 
 impl Alarms {
     ghost use Rattle.std.specs.Prelude.{◌≡◌, ◌<◌, IfOk, Some, None, replicate, length};
-    ghost use Rattle.unit_places.specs.Places.{index_of};
+    ghost use Rattle.unit_places.specs.Places.{unit_index};
     ghost use Rattle.rtds_core.specs.Alarms.{armed_timers, with_due};
-    ghost use Rattle.sched_ops.specs.Timers.{next_of};
+    ghost use Rattle.sched_ops.specs.Timers.{next_armed};
     /// Alarms of which none is set.
     pub fn room(alloc: Global) -> Result<Alarms, NoMemory>
         ensures { IfOk result (λ alarms. alarms ≡ replicate 2048 None) }
@@ -80,7 +80,7 @@ impl Alarms {
 
     /// The unit's moment is this one, in place of the one that it had.
     pub fn arm(&mut self, u: UnitId, at: Moment)
-        requires { index_of u < 2048 }
+        requires { unit_index u < 2048 }
         ensures { self.new ≡ with_due u (Some at) self.old }
     {
         let id = id_of_unit(u);
@@ -90,7 +90,7 @@ impl Alarms {
 
     /// The unit has no moment.
     pub fn disarm(&mut self, u: UnitId)
-        requires { index_of u < 2048 }
+        requires { unit_index u < 2048 }
         ensures { self.new ≡ with_due u None self.old }
     {
         let id = id_of_unit(u);
@@ -101,7 +101,7 @@ impl Alarms {
     /// The first timer whose moment has come at t, in order of domain and unit; where there is none, the one of the least
     /// moment. The heap knows both.
     pub fn next(&self, t: Moment) -> Option<(Moment, Timer)>
-        ensures { result ≡ next_of t.0 (armed_timers 0 self.now) }
+        ensures { result ≡ next_armed t.0 (armed_timers 0 self.now) }
     {
         match self.heap.first_due(t) {
             Some(id) => timer_at(self.dues.as_slice(), id),

@@ -5,11 +5,11 @@ ghost use Rattle.std.specs.Prelude.{◌≡◌, ◌+◌, ◌<◌, ◌≤◌, ◌+
 ghost use Rattle.std.specs.Option.{ForSome};
 ghost use Rattle.sched_base.specs.declared.UnitId.{UnitId as UnitName};
 ghost use Rattle.sched_model.specs.declared.state.Records.TheVariants.{RtdsPool};
-ghost use Rattle.sched_model.specs.Rtds.{budget_left as budget_left_spec, foremost_unit, choice, switch_off};
+ghost use Rattle.sched_model.specs.Rtds.{unit_left_budget, first_of_units, rtds_choice, off_domains};
 ghost use Rattle.arrival_queue.specs.Order.{IsInOrder, EachRankOnce, EachUnitOnce};
 ghost use Rattle.scheduler_records.specs.Parts.{scheduler_of};
-ghost use Rattle.unit_places.specs.Places.{index_of};
-ghost use Rattle.rtds_core.specs.Best.{queue_of, key_by, AreQueued, AreMasks, list_of, goes_first as goes_first_spec, due_at, deadline_in, run_from, queues_without, dues_with, dues_without};
+ghost use Rattle.unit_places.specs.Places.{unit_index};
+ghost use Rattle.rtds_core.specs.Best.{queue_of, key_by, AreQueued, AreMasks, list_of, is_waiting_first, due_at, deadline_in, run_from, queues_without, dues_with, dues_without};
 ghost use Rattle.rtds_core.specs.RtdsParts.{IsShaped};
 
 use crate::alarms::Alarms;
@@ -44,7 +44,7 @@ fn deadline_of(domains: &[Option<RtdsUnits>], u: UnitId) -> u64
 
 /// Whether the first that waits, if one does, goes before the core's own.
 pub fn goes_first(domains: &[Option<RtdsUnits>], first: Option<UnitId>, own: UnitId) -> bool
-    ensures { result ≡ goes_first_spec domains.now first own }
+    ensures { result ≡ is_waiting_first domains.now first own }
 {
     match first {
         None => false,
@@ -58,7 +58,7 @@ fn better_of(
     own: Option<UnitId>,
     first: Option<UnitId>,
 ) -> Option<UnitId>
-    ensures { result ≡ foremost_unit domains.now own (list_of first) }
+    ensures { result ≡ first_of_units domains.now own (list_of first) }
 {
     match own {
         None => first,
@@ -87,7 +87,7 @@ pub fn pick(
     requires units { EachUnitOnce (queues.now.eligible ++ queues.now.spent) }
     requires shape { IsShaped domains.now affinity.now }
     requires masks { AreMasks affinity.now masks.now }
-    ensures { result ≡ choice ask.now (scheduler_of (queue_of queues.now) affinity.now
+    ensures { result ≡ rtds_choice ask.now (scheduler_of (queue_of queues.now) affinity.now
         (RtdsPool domains.now)) domains.now }
 {
     if ask.leaving {
@@ -100,7 +100,7 @@ pub fn pick(
 /// The moment at which the budget of the chosen unit is used up.
 pub fn due_of(domains: &[Option<RtdsUnits>], at: u64, chosen: Option<UnitId>) -> Option<Moment>
     requires early { at ≤ most_span }
-    requires left { (u : UnitName) → budget_left_spec domains.now u ≤ 1000000000000 }
+    requires left { (u : UnitName) → unit_left_budget domains.now u ≤ 1000000000000 }
     ensures { result ≡ due_at domains.now at chosen }
 {
     match chosen {
@@ -111,8 +111,8 @@ pub fn due_of(domains: &[Option<RtdsUnits>], at: u64, chosen: Option<UnitId>) ->
 
 /// The core's own unit runs no more, and as it does not wait, it is not armed.
 pub fn stop(cur: Option<UnitId>, domains: &mut Row<Option<RtdsUnits>>, alarms: &mut Alarms)
-    requires known { ForSome cur (λ u. index_of u < 2048) }
-    ensures domains { domains.new ≡ switch_off cur domains.old }
+    requires known { ForSome cur (λ u. unit_index u < 2048) }
+    ensures domains { domains.new ≡ off_domains cur domains.old }
     ensures alarms { alarms.new ≡ dues_without cur alarms.old }
 {
     if let Some(u) = cur {
@@ -129,7 +129,7 @@ pub fn start(
     queues: &mut RtdsQueues,
     alarms: &mut Alarms,
 )
-    requires known { ForSome chosen (λ u. index_of u < 2048) }
+    requires known { ForSome chosen (λ u. unit_index u < 2048) }
     ensures domains { domains.new ≡ run_from at chosen domains.old }
     ensures queues { queues.new ≡ queues_without chosen queues.old }
     ensures alarms { alarms.new ≡ dues_with domains.old chosen alarms.old }

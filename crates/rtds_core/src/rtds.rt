@@ -23,7 +23,7 @@
 
 ghost use Rattle.sched_model.specs.CheckedMachine.{most_span};
 ghost use Rattle.std.specs.Prelude.{◌≡◌, ◌≤◌};
-ghost use Rattle.sched_model.specs.Policy.{kind_of};
+ghost use Rattle.sched_model.specs.Policy.{records_kind};
 ghost use Rattle.sched_model.specs.declared.config.SchedKind.{SchedKind};
 ghost use Rattle.rtds_core.specs.RtdsView.{seen_by};
 
@@ -63,7 +63,7 @@ fn latest_of(state: &Option<RtdsState>, early: u64) -> u64
     requires { early ≤ most_span }
     ensures latest { result ≡ (seen_by state.now early).latest }
     ensures early { result ≤ most_span }
-    ensures kind { kind_of (seen_by state.now early).scheduler.records ≡ SchedKind.Rtds }
+    ensures kind { records_kind (seen_by state.now early).scheduler.records ≡ SchedKind.Rtds }
 {
     match state {
         None => early,
@@ -76,7 +76,7 @@ fn latest_of(state: &Option<RtdsState>, early: u64) -> u64
 
 /// Does nothing, and tells that the records are of RTDS.
 fn law_kind(state: &Option<RtdsState>, early: u64)
-    ensures { kind_of (seen_by state.now early).scheduler.records ≡ SchedKind.Rtds }
+    ensures { records_kind (seen_by state.now early).scheduler.records ≡ SchedKind.Rtds }
 {
     match state {
         None => {}

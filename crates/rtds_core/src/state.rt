@@ -5,7 +5,7 @@ ghost use Rattle.std.specs.Prelude.{◌≡◌, ◌≤◌, ◌<◌, IfOk, replica
 ghost use Rattle.std.specs.Option.{IfSome};
 ghost use Rattle.sched_model.specs.Places.{at_place};
 ghost use Rattle.rtds_queue.specs.Lists.{empty_lists, holds};
-ghost use Rattle.unit_places.specs.Places.{index_of};
+ghost use Rattle.unit_places.specs.Places.{unit_index};
 ghost use Rattle.rtds_core.specs.RtdsParts.{size, renewed_if, rearmed_dues};
 
 use crate::alarms::Alarms;
@@ -79,18 +79,18 @@ fn count_units(affinity: &[Option<Pins>], d: DomId) -> usize
 
 impl RtdsState {
     ghost use Rattle.std.specs.Prelude.{◌≡◌, ℕ, ◌≤◌, ◌<◌, ◌+◌, ◌-◌, true, IfOk, None, Some, length};
-    ghost use Rattle.sched_model.specs.State.{has_core};
+    ghost use Rattle.sched_model.specs.State.{has_core_bit};
     ghost use Rattle.sched_laws.specs.EachPlace.{EachPlace};
     ghost use Rattle.sched_model.specs.declared.config.PoolParams.TheVariants as pool_params;
-    ghost use Rattle.sched_model.specs.Places.{at_place, has_unit};
-    ghost use Rattle.sched_model.specs.Policy.{decision_of, after_decision, enqueue as enqueue_spec, join as join_spec, part as part_spec, set_params as set_params_spec, rate_of, kind_of};
+    ghost use Rattle.sched_model.specs.Places.{at_place, has_listed_unit};
+    ghost use Rattle.sched_model.specs.Policy.{decision_of, after_decision, scheduler_with_queued, joined_scheduler, parted_scheduler, changed_scheduler, pool_rate_limit, records_kind};
     ghost use Rattle.sched_ops.specs.declared.timer.Timer.TheVariants.{Repl};
-    ghost use Rattle.sched_ops.specs.Seen.{Tells, vacant_scheduler, restarted_scheduler, dequeue as dequeue_spec, units_of, with_scheduler, seen_at};
-    ghost use Rattle.sched_ops.specs.Conditions.{IsNow, IsAsked, IsAway, HasNoneBusy, AreDomParams, IsChange, Keeps, is_member, is_vacant, has_joined};
-    ghost use Rattle.sched_ops.specs.Timers.{timer_at, is_due, timer_event, after_timer};
+    ghost use Rattle.sched_ops.specs.Seen.{Tells, vacant_scheduler, restarted_scheduler, scheduler_without_unit, units_of, with_scheduler, seen_at};
+    ghost use Rattle.sched_ops.specs.Conditions.{IsNow, IsAsked, IsAway, HasNoneBusy, AreDomParams, IsChange, Keeps, is_member, is_vacant, has_joined_domain};
+    ghost use Rattle.sched_ops.specs.Timers.{next_scheduler_timer, is_due, timer_event, after_timer};
     ghost use Rattle.sched_ops.specs.Told.{IsInRange};
-    ghost use Rattle.sched_model.specs.Policy.{stored_of};
-    ghost use Rattle.sched_ops.specs.WantedCores.{MayAsk, is_wanted};
+    ghost use Rattle.sched_model.specs.Policy.{unit_stored};
+    ghost use Rattle.sched_ops.specs.WantedCores.{MayAsk, is_core_wanted};
     ghost use Rattle.rtds_core.specs.RtdsParts.{IsRtds};
 
     /// The memory for a pool of a machine with these places, of which so many units may join.
@@ -138,10 +138,10 @@ impl RtdsState {
         requires absent { at_place self.old.scheduler.affinity d.0 ≡ None }
         requires few { units ≤ 32 }
         requires room { units ≤ self.old.spare }
-        requires params { AreDomParams (kind_of self.old.scheduler.records) params.now }
+        requires params { AreDomParams (records_kind self.old.scheduler.records) params.now }
         requires now { IsNow self.old t.0 }
         ensures scheduler { self.new.scheduler
-            ≡ join_spec d.0 units params.now t.0 self.old.scheduler }
+            ≡ joined_scheduler d.0 units params.now t.0 self.old.scheduler }
         ensures spare { self.new.spare ≡ self.old.spare - units }
         ensures latest { self.new.latest ≡ t.0 }
     {
@@ -156,9 +156,9 @@ impl RtdsState {
 
     /// The domain parts. None of its units waits or is on.
     pub fn part(&mut self, d: DomId)
-        requires joined { has_joined self.old.scheduler d.0 ≡ true }
+        requires joined { has_joined_domain self.old.scheduler d.0 ≡ true }
         requires idle { HasNoneBusy self.old.scheduler d.0 }
-        ensures scheduler { self.new.scheduler ≡ part_spec d.0 self.old.scheduler }
+        ensures scheduler { self.new.scheduler ≡ parted_scheduler d.0 self.old.scheduler }
         ensures spare { self.new.spare ≡ self.old.spare + units_of self.old.scheduler d.0 }
         ensures latest { self.new.latest ≡ self.old.latest }
     {
@@ -173,7 +173,7 @@ impl RtdsState {
     /// where it has no budget left. Its replenishment is armed.
     pub fn enqueue(&mut self, u: UnitId)
         requires away { IsAway self.old.scheduler u }
-        ensures { self.new ≡ with_scheduler (enqueue_spec u self.old.scheduler) self.old }
+        ensures { self.new ≡ with_scheduler (scheduler_with_queued u self.old.scheduler) self.old }
     {
         self.queues.law_order();
         if let Some(x) = rtds_unit(self.domains.as_slice(), u) {
@@ -185,8 +185,8 @@ impl RtdsState {
 
     /// The unit, which waits, waits no more, and its replenishment is not armed.
     pub fn dequeue(&mut self, u: UnitId)
-        requires waits { has_unit self.old.scheduler.queue u ≡ true }
-        ensures { self.new ≡ with_scheduler (dequeue_spec u self.old.scheduler) self.old }
+        requires waits { has_listed_unit self.old.scheduler.queue u ≡ true }
+        ensures { self.new ≡ with_scheduler (scheduler_without_unit u self.old.scheduler) self.old }
     {
         self.queues.law_order();
         self.alarms.disarm(u);
@@ -231,8 +231,8 @@ impl RtdsState {
     pub fn wanted(&self, cores: &[Option<Resource>], t: Moment, home: Cores) -> Cores
         requires few { length cores.now ≤ 64 }
         requires asks { EachPlace (MayAsk t.0 self.now.scheduler) cores.now }
-        ensures { (r : ℕ) → has_core result.0 r
-            ≡ is_wanted t.0 home.0 self.now.scheduler r (at_place cores.now r) }
+        ensures { (r : ℕ) → has_core_bit result.0 r
+            ≡ is_core_wanted t.0 home.0 self.now.scheduler r (at_place cores.now r) }
     {
         self.queues.law_order();
         wanted(
@@ -247,7 +247,7 @@ impl RtdsState {
     /// The first replenishment, by domain and unit, whose moment has come at t; where there is none, the one of the least
     /// moment.
     pub fn timer_due(&self, t: Moment) -> Option<(Moment, Timer)>
-        ensures { result ≡ timer_at t.0 self.now.scheduler }
+        ensures { result ≡ next_scheduler_timer t.0 self.now.scheduler }
     {
         self.alarms.next(t)
     }
@@ -271,9 +271,9 @@ impl RtdsState {
     /// Changes parameters at t: those of a unit wait for its next replenishment, and sets of cores are in force at once.
     pub fn set_params(&mut self, change: &ParamChange, t: Moment)
         requires now { IsNow self.old t.0 }
-        requires change { IsChange (kind_of self.old.scheduler.records) self.old.scheduler
+        requires change { IsChange (records_kind self.old.scheduler.records) self.old.scheduler
             change.now }
-        ensures { self.new ≡ seen_at t.0 (set_params_spec change.now t.0 self.old.scheduler)
+        ensures { self.new ≡ seen_at t.0 (changed_scheduler change.now t.0 self.old.scheduler)
             self.old }
     {
         self.latest = t.0;
@@ -295,7 +295,7 @@ impl RtdsState {
     /// The newest values that are set of a unit.
     pub fn stored(&self, u: UnitId) -> Stored
         requires member { is_member self.now.scheduler u ≡ true }
-        ensures value { stored_of self.now.scheduler.records u ≡ Some result }
+        ensures value { unit_stored self.now.scheduler.records u ≡ Some result }
         ensures range { IsInRange result }
     {
         match rtds_unit(self.domains.as_slice(), u) {
@@ -310,7 +310,7 @@ impl RtdsState {
 
     /// The rate limit, of which RTDS has none.
     pub fn rate(&self) -> u32
-        ensures { result ≡ rate_of self.now.scheduler.records }
+        ensures { result ≡ pool_rate_limit self.now.scheduler.records }
     {
         let _ = &self.latest;
         0
@@ -338,7 +338,7 @@ impl RtdsState {
 /// A unit that was replenished: one that is not on waits among the eligible, with its arrival as it was, and its new deadline
 /// is armed.
 fn renew(unit: Option<RtdsUnit>, u: UnitId, queues: &mut RtdsQueues, alarms: &mut Alarms)
-    requires id { index_of u < 2048 }
+    requires id { unit_index u < 2048 }
     requires waits { IfSome unit (λ x. x.burned ≡ None → holds queues.old u ≡ true) }
     ensures queues { queues.new ≡ renewed_if unit u queues.old }
     ensures alarms { alarms.new ≡ rearmed_dues unit u alarms.old }

@@ -1,12 +1,12 @@
 //! The cores for which a unit waits that goes before their own.
 
 ghost use Rattle.std.specs.Prelude.{◌≡◌, ◌≤◌, ◌<◌, ℕ, length, is_some};
-ghost use Rattle.sched_base.specs.CoreSets.{has_core as has, is_allowed as allowed};
+ghost use Rattle.sched_base.specs.CoreSets.{has_core_bit, is_core_allowed};
 ghost use Rattle.sched_model.specs.Places.{at_place};
 ghost use Rattle.arrival_queue.specs.Order.{IsInOrder};
 ghost use Rattle.sched_ops.specs.WantedCores.{IsAnswer};
-ghost use Rattle.rtds_core.specs.Best.{AreQueued, goes_first as goes_first_spec};
-ghost use Rattle.rtds_core.specs.WantedCores.{IsAhead, decides_anew, first_for, is_barred as is_barred_spec};
+ghost use Rattle.rtds_core.specs.Best.{AreQueued, is_waiting_first};
+ghost use Rattle.rtds_core.specs.WantedCores.{IsAhead, decides_anew, first_for, is_own_barred};
 
 use crate::best::goes_first;
 use rtds_queue::RtdsQueues;
@@ -25,7 +25,7 @@ pub struct Ahead {
 
 /// The cores of a pool on which a unit with this set may be: those of its set, or all where it has none of the pool's.
 fn open_cores(set: Cores, home: Cores) -> Cores
-    ensures { (r : ℕ) → r < 64 → has result.0 r ≡ allowed set.0 r home.0 }
+    ensures { (r : ℕ) → r < 64 → has_core_bit result.0 r ≡ is_core_allowed set.0 r home.0 }
 {
     if set.0 & home.0 == 0 {
         Cores(u64::MAX)
@@ -36,7 +36,7 @@ fn open_cores(set: Cores, home: Cores) -> Cores
 
 /// Whether the core's own unit, where it has one, is not allowed on it.
 fn is_barred(masks: &Masks, cur: Option<UnitId>, core: ResId, home: Cores) -> bool
-    ensures { result ≡ is_barred_spec masks.now cur core home }
+    ensures { result ≡ is_own_barred masks.now cur core home }
 {
     match cur {
         None => false,
@@ -68,7 +68,7 @@ fn one_goes_first(
     requires queues { AreQueued domains.now queues.now }
     requires order { IsInOrder queues.now.eligible }
     requires ahead { IsAhead queues.now masks.now home first }
-    ensures { result ≡ goes_first_spec domains.now (first_for queues.now masks.now core home) own }
+    ensures { result ≡ is_waiting_first domains.now (first_for queues.now masks.now core home) own }
 {
     if !unit_before(domains, first.unit, own) {
         return false;
@@ -115,7 +115,7 @@ pub fn wanted(
     requires order { IsInOrder queues.now.eligible }
     ensures { (r : ℕ) → IsAnswer (λ core cur since answer. answer
         ≡ decides_anew domains.now queues.now masks.now cur core home) r (at_place cores.now r)
-        (has result.0 r) }
+        (has_core_bit result.0 r) }
 {
     match queues.first() {
         None => wanted_where(cores, |core, cur, _since| {

@@ -29,8 +29,8 @@ abbrev pub rank_of : Lists → UnitId → ℕ
 rank_of q u = (if has_unit u q.eligible then rank_in u q.eligible else rank_in u q.spent)
 
 -- with a unit that arrives, among the spent ones or at its place
-abbrev pub put : Lists → UnitId → RtdsKey → Bool → Lists
-put q u key spent =
+abbrev pub lists_after_arrival : Lists → UnitId → RtdsKey → Bool → Lists
+lists_after_arrival q u key spent =
     (if spent
     then record { eligible = q.eligible; spent = q.spent ++ queued_unit u (key_of key) (count q) ∷ []; spare = q.spare - 1 }
     else record { eligible = list_with (queued_unit u (key_of key) (count q)) q.eligible; spent = q.spent; spare = q.spare - 1 })

@@ -6,9 +6,9 @@
 
 ghost use Rattle.std.specs.Prelude.{◌≡◌, ◌+◌, ◌<◌, ◌≤◌, true, false, length, map, IfOk};
 ghost use Rattle.std.specs.Bool.{OnTrue, OnFalse};
-ghost use Rattle.unit_places.specs.Places.{has_place};
+ghost use Rattle.unit_places.specs.Places.{has_unit_place};
 ghost use Rattle.arrival_queue.specs.Filters.{first_of, first_that, may_run};
-ghost use Rattle.rtds_queue.specs.Lists.{holds, key_of, put as put_in, after_remove, after_renew};
+ghost use Rattle.rtds_queue.specs.Lists.{holds, key_of, lists_after_arrival, after_remove, after_renew};
 
 use arrival_queue::{ArrivalQueue, Key};
 use sched_base::{Cores, Moment, NoMemory, ResId, Steps, UnitId};
@@ -57,10 +57,10 @@ impl RtdsQueues {
     ghost use Rattle.std.specs.Prelude.{◌≡◌, ◌+◌, ◌<◌, ◌≤◌, true, false, length, map, IfOk};
     ghost use Rattle.std.specs.Prelude.{◌++◌};
     ghost use Rattle.std.specs.Bool.{OnTrue, OnFalse};
-    ghost use Rattle.unit_places.specs.Places.{has_place};
+    ghost use Rattle.unit_places.specs.Places.{has_unit_place};
     ghost use Rattle.arrival_queue.specs.Order.{IsInOrder, IsInArrival, EachRankOnce, EachUnitOnce};
     ghost use Rattle.arrival_queue.specs.Filters.{first_of, first_that, may_run};
-    ghost use Rattle.rtds_queue.specs.Lists.{holds, put as put_in, after_remove, after_renew, empty_lists};
+    ghost use Rattle.rtds_queue.specs.Lists.{holds, lists_after_arrival, after_remove, after_renew, empty_lists};
 
     /// Queues with room for so many units.
     pub fn room(alloc: Global, units: usize) -> Result<RtdsQueues, NoMemory>
@@ -72,10 +72,10 @@ impl RtdsQueues {
 
     /// A unit that is in neither list, and has a place in tables, arrives, among the spent ones or at its place among the eligible.
     pub fn put(&mut self, u: UnitId, key: RtdsKey, spent: bool)
-        requires place { has_place u ≡ true }
+        requires place { has_unit_place u ≡ true }
         requires absent { holds self.old u ≡ false }
         requires room { 0 < self.old.spare }
-        ensures { self.new ≡ put_in self.old u key spent }
+        ensures { self.new ≡ lists_after_arrival self.old u key spent }
     {
         put_from::<Brand>(self, u, key, spent, Blank::new(1))
     }
@@ -160,13 +160,13 @@ impl RtdsQueues {
 
 /// As `put`, with a counter of its own.
 fn put_from<L: Ledger>(queues: &mut RtdsQueues, u: UnitId, key: RtdsKey, spent: bool, blank: Blank)
-    requires place { has_place u ≡ true }
+    requires place { has_unit_place u ≡ true }
     requires absent { holds queues.old u ≡ false }
     requires room { 0 < queues.old.spare }
     requires name { blank.name ≡ L.name }
     requires parts { blank.parts ≡ L.parts }
     requires one { blank.parts ≡ 1 }
-    ensures { queues.new ≡ put_in queues.old u key spent }
+    ensures { queues.new ≡ lists_after_arrival queues.old u key spent }
 {
     let mut steps = Steps::<L>::new(blank);
     if spent {

@@ -7,7 +7,7 @@ use Rattle.sched_base.proofs.Lists.{none_from_find}
 use Rattle.sched_model.specs.declared.machine.Machine.{Machine}
 use Rattle.sched_model.specs.declared.state.State.{State}
 use Rattle.sched_model.specs.Actions.{candidates}
-use Rattle.sched_model.specs.Machine.{is_enabled, first_enabled}
+use Rattle.sched_model.specs.Machine.{is_action_enabled, first_enabled_action}
 use Rattle.run_laws.specs.RunLaws.{IsFirst}
 
 -- the list around the element that is found
@@ -28,11 +28,11 @@ Found-from_find {X} test (y ∷ ys) x is =
           record { before = y ∷ f.before; behind = f.behind; whole = ap (λ zs. y ∷ zs) f.whole; passes = f.passes; none_before = (off, f.none_before) })
     ] refl is
 
-pub first_is : (m : Machine) (s : State) (t : ℕ) → IsFirst m s t (first_enabled m s t)
+pub first_is : (m : Machine) (s : State) (t : ℕ) → IsFirst m s t (first_enabled_action m s t)
 first_is m s t =
-    elim (first_enabled m s t) as (λ o. first_enabled m s t ≡ o → IsFirst m s t o) [
-      | None ↦ λ is. All-from_recursion (λ a. is_enabled m s t a ≡ false) (candidates m.config) (none_from_find (is_enabled m s t) (candidates m.config) is)
+    elim (first_enabled_action m s t) as (λ o. first_enabled_action m s t ≡ o → IsFirst m s t o) [
+      | None ↦ λ is. All-from_recursion (λ a. is_action_enabled m s t a ≡ false) (candidates m.config) (none_from_find (is_action_enabled m s t) (candidates m.config) is)
       | Some action ↦ λ is. (
-          let f = Found-from_find (is_enabled m s t) (candidates m.config) action is in
-          record { before = f.before; behind = f.behind; candidate = f.whole; enabled = f.passes; none_before = All-from_recursion (λ a. is_enabled m s t a ≡ false) f.before f.none_before })
+          let f = Found-from_find (is_action_enabled m s t) (candidates m.config) action is in
+          record { before = f.before; behind = f.behind; candidate = f.whole; enabled = f.passes; none_before = All-from_recursion (λ a. is_action_enabled m s t a ≡ false) f.before f.none_before })
     ] refl

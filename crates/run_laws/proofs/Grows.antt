@@ -6,7 +6,7 @@ use Rattle.sched_model.specs.declared.event.Event.TheVariants as event
 use Rattle.sched_model.specs.declared.event.Entry.{Entry}
 use Rattle.sched_model.specs.declared.machine.Machine.{Machine}
 use Rattle.sched_model.specs.declared.state.State.{State}
-use Rattle.sched_model.specs.Machine.{first_enabled, event_of, after, next_in_horizon, ordered_run}
+use Rattle.sched_model.specs.Machine.{first_enabled_action, event_of, after, next_in_horizon, ordered_run}
 use Rattle.sched_model.specs.Runs.{Reached, IsRun, IsRunFrom, IsNext, run_start, after_entry, after_entries}
 use Rattle.sched_model.proofs.RunLemmas.{IsRunFrom-append, after_entry-action}
 use Rattle.run_laws.specs.RunLaws.{GoesOn}
@@ -32,7 +32,7 @@ goes_on-run m entries entry h = IsRunFrom-append m (run_start m) entries entry h
 pub ordered_run-over : (most : ℕ) (m : Machine) (s : State) → length (ordered_run most m s) < most → (after_entries m (record { state = s; over = false }) (ordered_run most m s)).over ≡ true
 ordered_run-over zero m s short = absurd (omega (arith, short))
 ordered_run-over (suc n) m s short =
-    elim (first_enabled m s s.now) as (λ o. let entries : List Entry = elim o [
+    elim (first_enabled_action m s s.now) as (λ o. let entries : List Entry = elim o [
       | Some action ↦ record { at = moment s.now; event = event_of m s s.now action } ∷ ordered_run n m (after m s s.now action)
       | None ↦ elim (next_in_horizon m s) [
         | Some next ↦ record { at = moment s.now; event = event.End (moment next) } ∷ ordered_run n m (record s { now = next })

@@ -9,7 +9,7 @@ use Rattle.sched_model.specs.declared.machine.Machine.{Machine}
 use Rattle.sched_model.specs.declared.state.State.{State}
 use Rattle.sched_model.specs.Places.{least_number}
 use Rattle.sched_model.specs.Actions.{candidates}
-use Rattle.sched_model.specs.Machine.{is_enabled, first_enabled, moments, next_moment}
+use Rattle.sched_model.specs.Machine.{is_action_enabled, first_enabled_action, moments, least_later_moment}
 use Rattle.run_laws.specs.RunLaws.{IsNextMoment}
 use Rattle.sched_base.specs.Lists.{Has}
 use Rattle.run_laws.proofs.Awaits.{Awaits, Awaits-any, Awaits-same}
@@ -21,10 +21,10 @@ is_some-find test [] = refl
 is_some-find {X} test (x ∷ xs) = elim (test x) as (λ b. (b || list_any test xs) ≡ is_some (cond b (Some x) (find test xs))) [ true ↦ refl | false ↦ is_some-find test xs ]
 
 -- whether something may come at t waits for the moments that the state names
-Awaits-something : (m : Machine) (s : State) → Awaits (moments m s) (λ t. is_some (first_enabled m s t))
+Awaits-something : (m : Machine) (s : State) → Awaits (moments m s) (λ t. is_some (first_enabled_action m s t))
 Awaits-something m s =
-    Awaits-same (moments m s) (λ t. list_any (is_enabled m s t) (candidates m.config)) (λ t. is_some (first_enabled m s t)) (λ t. is_some-find (is_enabled m s t) (candidates m.config))
-    (Awaits-any (moments m s) (λ t a. is_enabled m s t a) (candidates m.config) (Awaits-enabled m s))
+    Awaits-same (moments m s) (λ t. list_any (is_action_enabled m s t) (candidates m.config)) (λ t. is_some (first_enabled_action m s t)) (λ t. is_some-find (is_action_enabled m s t) (candidates m.config))
+    (Awaits-any (moments m s) (λ t a. is_action_enabled m s t a) (candidates m.config) (Awaits-enabled m s))
 
 Has-filter : (test : ℕ → Bool) (ns : List ℕ) (n : ℕ) → Has n ns → test n ≡ true → Has n (filter test ns)
 Has-filter test [] n h on = absurd h
@@ -79,23 +79,23 @@ some_there : {X : Type 0} (o : Option X) → is_some o ≡ true → o ≢ None
 some_there None on e = false≢true on
 some_there (Some x) on e = cc
 
-pub next_moment_is : (m : Machine) (s : State) (t : ℕ) → first_enabled m s t ≡ None → IsNextMoment m s t (next_moment m s t)
+pub next_moment_is : (m : Machine) (s : State) (t : ℕ) → first_enabled_action m s t ≡ None → IsNextMoment m s t (least_later_moment m s t)
 next_moment_is m s t still =
     let w = Awaits-something m s in
-    let off : is_some (first_enabled m s t) ≡ false = rw still refl in
-    let test : ℕ → Bool = λ later. nat_lt t later && is_some (first_enabled m s later) in
-    elim (next_moment m s t) as (λ o. next_moment m s t ≡ o → IsNextMoment m s t o) [
-      | None ↦ λ is later after. none_from (first_enabled m s later)
-          (λ on. (let b = w.begins t later off on in none-least (filter test (moments m s)) b.at is (Has-filter test (moments m s) b.at b.named (and_from (nat_lt t b.at) (is_some (first_enabled m s b.at)) (lt-ltb t b.at b.later) b.passes))))
+    let off : is_some (first_enabled_action m s t) ≡ false = rw still refl in
+    let test : ℕ → Bool = λ later. nat_lt t later && is_some (first_enabled_action m s later) in
+    elim (least_later_moment m s t) as (λ o. least_later_moment m s t ≡ o → IsNextMoment m s t o) [
+      | None ↦ λ is later after. none_from (first_enabled_action m s later)
+          (λ on. (let b = w.begins t later off on in none-least (filter test (moments m s)) b.at is (Has-filter test (moments m s) b.at b.named (and_from (nat_lt t b.at) (is_some (first_enabled_action m s b.at)) (lt-ltb t b.at b.later) b.passes))))
       | Some n ↦ λ is. (
           let passed = passes-filter test (moments m s) n (Has-least (filter test (moments m s)) n is) in
           record {
-            later = ltb-true t n (and_left (nat_lt t n) (is_some (first_enabled m s n)) passed);
-            something = some_there (first_enabled m s n) (and_right (nat_lt t n) (is_some (first_enabled m s n)) passed);
-            nothing_between = λ between after before. none_from (first_enabled m s between)
+            later = ltb-true t n (and_left (nat_lt t n) (is_some (first_enabled_action m s n)) passed);
+            something = some_there (first_enabled_action m s n) (and_right (nat_lt t n) (is_some (first_enabled_action m s n)) passed);
+            nothing_between = λ between after before. none_from (first_enabled_action m s between)
                 (λ on. (
                 let b = w.begins t between off on in
-                let h = least-le (filter test (moments m s)) n b.at is (Has-filter test (moments m s) b.at b.named (and_from (nat_lt t b.at) (is_some (first_enabled m s b.at)) (lt-ltb t b.at b.later) b.passes)) in
+                let h = least-le (filter test (moments m s)) n b.at is (Has-filter test (moments m s) b.at b.named (and_from (nat_lt t b.at) (is_some (first_enabled_action m s b.at)) (lt-ltb t b.at b.later) b.passes)) in
                 omega (arith, h, b.soon, before)));
           })
     ] refl

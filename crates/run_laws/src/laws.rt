@@ -5,7 +5,7 @@ ghost use Rattle.sched_model.specs.declared.action.Action.{Action};
 ghost use Rattle.sched_model.specs.declared.event.Entry.{Entry};
 ghost use Rattle.sched_model.specs.declared.machine.Machine.{Machine};
 ghost use Rattle.sched_model.specs.declared.state.State.{State};
-ghost use Rattle.sched_model.specs.Machine.{first_enabled, is_enabled, next_moment, ordered_run};
+ghost use Rattle.sched_model.specs.Machine.{first_enabled_action, is_action_enabled, least_later_moment, ordered_run};
 ghost use Rattle.sched_model.specs.Opening.{opening};
 ghost use Rattle.sched_model.specs.Runs.{IsRun, IsWholeRun};
 ghost use Rattle.run_laws.specs.RunLaws.{GoesOn, IsFirst, IsNextMoment, IsOrderedRun, IsOver};
@@ -40,18 +40,18 @@ pub fn law_ordered_run_is_the_only_one()
 
 /// The first action that may come is a candidate, and it may come; no candidate before it may. Where there is no first one, none may come.
 pub fn law_first_enabled()
-    ensures { (m : Machine) (s : State) (t : ℕ) → IsFirst m s t (first_enabled m s t) }
+    ensures { (m : Machine) (s : State) (t : ℕ) → IsFirst m s t (first_enabled_action m s t) }
 {}
 
 /// What may come at a moment may come at every later one, while the state stands still.
 pub fn law_enabled_stays()
     ensures { (m : Machine) (s : State) (t later : ℕ) (action : Action) → t ≤ later →
-        is_enabled m s t action ≡ true → is_enabled m s later action ≡ true }
+        is_action_enabled m s t action ≡ true → is_action_enabled m s later action ≡ true }
 {}
 
 /// Of every machine, state and moment at which nothing may come, the next moment is the least later one at which something may come;
 /// where there is no next moment, nothing may come at any later one.
 pub fn law_next_moment()
-    ensures { (m : Machine) (s : State) (t : ℕ) → first_enabled m s t ≡ None →
-        IsNextMoment m s t (next_moment m s t) }
+    ensures { (m : Machine) (s : State) (t : ℕ) → first_enabled_action m s t ≡ None →
+        IsNextMoment m s t (least_later_moment m s t) }
 {}

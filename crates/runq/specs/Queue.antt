@@ -10,12 +10,12 @@ pub record Queue : Type 0 where
   pub spare : ℕ
 
 -- a key of one number
-abbrev pub plain : ℤ → Key
-plain key = record { first = key; second = 0 }
+abbrev pub single_key : ℤ → Key
+single_key key = record { first = key; second = 0 }
 
 -- with a unit that arrives
 abbrev pub after_insert : Queue → UnitId → ℤ → Queue
-after_insert q u key = record { units = list_with (queued_unit u (plain key) (length q.units)) q.units; spare = q.spare - 1 }
+after_insert q u key = record { units = list_with (queued_unit u (single_key key) (length q.units)) q.units; spare = q.spare - 1 }
 
 -- without a unit
 abbrev pub after_remove : Queue → UnitId → Queue
@@ -23,7 +23,7 @@ after_remove q u = record { units = map (closed_up (rank_in u q.units)) (list_wi
 
 -- with a unit of the queue at its place by another key; its arrival stays
 abbrev pub after_rekey : Queue → UnitId → ℤ → Queue
-after_rekey q u key = record { units = list_with (queued_unit u (plain key) (rank_in u q.units)) (list_without u q.units); spare = q.spare }
+after_rekey q u key = record { units = list_with (queued_unit u (single_key key) (rank_in u q.units)) (list_without u q.units); spare = q.spare }
 
 -- no unit, and room for so many
 abbrev pub empty_queue : ℕ → Queue

@@ -5,10 +5,10 @@
 
 ghost use Rattle.std.specs.Prelude.{◌≡◌, ◌+◌, ◌<◌, ◌≤◌, ◌&&◌, [], true, false, length, map, IfOk};
 ghost use Rattle.std.specs.Bool.{OnTrue, OnFalse};
-ghost use Rattle.unit_places.specs.Places.{has_place};
+ghost use Rattle.unit_places.specs.Places.{has_unit_place};
 ghost use Rattle.arrival_queue.specs.Queues.{has_unit};
-ghost use Rattle.arrival_queue.specs.Filters.{first_of, first_that, has_domain as domain_in, may_run};
-ghost use Rattle.runq.specs.Queue.{after_insert, after_remove, after_rekey, plain as plain_key};
+ghost use Rattle.arrival_queue.specs.Filters.{first_of, first_that, has_core_bit, may_run};
+ghost use Rattle.runq.specs.Queue.{after_insert, after_remove, after_rekey, single_key};
 
 pub use arrival_queue::Allowed;
 use arrival_queue::{ArrivalQueue, Key};
@@ -38,7 +38,7 @@ impl Model for Runq {
 
 /// A key of one number.
 fn plain(key: i128) -> Key
-    ensures { result ≡ plain_key key }
+    ensures { result ≡ single_key key }
 {
     Key {
         first: key,
@@ -49,10 +49,10 @@ fn plain(key: i128) -> Key
 impl Runq {
     ghost use Rattle.std.specs.Prelude.{◌≡◌, ◌+◌, ◌<◌, ◌≤◌, ◌&&◌, [], true, false, length, map, IfOk};
     ghost use Rattle.std.specs.Bool.{OnTrue, OnFalse};
-    ghost use Rattle.unit_places.specs.Places.{has_place};
+    ghost use Rattle.unit_places.specs.Places.{has_unit_place};
     ghost use Rattle.arrival_queue.specs.Order.{IsInOrder, EachRankOnce, EachUnitOnce};
     ghost use Rattle.arrival_queue.specs.Queues.{has_unit};
-    ghost use Rattle.arrival_queue.specs.Filters.{first_of, first_that, has_domain as domain_in, may_run};
+    ghost use Rattle.arrival_queue.specs.Filters.{first_of, first_that, has_core_bit, may_run};
     ghost use Rattle.runq.specs.Queue.{after_insert, after_remove, after_rekey, empty_queue};
 
     /// A queue with room for so many units.
@@ -65,7 +65,7 @@ impl Runq {
 
     /// A unit that is not in the queue, and has a place in tables, arrives. Among equal keys it goes behind those that arrived earlier.
     pub fn insert(&mut self, u: UnitId, key: i128)
-        requires place { has_place u ≡ true }
+        requires place { has_unit_place u ≡ true }
         requires absent { has_unit u self.old.units ≡ false }
         requires room { 0 < self.old.spare }
         ensures { self.new ≡ after_insert self.old u key }
@@ -75,7 +75,7 @@ impl Runq {
 
     /// As `insert`, in at most n + 2 steps, n the length before.
     pub fn insert_counted<L: Ledger>(&mut self, u: UnitId, key: i128, steps: &mut Steps<L>)
-        requires place { has_place u ≡ true }
+        requires place { has_unit_place u ≡ true }
         requires absent { has_unit u self.old.units ≡ false }
         requires room { 0 < self.old.spare }
         ensures after { self.new ≡ after_insert self.old u key }
@@ -144,7 +144,7 @@ impl Runq {
 
     /// The first unit whose domain is in the set.
     pub fn first_where(&self, allowed: &Allowed) -> Option<UnitId>
-        ensures { result ≡ first_that (λ u. domain_in allowed.now.0 u.dom.0) self.now.units }
+        ensures { result ≡ first_that (λ u. has_core_bit allowed.now.0 u.dom.0) self.now.units }
     {
         first_where_from::<Brand>(self, *allowed, Blank::new(1))
     }
@@ -157,7 +157,7 @@ impl Runq {
         core: ResId,
         home: Cores,
     ) -> Option<UnitId>
-        ensures { result ≡ first_that (λ u. domain_in allowed.now.0 u.dom.0
+        ensures { result ≡ first_that (λ u. has_core_bit allowed.now.0 u.dom.0
             && may_run masks.now core home u) self.now.units }
     {
         first_on_from::<Brand>(self, *allowed, masks, core, home, Blank::new(1))
@@ -184,7 +184,7 @@ impl Runq {
 
 /// As `insert`, with a counter of its own.
 fn insert_from<L: Ledger>(queue: &mut Runq, u: UnitId, key: i128, blank: Blank)
-    requires place { has_place u ≡ true }
+    requires place { has_unit_place u ≡ true }
     requires absent { has_unit u queue.old.units ≡ false }
     requires room { 0 < queue.old.spare }
     requires name { blank.name ≡ L.name }
@@ -237,7 +237,7 @@ fn first_where_from<L: Ledger>(queue: &Runq, allowed: Allowed, blank: Blank) -> 
     requires name { blank.name ≡ L.name }
     requires parts { blank.parts ≡ L.parts }
     requires one { blank.parts ≡ 1 }
-    ensures { result ≡ first_that (λ u. domain_in allowed.0 u.dom.0) queue.now.units }
+    ensures { result ≡ first_that (λ u. has_core_bit allowed.0 u.dom.0) queue.now.units }
 {
     let mut steps = Steps::<L>::new(blank);
     queue.queue.first_where_counted(allowed, &mut steps)
@@ -255,7 +255,7 @@ fn first_on_from<L: Ledger>(
     requires name { blank.name ≡ L.name }
     requires parts { blank.parts ≡ L.parts }
     requires one { blank.parts ≡ 1 }
-    ensures { result ≡ first_that (λ u. domain_in allowed.0 u.dom.0
+    ensures { result ≡ first_that (λ u. has_core_bit allowed.0 u.dom.0
         && may_run masks.now core home u) queue.now.units }
 {
     let mut steps = Steps::<L>::new(blank);

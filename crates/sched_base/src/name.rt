@@ -2,7 +2,7 @@
 
 ghost use Rattle.std.specs.Prelude.{◌≡◌, ◌≤◌, length};
 ghost use Rattle.std.specs.List.{list_all};
-ghost use Rattle.sched_base.specs.Names.{is_letter as letter, is_name_byte as name_byte, is_name as name};
+ghost use Rattle.sched_base.specs.Names.{is_ascii_letter, is_byte_of_name, is_valid_name};
 
 use arrayvec::ArrayVec;
 use std::marker::Model;
@@ -17,26 +17,26 @@ pub struct Name {
 }
 
 fn is_letter(b: u8) -> bool
-    ensures { result ≡ letter b }
+    ensures { result ≡ is_ascii_letter b }
 {
     65 <= b && b <= 90 || 97 <= b && b <= 122
 }
 
 fn is_name_byte(b: u8) -> bool
-    ensures { result ≡ name_byte b }
+    ensures { result ≡ is_byte_of_name b }
 {
     is_letter(b) || 48 <= b && b <= 57 || b == 45 || b == 95
 }
 
 fn are_name_bytes(bytes: &[u8]) -> bool
-    ensures { result ≡ list_all name_byte bytes.now }
+    ensures { result ≡ list_all is_byte_of_name bytes.now }
 {
     bytes.iter().all(|b| is_name_byte(*b))
 }
 
 /// Whether the bytes are a name as files and commands spell it: an ASCII letter, and up to 31 letters, digits, hyphens and underscores.
 fn is_name(bytes: &[u8]) -> bool
-    ensures { result ≡ name bytes.now }
+    ensures { result ≡ is_valid_name bytes.now }
 {
     match bytes {
         [] => false,
@@ -71,7 +71,7 @@ impl Model for Name {
 impl Name {
     ghost use Rattle.std.specs.Prelude.{◌≡◌, ◌==◌, bytes_eq, if◌then◌else◌};
     ghost use Rattle.std.specs.Option.{SomeIff};
-    ghost use Rattle.sched_base.specs.Names.{IsNameLength, is_name as spells};
+    ghost use Rattle.sched_base.specs.Names.{IsNameLength, is_valid_name};
 
     /// The name with these bytes, or `None` exactly where they are none or more than 32.
     pub fn new(bytes: &[u8]) -> Option<Name>
@@ -85,7 +85,7 @@ impl Name {
 
     /// The name that the bytes spell, or `None` exactly where they spell none.
     pub fn read(bytes: &[u8]) -> Option<Name>
-        ensures { result ≡ (if spells bytes.now then Some bytes.now else None) }
+        ensures { result ≡ (if is_valid_name bytes.now then Some bytes.now else None) }
     {
         if is_name(bytes) {
             Name::new(bytes)

@@ -40,9 +40,9 @@ entry_instead (no.NotQuiet first) = Some first
 entry_instead _ = None
 
 -- the entry whose line is printed behind the first one
-abbrev pub further_entry : Verdict → Option Entry
-further_entry (verdict.No number (cause.NotStep why)) = entry_instead why
-further_entry _ = None
+abbrev pub entry_behind_first : Verdict → Option Entry
+entry_behind_first (verdict.No number (cause.NotStep why)) = entry_instead why
+entry_behind_first _ = None
 
 -- its line, or nothing
 abbrev pub further_line : Option Entry → List ℕ
@@ -51,4 +51,4 @@ further_line (Some entry) = line entry
 
 -- the whole text of a verdict
 abbrev pub text_of_verdict : Verdict → List ℕ
-text_of_verdict v = first_line v ++ further_line (further_entry v)
+text_of_verdict v = first_line v ++ further_line (entry_behind_first v)

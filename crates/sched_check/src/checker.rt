@@ -5,7 +5,7 @@ ghost use Rattle.sched_model.specs.Runs.{after_entry, after_quiet};
 ghost use Rattle.sched_check.specs.Checking.{IsQuietDue, IsTaken};
 ghost use Rattle.sched_check.specs.ReachedState.{state_after};
 ghost use Rattle.sched_check.specs.EntryVerdicts.{is_finish as is_finish_spec, moment_verdict, quiet_verdict};
-ghost use Rattle.sched_model.specs.Machine.{first_enabled, next_in_horizon};
+ghost use Rattle.sched_model.specs.Machine.{first_enabled_action, next_in_horizon};
 
 use crate::entries::{action_of, end_of, judge_action, judge_quiet};
 use crate::refusal::NotStep;
@@ -19,7 +19,7 @@ use std::marker::Model;
 /// Takes an End, which names a next moment, or a Finish, which names none, where it is due.
 fn take_quiet(plain: &mut Plain, named: Option<u64>) -> Result<(), NotStep>
     ensures verdict { result ≡ quiet_verdict plain.old.machine plain.old.state named
-        (first_enabled plain.old.machine plain.old.state plain.old.state.now)
+        (first_enabled_action plain.old.machine plain.old.state plain.old.state.now)
         (next_in_horizon plain.old.machine plain.old.state) }
     ensures taken { IsOk result ↔ IsQuietDue plain.old.machine plain.old.state named }
     ensures ok { OnOk result (plain.new ≡ record plain.old

@@ -1,8 +1,8 @@
 //! What is answered to an entry, by the plain machine. An action that is answered is done: so it is known what its line prints.
 
 ghost use Rattle.std.specs.Prelude.{◌≡◌, ◌↔◌, true, Some, Ok, Err, IsOk, OnOk, if◌then◌else◌};
-ghost use Rattle.sched_model.specs.Machine.{after, event_of, first_enabled, is_enabled, next_in_horizon};
-ghost use Rattle.sched_model.specs.Runs.{entry_of as entry_of_spec, action_of as action_of_spec, end_of as end_of_spec};
+ghost use Rattle.sched_model.specs.Machine.{after, event_of, first_enabled_action, is_action_enabled, next_in_horizon};
+ghost use Rattle.sched_model.specs.Runs.{action_entry, event_action, named_next_moment};
 ghost use Rattle.sched_check.specs.declared.refusal.NotStep.TheVariants as no;
 ghost use Rattle.sched_check.specs.Same.{same_event};
 ghost use Rattle.sched_check.specs.Checking.{HasTurn, IsDue, IsQuietDue};
@@ -17,7 +17,7 @@ use sched_plain::plain::Plain;
 
 /// The action whose event it is, where it is one of an action: its kind and its subject.
 pub fn action_of(e: Event) -> Option<Action>
-    ensures { result ≡ action_of_spec e }
+    ensures { result ≡ event_action e }
 {
     match e {
         Event::Stall { .. } => Some(Action::Stall),
@@ -40,7 +40,7 @@ pub fn action_of(e: Event) -> Option<Action>
 
 /// The next moment that an End names.
 pub fn end_of(e: Event) -> Option<u64>
-    ensures { result ≡ end_of_spec e }
+    ensures { result ≡ named_next_moment e }
 {
     match e {
         Event::End { next } => Some(next.0),
@@ -50,8 +50,8 @@ pub fn end_of(e: Event) -> Option<u64>
 
 /// The entry of an action that may come now, which is done.
 fn perform(plain: &mut Plain, action: Action) -> Entry
-    requires { is_enabled plain.old.machine plain.old.state plain.old.state.now action ≡ true }
-    ensures entry { result ≡ entry_of_spec plain.old.machine plain.old.state action }
+    requires { is_action_enabled plain.old.machine plain.old.state plain.old.state.now action ≡ true }
+    ensures entry { result ≡ action_entry plain.old.machine plain.old.state action }
     ensures state { plain.new ≡ record plain.old
         { state = after plain.old.machine plain.old.state plain.old.state.now action } }
 {
@@ -102,8 +102,8 @@ fn judge_fields(e: Event, due: Entry) -> Result<(), NotStep>
 /// Judges whether the action, which may come, is the first that may.
 fn judge_first(plain: &mut Plain, action: Action) -> Result<(), NotStep>
     ensures verdict { result ≡ first_refusal plain.old.machine plain.old.state action
-        (first_enabled plain.old.machine plain.old.state plain.old.state.now) }
-    ensures first { IsOk result ↔ (first_enabled plain.old.machine plain.old.state
+        (first_enabled_action plain.old.machine plain.old.state plain.old.state.now) }
+    ensures first { IsOk result ↔ (first_enabled_action plain.old.machine plain.old.state
         plain.old.state.now ≡ Some action) }
     ensures unchanged { OnOk result (plain.new ≡ plain.old) }
 {
@@ -124,7 +124,7 @@ fn judge_first(plain: &mut Plain, action: Action) -> Result<(), NotStep>
 /// Judges whether it is the turn of the action, which may come.
 fn judge_turn(plain: &mut Plain, ordered: bool, action: Action) -> Result<(), NotStep>
     ensures verdict { result ≡ turn_refusal ordered plain.old.machine plain.old.state action }
-    ensures first { IsOk result ↔ (ordered ≡ true → first_enabled plain.old.machine plain.old.state
+    ensures first { IsOk result ↔ (ordered ≡ true → first_enabled_action plain.old.machine plain.old.state
         plain.old.state.now ≡ Some action) }
     ensures unchanged { OnOk result (plain.new ≡ plain.old) }
 {
@@ -137,7 +137,7 @@ fn judge_turn(plain: &mut Plain, ordered: bool, action: Action) -> Result<(), No
 
 /// Judges the event of an action, which may come and has its number.
 fn judge_due(plain: &mut Plain, ordered: bool, e: Event, action: Action) -> Result<(), NotStep>
-    requires { is_enabled plain.old.machine plain.old.state plain.old.state.now action ≡ true }
+    requires { is_action_enabled plain.old.machine plain.old.state plain.old.state.now action ≡ true }
     ensures verdict { result ≡ due_verdict ordered plain.old.machine plain.old.state e action }
     ensures taken { IsOk result ↔ HasTurn ordered plain.old.machine plain.old.state e action }
     ensures ok { OnOk result (plain.new ≡ record plain.old
@@ -177,7 +177,7 @@ pub fn judge_action(
 /// Judges an End, which names a next moment, or a Finish, which names none.
 pub fn judge_quiet(plain: &mut Plain, named: Option<u64>) -> Result<(), NotStep>
     ensures verdict { result ≡ quiet_verdict plain.old.machine plain.old.state named
-        (first_enabled plain.old.machine plain.old.state plain.old.state.now)
+        (first_enabled_action plain.old.machine plain.old.state plain.old.state.now)
         (next_in_horizon plain.old.machine plain.old.state) }
     ensures taken { IsOk result ↔ IsQuietDue plain.old.machine plain.old.state named }
     ensures unchanged { OnOk result (plain.new ≡ plain.old) }

@@ -1,7 +1,7 @@
 //! What is printed of a verdict.
 
 ghost use Rattle.std.specs.Prelude.{◌≡◌, ◌+◌, ◌≤◌, ◌++◌, length};
-ghost use Rattle.sched_check.specs.VerdictText.{step_words, cause_words, first_line, further_entry as further_spec};
+ghost use Rattle.sched_check.specs.VerdictText.{step_words, cause_words, first_line, entry_behind_first};
 
 use crate::refusal::NotStep;
 use crate::verdict::{Cause, Verdict};
@@ -62,7 +62,7 @@ impl Verdict {
 
     /// The entry whose line is printed behind the first one: the one that is to come instead, where the cause names it.
     pub fn further(&self) -> Option<Entry>
-        ensures { result ≡ further_spec self.now }
+        ensures { result ≡ entry_behind_first self.now }
     {
         match *self {
             Verdict::No {

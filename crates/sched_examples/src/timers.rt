@@ -4,7 +4,7 @@ ghost use Rattle.std.specs.Prelude.{◌≡◌, [], ◌∷◌, true, false, Some,
 ghost use Rattle.sched_base.specs.Numbers.{moment, span};
 ghost use Rattle.sched_model.specs.declared.event.Event.TheVariants as event;
 ghost use Rattle.sched_ops.specs.declared.timer.Timer.TheVariants.{Repl};
-ghost use Rattle.sched_ops.specs.Timers.{timers, first_due, soonest_timer, timer_at, is_due, timer_event, after_timer};
+ghost use Rattle.sched_ops.specs.Timers.{timers, first_due_timer, soonest_timer, next_scheduler_timer, is_due, timer_event, after_timer};
 ghost use Rattle.sched_base.specs.Units.{unit_id};
 ghost use Rattle.sched_examples.specs.Timers.{replenishment, rtds_unit, fresh_unit, away, running_unit, spent_unit, scheduler_of, four_units};
 
@@ -19,16 +19,16 @@ pub fn units_that_wait_or_are_on()
 
 /// Of the timers whose moments have come, the first is the one of the first unit, though the moments of others are earlier.
 pub fn first_by_domain_and_unit()
-    ensures first { first_due 30000000 (timers four_units) ≡ Some (replenishment 30000000 0 0) }
-    ensures answer { timer_at 30000000 four_units ≡ Some (replenishment 30000000 0 0) }
-    ensures without_it { first_due 29999999 (timers four_units)
+    ensures first { first_due_timer 30000000 (timers four_units) ≡ Some (replenishment 30000000 0 0) }
+    ensures answer { next_scheduler_timer 30000000 four_units ≡ Some (replenishment 30000000 0 0) }
+    ensures without_it { first_due_timer 29999999 (timers four_units)
         ≡ Some (replenishment 20000000 2 0) }
 {}
 
 /// A timer comes at its moment, neither before nor after it.
 pub fn at_its_moment()
-    ensures before { first_due 19999999 (timers four_units) ≡ None }
-    ensures at { first_due 20000000 (timers four_units) ≡ Some (replenishment 20000000 2 0) }
+    ensures before { first_due_timer 19999999 (timers four_units) ≡ None }
+    ensures at { first_due_timer 20000000 (timers four_units) ≡ Some (replenishment 20000000 2 0) }
     ensures not_due { is_due 19999999 four_units (Repl (unit_id 2 0)) ≡ false }
     ensures due { is_due 20000000 four_units (Repl (unit_id 2 0)) ≡ true }
 {}
@@ -36,7 +36,7 @@ pub fn at_its_moment()
 /// Where none has come, the soonest is the one of the least moment, and the earlier one among equals.
 pub fn soonest_where_none_has_come()
     ensures least { soonest_timer None (timers four_units) ≡ Some (replenishment 20000000 2 0) }
-    ensures answer { timer_at 19999999 four_units ≡ Some (replenishment 20000000 2 0) }
+    ensures answer { next_scheduler_timer 19999999 four_units ≡ Some (replenishment 20000000 2 0) }
     ensures none { soonest_timer None [] ≡ None }
 {}
 

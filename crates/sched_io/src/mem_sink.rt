@@ -5,7 +5,7 @@ ghost use Rattle.sched_io.specs.Faults.{Rose, one_more};
 ghost use Rattle.sched_io.specs.Puts.{Adds, AddsPart};
 ghost use Rattle.sched_io.specs.Memory.{SinkState, put_fails};
 
-use crate::plan::Plan;
+use crate::plan::FaultPlan;
 use crate::sink::Sink;
 use sched_base::{Failed, NoMemory};
 use std::alloc::Global;
@@ -16,7 +16,7 @@ use std::marker::Model;
 pub struct MemSink {
     bytes: Vec<u8>,
     room: usize,
-    plan: Plan,
+    plan: FaultPlan,
 }
 
 impl Model for MemSink {
@@ -42,7 +42,7 @@ impl MemSink {
         ensures { IfOk result (λ sink. sink
             ≡ record { bytes = []; room = room; fails = fails.now; calls = 0; faults = 0 }) }
     {
-        let plan = Plan::new(alloc, fails)?;
+        let plan = FaultPlan::new(alloc, fails)?;
         let bytes = Vec::with_capacity(alloc, room)?;
         Ok(MemSink { bytes, room, plan })
     }

@@ -5,8 +5,8 @@ ghost use Rattle.sched_io.specs.Faults.{Rose, one_more};
 ghost use Rattle.sched_io.specs.HeldBytes.{bytes_under, is_unreadable, most_bytes};
 ghost use Rattle.sched_io.specs.Memory.{StoreState, is_listed, read_fails};
 
-use crate::plan::Plan;
-use crate::shelf::Shelf;
+use crate::plan::FaultPlan;
+use crate::shelf::NamedBytes;
 use crate::store::{MOST_BYTES, ReadErr, Store};
 use sched_base::NoMemory;
 use std::alloc::Global;
@@ -15,8 +15,8 @@ use std::marker::Model;
 /// Names with bytes, and the numbers of the calls that fail. It keeps one count of faults for all names.
 #[derive(Drop)]
 pub struct MemStore {
-    files: Shelf,
-    plan: Plan,
+    files: NamedBytes,
+    plan: FaultPlan,
 }
 
 impl Model for MemStore {
@@ -39,8 +39,8 @@ impl MemStore {
             ≡ record { files = []; fails = fails.now; calls = 0; faults = 0 }) }
     {
         Ok(MemStore {
-            files: Shelf::new(alloc),
-            plan: Plan::new(alloc, fails)?,
+            files: NamedBytes::new(alloc),
+            plan: FaultPlan::new(alloc, fails)?,
         })
     }
 
@@ -59,7 +59,7 @@ impl MemStore {
 }
 
 /// The bytes that the next call answers, where it does not fail.
-fn readable<'a>(files: &'a Shelf, plan: &Plan, name: &str) -> Option<&'a [u8]>
+fn readable<'a>(files: &'a NamedBytes, plan: &FaultPlan, name: &str) -> Option<&'a [u8]>
     ensures none { IsNone result ↔ IsTrue (is_listed plan.now.fails.items plan.now.calls
         || is_unreadable (bytes_under name.now files.now)) }
     ensures bytes { IfSome result (λ bytes. bytes_under name.now files.now ≡ Some bytes.now) }

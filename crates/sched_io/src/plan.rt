@@ -9,20 +9,20 @@ use std::alloc::Global;
 
 /// The numbers of the calls that fail, from 1, and the counts of calls and of failed calls.
 #[derive(Drop)]
-pub(crate) struct Plan {
+pub(crate) struct FaultPlan {
     pub(crate) fails: Vec<u32>,
     pub(crate) calls: u64,
     pub(crate) faults: u64,
 }
 
-impl Plan {
+impl FaultPlan {
     /// A plan with these numbers, before the first call.
-    pub(crate) fn new(alloc: Global, fails: &[u32]) -> Result<Plan, NoMemory>
+    pub(crate) fn new(alloc: Global, fails: &[u32]) -> Result<FaultPlan, NoMemory>
         ensures fails { IfOk result (λ plan. plan.fails.items ≡ fails.now) }
         ensures calls { IfOk result (λ plan. plan.calls ≡ 0) }
         ensures faults { IfOk result (λ plan. plan.faults ≡ 0) }
     {
-        Ok(Plan {
+        Ok(FaultPlan {
             fails: fails.to_vec(alloc)?,
             calls: 0,
             faults: 0,

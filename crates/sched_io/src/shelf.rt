@@ -11,11 +11,11 @@ use std::marker::Model;
 
 /// Names with bytes. Contracts see it as a list of pairs.
 #[derive(Drop)]
-pub(crate) struct Shelf {
+pub(crate) struct NamedBytes {
     files: BTreeMap<String, Vec<u8>>,
 }
 
-impl Model for Shelf {
+impl Model for NamedBytes {
     ghost use Rattle.std.specs.Prelude.{ℕ, List, map};
     ghost use Rattle.std.specs.String.{string_bytes};
 
@@ -24,12 +24,12 @@ impl Model for Shelf {
     ghost view = { λ a. map (λ e. (string_bytes e.0, e.1.items)) a.files.entries };
 }
 
-impl Shelf {
+impl NamedBytes {
     /// A shelf with no name.
-    pub(crate) fn new(alloc: Global) -> Shelf
+    pub(crate) fn new(alloc: Global) -> NamedBytes
         ensures { result ≡ [] }
     {
-        Shelf {
+        NamedBytes {
             files: BTreeMap::new(alloc),
         }
     }

@@ -3,7 +3,7 @@
 ghost use Rattle.std.specs.Prelude.{◌≡◌, ◌≢◌, ◌≤◌, ℕ, List, [], length, Some, OnOk, OnErr, IfOk, IfSome, IsErrOf};
 ghost use Rattle.sched_io.specs.HeldBytes.{bytes_if_set, most_bytes};
 
-use crate::shelf::Shelf;
+use crate::shelf::NamedBytes;
 use crate::store::{ReadErr, Store};
 use sched_base::NoMemory;
 use std::alloc::Global;
@@ -12,7 +12,7 @@ use std::marker::Model;
 /// Bytes under every name: none where nothing was set, and at most 536,870,912. Contracts see it as a list of pairs.
 #[derive(Drop)]
 pub struct SureStore {
-    files: Shelf,
+    files: NamedBytes,
 }
 
 impl Model for SureStore {
@@ -32,7 +32,7 @@ impl SureStore {
         ensures { IfOk result (λ store. (name : List ℕ) → bytes_if_set name store ≡ []) }
     {
         Ok(SureStore {
-            files: Shelf::new(alloc),
+            files: NamedBytes::new(alloc),
         })
     }
 

@@ -10,10 +10,10 @@ use Rattle.sched_model.specs.declared.state.Resource.{Resource}
 use Rattle.sched_model.specs.Places.{numbers_from}
 use Rattle.sched_model.specs.declared.state.Pool.{Pool}
 use Rattle.sched_model.specs.declared.state.Scheduler.{Scheduler}
-use Rattle.sched_model.specs.Opening.{empty_pool, core_count}
+use Rattle.sched_model.specs.Opening.{fresh_pool, machine_core_count}
 use Rattle.sched_model.specs.Policy as policy
 use Rattle.sched_model.specs.Pool as pools
-use Rattle.sched_model.specs.Pool.{change_core, change_domain, set_params, with_domain}
+use Rattle.sched_model.specs.Pool.{change_core, change_domain, changed_pool, pool_with_domain}
 use Rattle.sched_laws.specs.EachPlace.{EachAt}
 use Rattle.sched_laws.proofs.EachPlace.{EachAt-change_at, EachAt-put_at, EachPlace-empty}
 use Rattle.sched_laws.proofs.Kept.{IsKeptInside}
@@ -64,16 +64,16 @@ module _ (C D : ℕ → Type 0) where
         moves = λ d i pool only. kept_withdrawn commands d _ (only_change_domain d (λ domain. record domain { moving = Some (pool_number i) }) pool only);
         pauses = kept_pause commands;
         unpauses = kept_unpause commands;
-        changes = λ change t pool only. kept_marked commands t (λ d next. only_cores (λ c d. Unit {0}) _ next (like_change_each (λ c d. Unit {0}) _ next.resources (λ r c. tt))) change _ (only_scheduler (policy.set_params change t pool.scheduler) pool only);
+        changes = λ change t pool only. kept_marked commands t (λ d next. only_cores (λ c d. Unit {0}) _ next (like_change_each (λ c d. Unit {0}) _ next.resources (λ r c. tt))) change _ (only_scheduler (policy.changed_scheduler change t pool.scheduler) pool only);
       }
 
-  pub only_with_domain : (g t d : ℕ) (domain : Domain) (params : DomParams) (pool : Pool) → D d → Only pool → Only (with_domain g t d domain params pool)
+  pub only_with_domain : (g t d : ℕ) (domain : Domain) (params : DomParams) (pool : Pool) → D d → Only pool → Only (pool_with_domain g t d domain params pool)
   only_with_domain g t d domain params pool may only =
-      kept_queue_units (commands_of (only_parts g t)) d (numbers_from 0 (pools.unit_count g domain)) _
+      kept_queue_units (commands_of (only_parts g t)) d (numbers_from 0 (pools.domain_unit_count g domain)) _
       (record { cores = only.cores; domains = EachAt-put_at (λ d x. D d) d domain pool.domains only.domains may })
 
-  pub only_empty : (config : Config) (params : PoolParams) → Only (empty_pool config params)
+  pub only_empty : (config : Config) (params : PoolParams) → Only (fresh_pool config params)
   only_empty config params = record {
-    cores = λ r c at. absurd (EachPlace-empty {X = Resource} (λ y. ⊥) (core_count config) r c at);
+    cores = λ r c at. absurd (EachPlace-empty {X = Resource} (λ y. ⊥) (machine_core_count config) r c at);
     domains = λ d x at. absurd (EachPlace-empty {X = Domain} (λ y. ⊥) (length config.domains) d x at);
   }

@@ -12,14 +12,14 @@ use Rattle.sched_model.specs.declared.machine.Machine.{Machine}
 use Rattle.sched_model.specs.declared.state.State.{State}
 use Rattle.sched_model.specs.declared.state.Pool.{Pool}
 use Rattle.sched_model.specs.declared.state.FreeCore.{FreeCore}
-use Rattle.sched_model.specs.Opening.{fresh_core}
+use Rattle.sched_model.specs.Opening.{joined_core}
 use Rattle.sched_model.specs.declared.action.Action.{Action}
-use Rattle.sched_model.specs.Pool.{settled_pool, without_domain}
+use Rattle.sched_model.specs.Pool.{settled_pool, pool_without_domain}
 use Rattle.sched_model.specs.declared.action.Action.TheVariants.{Stall, Xl, Moved, DomMoved}
-use Rattle.sched_model.specs.Policy.{default_dom_params}
-use Rattle.sched_model.specs.Actions.{home_of, home_of_core, home_of_domain, change_pool}
-use Rattle.sched_model.specs.Commands.{carried_out, change_home, pool_of_plan}
-use Rattle.sched_model.specs.Machine.{is_enabled, after, after_at_home, after_stall, after_command, after_moved, after_dom_moved, with_stall_end, verdict, settled_at, with_core_in, without_core_in, left_by, joined_by, is_null}
+use Rattle.sched_model.specs.Policy.{standard_dom_params}
+use Rattle.sched_model.specs.Actions.{home_pool_of_action, home_pool_of_core, home_pool_of_domain, change_pool}
+use Rattle.sched_model.specs.Commands.{carried_out, change_home, plan_pool}
+use Rattle.sched_model.specs.Machine.{is_action_enabled, after, after_at_home, after_stall, after_command, state_after_moved, after_dom_moved, state_with_stall, line_verdict, settled_at, with_core_in, without_core_in, left_by, joined_by, is_null_pool}
 use Rattle.sched_laws.specs.EachPlace.{EachAt}
 use Rattle.sched_laws.proofs.EachPlace.{EachAt-change_at, EachAt-change_to, EachAt-put_at, read_put_at, read_clear_at, by_option, by_cond}
 use Rattle.sched_laws.proofs.Lists.{some-test_at, test_at-some, some_is, is_some_at}
@@ -60,14 +60,14 @@ FreeOf s next = EachAt (λ r (c : FreeCore). is_some (at_place s.free r) ≡ tru
 free_itself : (s : State) → FreeOf s s
 free_itself s r c at = is_some_at (at_place s.free r) c at
 
-free_stalled : (g p end : ℕ) (s : State) → FreeOf s (with_stall_end g p end s)
+free_stalled : (g p end : ℕ) (s : State) → FreeOf s (state_with_stall g p end s)
 free_stalled g p end s =
-    by_option (FreeOf s) (home_of_core s (p / g)) _ _
+    by_option (FreeOf s) (home_pool_of_core s (p / g)) _ _
     (λ is. EachAt-change_at (λ r c. is_some (at_place s.free r) ≡ true) (p / g) _ s.free (free_itself s) (λ c at here. here))
     (λ i is. free_itself s)
 
 free_change_home : (d : ℕ) (f : Pool → Pool) (s : State) → FreeOf s (change_home d f s)
-free_change_home d f s = by_option (FreeOf s) (home_of_domain s d) _ _ (λ is. free_itself s) (λ i is. free_itself s)
+free_change_home d f s = by_option (FreeOf s) (home_pool_of_domain s d) _ _ (λ is. free_itself s) (λ i is. free_itself s)
 
 free_carried_out : (m : Machine) (t : ℕ) (p : Plan) (s : State) → FreeOf s (carried_out m t p s)
 free_carried_out m t (plan.CpuAdd i core answer) s = EachAt-change_at (λ r c. is_some (at_place s.free r) ≡ true) core.0 _ s.free (free_itself s) (λ c at here. here)
@@ -86,9 +86,9 @@ free_settled_at t (Some i) s next here = here
 
 free_command : (m : Machine) (t : ℕ) (line : CommandLine) (s : State) → FreeOf s (after_command m t line s)
 free_command m t line s =
-    elim (verdict m s line) as (λ v. FreeOf s (elim v as (λ _. State) [ Err fault ↦ record s { next_command = suc s.next_command } | Ok plan ↦ settled_at t (pool_of_plan s plan) (carried_out m t plan (record s { next_command = suc s.next_command })) ])) [
+    elim (line_verdict m s line) as (λ v. FreeOf s (elim v as (λ _. State) [ Err fault ↦ record s { next_command = suc s.next_command } | Ok plan ↦ settled_at t (plan_pool s plan) (carried_out m t plan (record s { next_command = suc s.next_command })) ])) [
       | Err fault ↦ free_itself s
-      | Ok p ↦ free_settled_at t (pool_of_plan s p) s (carried_out m t p (record s { next_command = suc s.next_command })) (free_carried_out m t p (record s { next_command = suc s.next_command }))
+      | Ok p ↦ free_settled_at t (plan_pool s p) s (carried_out m t p (record s { next_command = suc s.next_command })) (free_carried_out m t p (record s { next_command = suc s.next_command }))
     ]
 
 free_stall : (g t : ℕ) (line : Option StallLine) (s : State) → FreeOf s (elim line as (λ _. State) [ None ↦ s | Some l ↦ after_stall g t l s ])
@@ -96,7 +96,7 @@ free_stall g t None s = free_itself s
 free_stall g t (Some l) s = free_stalled g l.cpu.0 _ s
 
 free_at_home : (g t : ℕ) (action : Action) (s : State) → FreeOf s (after_at_home g s t action)
-free_at_home g t action s = by_option (FreeOf s) (home_of g s action) _ _ (λ is. free_itself s) (λ i is. free_itself s)
+free_at_home g t action s = by_option (FreeOf s) (home_pool_of_action g s action) _ _ (λ is. free_itself s) (λ i is. free_itself s)
 
 free_staying : (m : Machine) (s : State) (t : ℕ) (action : Action) → MovesNothing action → FreeOf s (after m s t action)
 free_staying m s t Stall stays = free_stall m.config.granularity t (slice_get m.work.stalls s.next_stall) s
@@ -106,7 +106,7 @@ free_staying m s t (DomMoved d) stays = absurd stays
 free_staying m s t action stays = free_at_home m.config.granularity t action s
 
 -- the pools have what they had, and what is free was free
-apart_staying : (m : Machine) (s : State) (t : ℕ) (action : Action) → MovesNothing action → is_enabled m s t action ≡ true → IsApart s → IsApart (after m s t action)
+apart_staying : (m : Machine) (s : State) (t : ℕ) (action : Action) → MovesNothing action → is_action_enabled m s t action ≡ true → IsApart s → IsApart (after m s t action)
 apart_staying m s t action stays on apart =
     let C : ℕ → ℕ → Type 0 = λ i r. has_core_at s i r ≡ true in
     let D : ℕ → ℕ → Type 0 = λ i d. has_domain_at s i d ≡ true in
@@ -125,7 +125,7 @@ apart_attached g t r i c s is apart =
     let was : AllOnly C D s = λ j pool at. only_map (λ q. has_core_at s j q ≡ true) (D j) (C j) (D j) pool (λ q has. inl has) (λ d has. has) (only_itself s j pool at) in
     let only : AllOnly C D (with_core_in t r i c s) =
     kept_change g (λ j. HasOnly (C j) (D j)) (λ j. only_inside (C j) (D j) g) i _ (record s { free = clear_at r s.free })
-    (λ pool at here. (only_inside (C i) (D i) g).settles t _ (record { cores = EachAt-put_at (λ q c2. C i q) r (fresh_core c.stall_ends) pool.resources here.cores (inr (refl, refl)); domains = here.domains })) was in
+    (λ pool at here. (only_inside (C i) (D i) g).settles t _ (record { cores = EachAt-put_at (λ q c2. C i q) r (joined_core c.stall_ends) pool.resources here.cores (inr (refl, refl)); domains = here.domains })) was in
     let free_r : (j : ℕ) → has_core_at s j r ≡ true → ⊥ = λ j has. apart.free j r (is_some_at (at_place s.free r) c is) has in
     record {
       cores = λ j k q a b. elim (core_among C D (with_core_in t r i c s) only j q a) [
@@ -186,13 +186,13 @@ apart_dom_moved g t d i j domain s has apart =
     EachAt-change_to (λ k. HasOnly (C k) (Was k)) (λ k. HasOnly (C k) (Gone k)) i (left_by t d) s.pools (only_itself s)
     (λ k pool other here. only_map (C k) (Was k) (C k) (Gone k) pool (λ q h. h) (λ e h. (h, λ same. other (apart.domains k i d (subst (λ x. has_domain_at s k x ≡ true) same h) has))) here)
     (λ pool at here.
-    let out : HasOnly (C i) (Gone i) (without_domain d pool) = record { cores = here.cores; domains = λ e x at2. (let w = read_clear_at d e pool.domains x at2 in (here.domains e x w.1, w.0)) } in
-    by_cond (HasOnly (C i) (Gone i)) (is_null pool.scheduler.records) (settled_pool t (without_domain d pool)) (without_domain d pool) (λ is. (only_inside (C i) (Gone i) g).settles t _ out) (λ is. out)) in
+    let out : HasOnly (C i) (Gone i) (pool_without_domain d pool) = record { cores = here.cores; domains = λ e x at2. (let w = read_clear_at d e pool.domains x at2 in (here.domains e x w.1, w.0)) } in
+    by_cond (HasOnly (C i) (Gone i)) (is_null_pool pool.scheduler.records) (settled_pool t (pool_without_domain d pool)) (pool_without_domain d pool) (λ is. (only_inside (C i) (Gone i) g).settles t _ out) (λ is. out)) in
     let only : AllOnly C D next =
     EachAt-change_to (λ k. HasOnly (C k) (Gone k)) (λ k. HasOnly (C k) (D k)) j (joined_by g t d domain) left.pools gone
     (λ k pool other here. only_map (C k) (Gone k) (C k) (D k) pool (λ q h. h) (λ e h. inl h) here)
     (λ pool at here. (only_inside (C j) (D j) g).settles t _
-    (only_with_domain (C j) (D j) g t d (record domain { moving = None }) (default_dom_params pool.scheduler.records) pool (inr (refl, refl)) (only_map (C j) (Gone j) (C j) (D j) pool (λ q h. h) (λ e h. inl h) here))) in
+    (only_with_domain (C j) (D j) g t d (record domain { moving = None }) (standard_dom_params pool.scheduler.records) pool (inr (refl, refl)) (only_map (C j) (Gone j) (C j) (D j) pool (λ q h. h) (λ e h. inl h) here))) in
     record {
       cores = λ k l q a b. apart.cores k l q (core_among C D next only k q a) (core_among C D next only l q b);
       domains = λ k l e a b. elim (domain_among C D next only k e a) [
@@ -202,10 +202,10 @@ apart_dom_moved g t d i j domain s has apart =
       free = λ k q a b. apart.free k q a (core_among C D next only k q b);
     }
 
-apart_moved : (t r : ℕ) (s : State) → IsApart s → IsApart (after_moved t r s)
+apart_moved : (t r : ℕ) (s : State) → IsApart s → IsApart (state_after_moved t r s)
 apart_moved t r s apart =
     by_option IsApart (at_place s.free r) _ _
-    (λ is. by_option IsApart (home_of_core s r) _ _ (λ is2. apart)
+    (λ is. by_option IsApart (home_pool_of_core s r) _ _ (λ is2. apart)
     (λ i is2. by_option IsApart (at_place s.pools i) _ _ (λ is3. apart)
     (λ pool is3. by_option IsApart (at_place pool.resources r) _ _ (λ is4. apart)
     (λ c is4. apart_detached 1 t r i c s (test_at-some s.pools i (λ p. is_some (at_place p.resources r)) pool is3 (is_some_at (at_place pool.resources r) c is4)) apart))))
@@ -213,13 +213,13 @@ apart_moved t r s apart =
 
 apart_domain_moved : (g t d : ℕ) (s : State) → IsApart s → IsApart (after_dom_moved g t d s)
 apart_domain_moved g t d s apart =
-    by_option IsApart (home_of_domain s d) _ _ (λ is. apart)
+    by_option IsApart (home_pool_of_domain s d) _ _ (λ is. apart)
     (λ i is. by_option IsApart (at_place s.pools i) _ _ (λ is2. apart)
     (λ pool is2. by_option IsApart (at_place pool.domains d) _ _ (λ is3. apart)
     (λ domain is3. by_option IsApart domain.moving _ _ (λ is4. apart)
     (λ j is4. apart_dom_moved g t d i j.0 domain s (test_at-some s.pools i (λ p. is_some (at_place p.domains d)) pool is2 (is_some_at (at_place pool.domains d) domain is3)) apart))))
 
-pub apart_after : (m : Machine) (s : State) (t : ℕ) (action : Action) → is_enabled m s t action ≡ true → IsApart s → IsApart (after m s t action)
+pub apart_after : (m : Machine) (s : State) (t : ℕ) (action : Action) → is_action_enabled m s t action ≡ true → IsApart s → IsApart (after m s t action)
 apart_after m s t (Moved r) on apart = apart_moved t r.0 s apart
 apart_after m s t (DomMoved d) on apart = apart_domain_moved m.config.granularity t d.0 s apart
 apart_after m s t action on apart = apart_staying m s t action tt on apart

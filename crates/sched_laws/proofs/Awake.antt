@@ -10,8 +10,8 @@ use Rattle.sched_base.specs.declared.VcpuId.{VcpuId}
 use Rattle.sched_model.specs.declared.state.Vcpu.{Vcpu}
 use Rattle.sched_model.specs.Places.{change_item}
 use Rattle.sched_model.specs.declared.state.Pool.{Pool}
-use Rattle.sched_model.specs.State.{is_awake, unit_runnable, is_runnable}
-use Rattle.sched_model.specs.Pool.{change_vcpu, unit_of}
+use Rattle.sched_model.specs.State.{is_awake, unit_runnable, may_unit_run}
+use Rattle.sched_model.specs.Pool.{change_vcpu, vcpu_unit}
 use Rattle.sched_laws.proofs.Lists.{test_at-change_at, test_at-change_at_other, test_at-change_at_more, and_more}
 
 -- a part of a list in which one is changed
@@ -65,12 +65,12 @@ other_part g n i some other =
 
 module _ (g : ℕ) (some : 0 < g) where
   -- what a change of a vCPU does to a unit's test
-  pub runnable-same : (v : VcpuId) (f : Vcpu → Vcpu) → ((x : Vcpu) → is_awake (f x) ≡ is_awake x) → (pool : Pool) (u : UnitId) → is_runnable g (change_vcpu v f pool) u ≡ is_runnable g pool u
+  pub runnable-same : (v : VcpuId) (f : Vcpu → Vcpu) → ((x : Vcpu) → is_awake (f x) ≡ is_awake x) → (pool : Pool) (u : UnitId) → may_unit_run g (change_vcpu v f pool) u ≡ may_unit_run g pool u
   runnable-same v f same pool u =
       test_at-change_at v.dom.0 u.dom.0 (λ d. record d { vcpus = change_item v.n f d.vcpus }) (λ d. unit_runnable g d u.n) pool.domains
       (λ d. ap (λ b. not d.paused && is_none d.moving && b) (part_same is_awake f same g (u.n * g) v.n d.vcpus))
 
-  pub runnable-other : (v : VcpuId) (f : Vcpu → Vcpu) (pool : Pool) (u : UnitId) → u ≢ unit_of g v → is_runnable g (change_vcpu v f pool) u ≡ is_runnable g pool u
+  pub runnable-other : (v : VcpuId) (f : Vcpu → Vcpu) (pool : Pool) (u : UnitId) → u ≢ vcpu_unit g v → may_unit_run g (change_vcpu v f pool) u ≡ may_unit_run g pool u
   runnable-other v f pool u other =
       elim (ℕ_discrete u.dom.0 v.dom.0) [
         | yes e ↦ test_at-change_at v.dom.0 u.dom.0 (λ d. record d { vcpus = change_item v.n f d.vcpus }) (λ d. unit_runnable g d u.n) pool.domains
@@ -78,13 +78,13 @@ module _ (g : ℕ) (some : 0 < g) where
         | no e ↦ test_at-change_at_other v.dom.0 u.dom.0 (λ d. record d { vcpus = change_item v.n f d.vcpus }) (λ d. unit_runnable g d u.n) pool.domains e
       ]
     where
-      same_parts : u.dom.0 ≡ v.dom.0 → v.n / g ≡ u.n → u ≡ unit_of g v
+      same_parts : u.dom.0 ≡ v.dom.0 → v.n / g ≡ u.n → u ≡ vcpu_unit g v
       same_parts e same =
           let a : ◌≡◌ {A = UnitId} u (record { dom = v.dom; n = u.n }) = ap (λ (k : ℕ). record { dom = domain_number k; n = u.n }) e in
-          let b : ◌≡◌ {A = UnitId} (record { dom = v.dom; n = u.n }) (unit_of g v) = ap (λ (k : ℕ). record { dom = v.dom; n = k }) (sym same) in
+          let b : ◌≡◌ {A = UnitId} (record { dom = v.dom; n = u.n }) (vcpu_unit g v) = ap (λ (k : ℕ). record { dom = v.dom; n = k }) (sym same) in
           a ∙ b
 
-  pub runnable-more : (v : VcpuId) (f : Vcpu → Vcpu) → ((x : Vcpu) → is_awake (f x) ≡ true) → (pool : Pool) (u : UnitId) → is_runnable g pool u ≡ true → is_runnable g (change_vcpu v f pool) u ≡ true
+  pub runnable-more : (v : VcpuId) (f : Vcpu → Vcpu) → ((x : Vcpu) → is_awake (f x) ≡ true) → (pool : Pool) (u : UnitId) → may_unit_run g pool u ≡ true → may_unit_run g (change_vcpu v f pool) u ≡ true
   runnable-more v f awake pool u runs =
       test_at-change_at_more v.dom.0 u.dom.0 (λ d. record d { vcpus = change_item v.n f d.vcpus }) (λ d. unit_runnable g d u.n) pool.domains
       (λ d here. and_more (not d.paused && is_none d.moving) _ _ here (λ any. part_more is_awake f awake g (u.n * g) v.n d.vcpus any)) runs

@@ -6,7 +6,7 @@ use Rattle.sched_model.specs.declared.plan.Plan.{Plan}
 use Rattle.sched_model.specs.declared.plan.Plan.TheVariants as plan
 use Rattle.sched_model.specs.declared.state.Pool.{Pool}
 use Rattle.sched_model.specs.declared.state.State.{State}
-use Rattle.sched_model.specs.Actions.{home_of_domain}
+use Rattle.sched_model.specs.Actions.{home_pool_of_domain}
 use Rattle.sched_model.specs.Commands.{carried_out, change_home}
 use Rattle.sched_model.specs.Machine.{settled_at}
 use Rattle.sched_laws.proofs.EachPlace.{by_cond, by_option}
@@ -19,7 +19,7 @@ pub same_clock : (s : State) → SameClock s s
 same_clock s = (refl, refl, refl)
 
 pub home_clock : (d : ℕ) (f : Pool → Pool) (s : State) → SameClock (change_home d f s) s
-home_clock d f s = by_option (λ (x : State). SameClock x s) (home_of_domain s d) _ _ (λ none. same_clock s) (λ i is. (refl, refl, refl))
+home_clock d f s = by_option (λ (x : State). SameClock x s) (home_pool_of_domain s d) _ _ (λ none. same_clock s) (λ i is. (refl, refl, refl))
 
 pub carried_clock : (m : Machine) (t : ℕ) (p : Plan) (s : State) → SameClock (carried_out m t p s) s
 carried_clock m t (plan.PoolList pool answer) s = same_clock s

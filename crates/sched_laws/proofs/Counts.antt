@@ -7,7 +7,7 @@ use Rattle.std.specs.List.{list_any, AllByRecursion}
 use Rattle.std.proofs.lemmas.List.Sums.{sum_by-cons}
 use Rattle.std.proofs.Math.Decide.{dec_le}
 use Rattle.sched_base.specs.declared.UnitId.{UnitId}
-use Rattle.sched_model.specs.Places.{at_place, put_at, clear_at, change_at, change_each, numbered_items, has_unit, without_unit, is_unit, same_unit}
+use Rattle.sched_model.specs.Places.{at_place, put_at, clear_at, change_at, change_each, numbered_items, has_listed_unit, without_unit, is_unit, same_unit}
 use Rattle.sched_laws.specs.EachPlace.{EachPlace}
 use Rattle.sched_laws.proofs.Choices.{same_unit_same}
 use Rattle.sched_laws.specs.Counts.{total, total_over, one, times}
@@ -176,18 +176,18 @@ times-filter_no u test (w ∷ units) fails =
         ] refl
 
 -- a unit that is in no element has no place, and one that is there has what each has
-pub times_none : (u : UnitId) (units : List UnitId) → has_unit units u ≡ false → times u units ≡ 0
+pub times_none : (u : UnitId) (units : List UnitId) → has_listed_unit units u ≡ false → times u units ≡ 0
 times_none u [] none = refl
 times_none u (w ∷ units) none =
-    elim (same_unit u w) as (λ b. (b || has_unit units u) ≡ false → cond b 1 0 + times u units ≡ 0) [
+    elim (same_unit u w) as (λ b. (b || has_listed_unit units u) ≡ false → cond b 1 0 + times u units ≡ 0) [
       | true ↦ λ e. absurd (cc)
       | false ↦ λ e. (let r = times_none u units e in omega (arith, r))
     ] none
 
-pub times_some : (u : UnitId) (units : List UnitId) → has_unit units u ≡ true → 1 ≤ times u units
+pub times_some : (u : UnitId) (units : List UnitId) → has_listed_unit units u ≡ true → 1 ≤ times u units
 times_some u [] some = absurd (cc)
 times_some u (w ∷ units) some =
-    elim (same_unit u w) as (λ b. (b || has_unit units u) ≡ true → 1 ≤ cond b 1 0 + times u units) [
+    elim (same_unit u w) as (λ b. (b || has_listed_unit units u) ≡ true → 1 ≤ cond b 1 0 + times u units) [
       | true ↦ λ e. omega arith
       | false ↦ λ e. (let r = times_some u units e in omega (arith, r))
     ] some
@@ -201,16 +201,16 @@ times_has P u (w ∷ units) each some =
     ] refl some
 
 -- a queue without a unit that does not wait is the same, and one that a unit left has it no more
-pub without_absent : (u : UnitId) (units : List UnitId) → has_unit units u ≡ false → without_unit u units ≡ units
+pub without_absent : (u : UnitId) (units : List UnitId) → has_listed_unit units u ≡ false → without_unit u units ≡ units
 without_absent u [] absent = refl
 without_absent u (x ∷ units) absent =
     let e : same_unit u x ≡ false = or_left _ _ absent in
     rw e (ap (λ (xs : List UnitId). x ∷ xs) (without_absent u units (or_right (same_unit u x) _ absent)))
 
-pub gone_without : (u : UnitId) (units : List UnitId) → has_unit (without_unit u units) u ≡ false
+pub gone_without : (u : UnitId) (units : List UnitId) → has_listed_unit (without_unit u units) u ≡ false
 gone_without u [] = refl
 gone_without u (x ∷ units) =
-    elim (same_unit u x) as (λ b. same_unit u x ≡ b → has_unit (cond (not b) (x ∷ without_unit u units) (without_unit u units)) u ≡ false) [
+    elim (same_unit u x) as (λ b. same_unit u x ≡ b → has_listed_unit (cond (not b) (x ∷ without_unit u units) (without_unit u units)) u ≡ false) [
       | true ↦ λ is. gone_without u units
-      | false ↦ λ is. or_from (same_unit u x) (has_unit (without_unit u units) u) is (gone_without u units)
+      | false ↦ λ is. or_from (same_unit u x) (has_listed_unit (without_unit u units) u) is (gone_without u units)
     ] refl

@@ -17,21 +17,21 @@ use Rattle.sched_model.specs.declared.state.Credit2Records.{Credit2Records}
 use Rattle.sched_model.specs.declared.state.ArincRecords.{ArincRecords}
 use Rattle.sched_model.specs.declared.state.RtdsUnit.{RtdsUnit}
 use Rattle.sched_model.specs.declared.state.Records.TheVariants.{Credit2Pool, RtdsPool, ArincPool}
-use Rattle.sched_model.specs.Opening.{fresh_core}
-use Rattle.sched_model.specs.Arinc.{window_at, window_unit, present_window}
+use Rattle.sched_model.specs.Opening.{joined_core}
+use Rattle.sched_model.specs.Arinc.{frame_window, current_window_unit, current_window}
 use Rattle.sched_model.specs.declared.ask.Ask.{Ask}
 use Rattle.sched_model.specs.EligibleUnits.{Decision}
 use Rattle.sched_model.specs.Policy as policy
-use Rattle.sched_model.specs.Policy.{rtds_record, decision_of, decision_by, arinc_decision, changed_records, joined_records, parted_records}
+use Rattle.sched_model.specs.Policy.{unit_rtds_record, decision_of, decision_by, arinc_decision, changed_records, joined_records, parted_records}
 use Rattle.sched_model.specs.Pool as pools
-use Rattle.sched_model.specs.Pool.{change_core, change_cores_of, decided_core as decided, same_choice, ask_of, set_pending, set_params, without_domain, with_domain}
+use Rattle.sched_model.specs.Pool.{change_core, change_cores_of, decided_core as decided, same_choice, core_ask, pending_core, changed_pool, pool_without_domain, pool_with_domain}
 use Rattle.std.proofs.lemmas.List.{length-map}
 use Rattle.sched_laws.specs.EachPlace.{EachPlace}
 use Rattle.sched_laws.proofs.EachPlace.{EachPlace-change_at, EachPlace-put_at, EachPlace-clear_at, read_change_each, by_option, by_test}
-use Rattle.sched_base.specs.Numbers.{span, has_come}
+use Rattle.sched_base.specs.Numbers.{span, has_moment_come}
 use Rattle.sched_base.specs.declared.Span.{Span}
 use Rattle.std.specs.Prelude.{unwrap_or}
-use Rattle.sched_model.specs.Commands.{set_rtds_unit}
+use Rattle.sched_model.specs.Commands.{pool_with_rtds_unit}
 use Rattle.sched_laws.proofs.Fits.{ChangeFits}
 use Rattle.sched_laws.proofs.Records as records_lemmas
 use Rattle.sched_laws.proofs.Records.{IsNoFrame}
@@ -47,7 +47,7 @@ arinc_of any = None
 
 -- the unit that the window is for, where the pool has windows
 abbrev pub window_of : Records → ℕ → Option UnitId
-window_of records t = elim (arinc_of records) as (λ _. Option UnitId) [ None ↦ None | Some arinc ↦ window_unit arinc t ]
+window_of records t = elim (arinc_of records) as (λ _. Option UnitId) [ None ↦ None | Some arinc ↦ current_window_unit arinc t ]
 
 -- the runs of the pool's frame, if it has one, fit its major span
 abbrev pub FrameFits : Records → Type 0
@@ -58,11 +58,11 @@ abbrev pub SameWindows : Records → Records → Type 0
 SameWindows a b = arinc_of b ≡ arinc_of a
 
 windows_same : (a b : Records) (t : ℕ) → SameWindows a b → window_of b t ≡ window_of a t
-windows_same a b t same = ap (λ (o : Option ArincRecords). elim o as (λ _. Option UnitId) [ None ↦ None | Some arinc ↦ window_unit arinc t ]) same
+windows_same a b t same = ap (λ (o : Option ArincRecords). elim o as (λ _. Option UnitId) [ None ↦ None | Some arinc ↦ current_window_unit arinc t ]) same
 
 pub record CoreFits (g t : ℕ) (records : Records) (c : Resource) : Type 0 where
   pub processors : length c.processors ≡ g
-  pub due : c.leaving ≡ false → c.pending ≡ false → (later : ℕ) → t ≤ later → has_come later c.due ≡ false → window_of records later ≡ window_of records t
+  pub due : c.leaving ≡ false → c.pending ≡ false → (later : ℕ) → t ≤ later → has_moment_come later c.due ≡ false → window_of records later ≡ window_of records t
 
 pub record PoolFits (n g t : ℕ) (records : Records) (places : List (Option Resource)) : Type 0 where
   pub count : length places ≡ n
@@ -95,7 +95,7 @@ frame_changed (ArincPool records) frame t good fits arinc other is has =
 frame_changed any frame t good fits arinc other is has = absurd (cc)
 
 -- a unit with an RTDS record is in a pool without windows
-no_windows : (records : Records) (u : UnitId) (x : RtdsUnit) → rtds_record records u ≡ Some x → (a b : ℕ) → window_of records a ≡ window_of records b
+no_windows : (records : Records) (u : UnitId) (x : RtdsUnit) → unit_rtds_record records u ≡ Some x → (a b : ℕ) → window_of records a ≡ window_of records b
 no_windows (ArincPool records) u x is a b = absurd (cc)
 no_windows any u x is a b = refl
 
@@ -106,15 +106,15 @@ not_come : (later n : ℕ) → nat_le n later ≡ false → later < n
 not_come later n is = grind arith
 
 -- until the due of a decision the window is the same
-due_steady : (records : Records) (ask : Ask) (scheduler : Scheduler) → FrameFits records → ask.leaving ≡ false → (later : ℕ) → ask.at.0 ≤ later → has_come later (decision_by records ask scheduler).due ≡ false → window_of records later ≡ window_of records ask.at.0
+due_steady : (records : Records) (ask : Ask) (scheduler : Scheduler) → FrameFits records → ask.leaving ≡ false → (later : ℕ) → ask.at.0 ≤ later → has_moment_come later (decision_by records ask scheduler).due ≡ false → window_of records later ≡ window_of records ask.at.0
 due_steady (ArincPool records) ask scheduler fits stays later past low = by_frame records.frame refl
   where
     by_frame : (frame : Option Frame) → records.frame ≡ frame → window_of (ArincPool records) later ≡ window_of (ArincPool records) ask.at.0
-    by_frame None is = rw (window_unit, present_window, is) refl
+    by_frame None is = rw (current_window_unit, current_window, is) refl
     by_frame (Some frame) is =
-        let low2 : has_come later (arinc_decision ask scheduler (Some (window_at records.installed frame ask.at.0))).due ≡ false = rw (stays, present_window, is) at low in
-        let steady = unit_steady records.installed frame ask.at.0 later (fits records frame refl is) past (not_come later (window_at records.installed frame ask.at.0).until low2) in
-        rw (window_unit, present_window, is) steady
+        let low2 : has_moment_come later (arinc_decision ask scheduler (Some (frame_window records.installed frame ask.at.0))).due ≡ false = rw (stays, current_window, is) at low in
+        let steady = unit_steady records.installed frame ask.at.0 later (fits records frame refl is) past (not_come later (frame_window records.installed frame ask.at.0).until low2) in
+        rw (current_window_unit, current_window, is) steady
 due_steady any ask scheduler fits stays later past low = refl
 
 module _ (n g t : ℕ) where
@@ -125,7 +125,7 @@ module _ (n g t : ℕ) where
   fits_kept : (records : Records) (c d : Resource) → KeepsCore c d → CoreFits g t records c → CoreFits g t records d
   fits_kept records c d keeps fits = record {
     processors = keeps.count ∙ fits.processors;
-    due = λ stays decided later past low. fits.due (false_before c.leaving d.leaving keeps.leaving stays) (false_before c.pending d.pending keeps.pending decided) later past (ap (has_come later) (sym keeps.due) ∙ low);
+    due = λ stays decided later past low. fits.due (false_before c.leaving d.leaving keeps.leaving stays) (false_before c.pending d.pending keeps.pending decided) later past (ap (has_moment_come later) (sym keeps.due) ∙ low);
   }
 
   fits_pending : (records : Records) (c d : Resource) → length d.processors ≡ length c.processors → d.pending ≡ true → CoreFits g t records c → CoreFits g t records d
@@ -146,7 +146,7 @@ module _ (n g t : ℕ) where
 
   d_after_decide : (r : ℕ) (c : Resource) (pool : Pool) → at_place pool.resources r ≡ Some c → D pool → D (pools.after_decide g t r c pool)
   d_after_decide r c pool at fits =
-      let ask : Ask = ask_of g t pool r c in
+      let ask : Ask = core_ask g t pool r c in
       let records : Records = pool.scheduler.records in
       let decision : Decision = decision_of ask pool.scheduler in
       let same : SameWindows records decision.records = same_decision records ask pool.scheduler refl in
@@ -154,7 +154,7 @@ module _ (n g t : ℕ) where
       let now_decided : (d : Resource) → d.processors ≡ c.processors → d.leaving ≡ c.leaving → d.due ≡ decision.due → CoreFits g t decision.records d =
       λ d processors leaving due. record {
         processors = ap length processors ∙ here.processors;
-        due = λ stays decided2 later past low. windows_same records decision.records later same ∙ due_steady records ask pool.scheduler fits.frame (sym leaving ∙ stays) later past (ap (has_come later) (sym due) ∙ low) ∙ sym (windows_same records decision.records t same);
+        due = λ stays decided2 later past low. windows_same records decision.records later same ∙ due_steady records ask pool.scheduler fits.frame (sym leaving ∙ stays) later past (ap (has_moment_come later) (sym due) ∙ low) ∙ sym (windows_same records decision.records t same);
       } in
       record {
         count = length_set r _ pool.resources ∙ fits.count;
@@ -175,9 +175,9 @@ module _ (n g t : ℕ) where
     dequeues = λ d pool fits. fits;
     decides = λ r c pool at on. d_after_decide r c pool at;
     saves = λ r c u pool at is on. d_change_core r pools.saved_core pool (λ x there old. record { processors = old.processors; due = old.due });
-    replenishes = λ u pool on. d_records pool.scheduler.records (policy.replenish pool.scheduler.records t u) pool.resources (records_lemmas.same_replenish arinc_of no_credit2 no_rtds pool.scheduler.records t u);
+    replenishes = λ u pool on. d_records pool.scheduler.records (policy.records_after_replenish pool.scheduler.records t u) pool.resources (records_lemmas.same_replenish arinc_of no_credit2 no_rtds pool.scheduler.records t u);
     dues = λ r u x old pool on is. d_change_core r (pools.due_within t x.budget) pool (λ c at here. record { processors = here.processors; due = λ stays decided later past low. no_windows pool.scheduler.records u x is later t });
-    refills = λ d pool on. d_records pool.scheduler.records (policy.refill pool.scheduler.records t d) pool.resources (records_lemmas.same_refill arinc_of no_credit2 no_rtds pool.scheduler.records t d);
+    refills = λ d pool on. d_records pool.scheduler.records (policy.records_after_refill pool.scheduler.records t d) pool.resources (records_lemmas.same_refill arinc_of no_credit2 no_rtds pool.scheduler.records t d);
   }
 
   pub d_commands : KeptByCommands g D
@@ -189,13 +189,13 @@ module _ (n g t : ℕ) where
       let like : LikePlaces (λ c e. Fits c → Fits e) pool.resources (change_cores_of d (capped t) pool).resources = like_of_domain (λ c e. Fits c → Fits e) d (capped t) pool.resources (λ c here. here) (λ c. fits_pending pool.scheduler.records c _ refl refl) in
       record { count = like.count ∙ fits.count; frame = fits.frame; cores = EachAt-like (λ c e. Fits c → Fits e) (λ r. Fits) pool.resources _ like (λ r c e to. to) fits.cores }
 
-  d_changed : (change : ParamChange) (pool : Pool) → IsNoFrame change → D pool → D (record pool { scheduler = policy.set_params change t pool.scheduler })
+  d_changed : (change : ParamChange) (pool : Pool) → IsNoFrame change → D pool → D (record pool { scheduler = policy.changed_scheduler change t pool.scheduler })
   d_changed change pool none fits = d_records pool.scheduler.records (changed_records pool.scheduler.records change t) pool.resources (same_changed pool.scheduler.records change t none) fits
 
-  d_marked : (change : ParamChange) (pool : Pool) → IsNoFrame change → D pool → D (set_params change t pool)
-  d_marked change pool none fits = kept_marked d_commands t d_caps change (record pool { scheduler = policy.set_params change t pool.scheduler }) (d_changed change pool none fits)
+  d_marked : (change : ParamChange) (pool : Pool) → IsNoFrame change → D pool → D (changed_pool change t pool)
+  d_marked change pool none fits = kept_marked d_commands t d_caps change (record pool { scheduler = policy.changed_scheduler change t pool.scheduler }) (d_changed change pool none fits)
 
-  pub d_set_params : (change : ParamChange) (pool : Pool) → ChangeFits change → D pool → D (set_params change t pool)
+  pub d_set_params : (change : ParamChange) (pool : Pool) → ChangeFits change → D pool → D (changed_pool change t pool)
   d_set_params (changes.Dom d weight percent) pool good fits = d_marked (changes.Dom d weight percent) pool tt fits
   d_set_params (changes.Rate limit) pool good fits = d_marked (changes.Rate limit) pool tt fits
   d_set_params (changes.«Unit» u period budget extra) pool good fits = absurd good
@@ -203,40 +203,40 @@ module _ (n g t : ℕ) where
     count = length_change_each 0 _ pool.resources ∙ fits.count;
     frame = frame_changed pool.scheduler.records frame t good.0 fits.frame;
     cores = λ r c at. (
-        let old = read_change_each r (λ k x. set_pending x) pool.resources c at in
+        let old = read_change_each r (λ k x. pending_core x) pool.resources c at in
         subst (CoreFits g t (changed_records pool.scheduler.records (changes.Frame frame) t)) old.2
         (record { processors = (fits.cores r old.0 old.1).processors; due = λ stays decided2 later past low. absurd (cc) }));
   }
   d_set_params (changes.Pin d unit cores) pool good fits = d_marked (changes.Pin d unit cores) pool tt fits
 
-  pub d_set_rtds_unit : (period budget : Option Span) (extra : Option Bool) (u : UnitId) (pool : Pool) → D pool → D (set_rtds_unit t period budget extra u pool)
+  pub d_set_rtds_unit : (period budget : Option Span) (extra : Option Bool) (u : UnitId) (pool : Pool) → D pool → D (pool_with_rtds_unit t period budget extra u pool)
   d_set_rtds_unit period budget extra u pool fits =
-      by_option D (rtds_record pool.scheduler.records u) _ _ (λ is. fits)
+      by_option D (unit_rtds_record pool.scheduler.records u) _ _ (λ is. fits)
       (λ x is. d_changed (changes.«Unit» u (unwrap_or period (span x.next_period)) (unwrap_or budget (span x.next_budget)) (unwrap_or extra x.next_extra)) pool tt fits)
 
-  pub d_with_domain : (d : ℕ) (domain : Domain) (params : DomParams) (pool : Pool) → D pool → D (with_domain g t d domain params pool)
+  pub d_with_domain : (d : ℕ) (domain : Domain) (params : DomParams) (pool : Pool) → D pool → D (pool_with_domain g t d domain params pool)
   d_with_domain d domain params pool fits =
-      kept_queue_units d_commands d (numbers_from 0 (pools.unit_count g domain)) (record pool { domains = put_at d domain pool.domains; scheduler = policy.join d (pools.unit_count g domain) params t pool.scheduler })
-      (d_records pool.scheduler.records (joined_records pool.scheduler.records params d (pools.unit_count g domain) t) pool.resources (same_joined pool.scheduler.records params d (pools.unit_count g domain) t) fits)
+      kept_queue_units d_commands d (numbers_from 0 (pools.domain_unit_count g domain)) (record pool { domains = put_at d domain pool.domains; scheduler = policy.joined_scheduler d (pools.domain_unit_count g domain) params t pool.scheduler })
+      (d_records pool.scheduler.records (joined_records pool.scheduler.records params d (pools.domain_unit_count g domain) t) pool.resources (same_joined pool.scheduler.records params d (pools.domain_unit_count g domain) t) fits)
 
-  pub d_core_comes : (r : ℕ) (ends : List Moment) (pool : Pool) → length ends ≡ g → D pool → D (record pool { resources = put_at r (fresh_core ends) pool.resources })
+  pub d_core_comes : (r : ℕ) (ends : List Moment) (pool : Pool) → length ends ≡ g → D pool → D (record pool { resources = put_at r (joined_core ends) pool.resources })
   d_core_comes r ends pool whole fits = record {
     count = length_set r _ pool.resources ∙ fits.count;
     frame = fits.frame;
-    cores = EachPlace-put_at (CoreFits g t pool.scheduler.records) r (fresh_core ends) pool.resources fits.cores (record { processors = length-map ends _ ∙ whole; due = λ stays decided2 later past low. absurd (cc) });
+    cores = EachPlace-put_at (CoreFits g t pool.scheduler.records) r (joined_core ends) pool.resources fits.cores (record { processors = length-map ends _ ∙ whole; due = λ stays decided2 later past low. absurd (cc) });
   }
 
   pub d_core_goes : (r : ℕ) (pool : Pool) → D pool → D (record pool { resources = clear_at r pool.resources })
   d_core_goes r pool fits = record { count = length_set r None pool.resources ∙ fits.count; frame = fits.frame; cores = EachPlace-clear_at (CoreFits g t pool.scheduler.records) r pool.resources fits.cores }
 
-  pub d_without_domain : (d : ℕ) (pool : Pool) → D pool → D (without_domain d pool)
+  pub d_without_domain : (d : ℕ) (pool : Pool) → D pool → D (pool_without_domain d pool)
   d_without_domain d pool fits = d_records pool.scheduler.records (parted_records pool.scheduler.records d) pool.resources (same_parted pool.scheduler.records d) fits
 
 not_le : (d later sooner : ℕ) → sooner ≤ later → nat_le d later ≡ false → nat_le d sooner ≡ false
 not_le d later sooner past low = grind arith
 
 -- a due that has not come had not come before
-pub not_yet : (later sooner : ℕ) (due : Option Moment) → sooner ≤ later → has_come later due ≡ false → has_come sooner due ≡ false
+pub not_yet : (later sooner : ℕ) (due : Option Moment) → sooner ≤ later → has_moment_come later due ≡ false → has_moment_come sooner due ≡ false
 not_yet later sooner None past low = refl
 not_yet later sooner (Some d) past low = not_le d.0 later sooner past low
 

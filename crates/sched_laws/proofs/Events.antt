@@ -19,11 +19,11 @@ use Rattle.sched_model.specs.declared.state.Resource.{Resource}
 use Rattle.sched_model.specs.declared.state.RtdsUnit.{RtdsUnit}
 use Rattle.sched_model.specs.declared.state.Pool.{Pool}
 use Rattle.sched_model.specs.Places.{at_place, change_at, change_each, change_item, test_at, numbers_from}
-use Rattle.sched_model.specs.State.{is_runnable}
+use Rattle.sched_model.specs.State.{may_unit_run}
 use Rattle.sched_model.specs.Policy as policy
-use Rattle.sched_model.specs.Policy.{dequeue_domain, rtds_record}
+use Rattle.sched_model.specs.Policy.{scheduler_without_queued, unit_rtds_record}
 use Rattle.sched_model.specs.Pool as pools
-use Rattle.sched_model.specs.Pool.{enabled_in, after_in, settled_pool, home_cores, reconsidered_core, change_core, change_processor, change_vcpu, change_domain, change_cores_of, set_pending, set_leaving, with_doing, queue_unit, started_on, with_records, pause, unpause, unit_of, core_of, processor_of, vcpu_of, guest_of, is_idle, is_held, is_of_domain, unit_count, vcpu_among}
+use Rattle.sched_model.specs.Pool.{enabled_in, after_in, settled_pool, pool_core_set, reconsidered_core, change_core, change_processor, change_vcpu, change_domain, change_cores_of, pending_core, pool_with_leaving, with_doing, queue_unit, started_on, with_records, paused_pool, unpaused_pool, vcpu_unit, unit_core, pool_processor, pool_vcpu, running_guest, is_idling, is_held_back, is_domain_unit, domain_unit_count, vcpu_among}
 use Rattle.sched_laws.specs.EachPlace.{EachAt}
 use Rattle.sched_laws.proofs.EachPlace.{by_option, by_test, by_cond, length_set, length_change_each, read_change_at}
 use Rattle.sched_laws.proofs.Lists.{length_change_item, read_change_item}
@@ -132,7 +132,7 @@ pub record KeepsCore (c d : Resource) : Type 0 where
 pub record IsMarked (c d : Resource) : Type 0 where
   pub keeps : KeepsCore c d
   pub processors : d.processors ≡ c.processors
-  pub stage : (d.stage ≡ c.stage) ⊎ ((d.stage ≡ Open) × (list_any is_held c.processors ≡ false))
+  pub stage : (d.stage ≡ c.stage) ⊎ ((d.stage ≡ Open) × (list_any is_held_back c.processors ≡ false))
 
 keeps_marks : (c : Resource) (stage : Stage) (leaves pends : Bool) → (c.leaving ≡ true → leaves ≡ true) → (c.pending ≡ true → pends ≡ true) → KeepsCore c (record c { stage = stage; leaving = leaves; pending = pends })
 keeps_marks c stage leaves pends leaving pending = record { cur = refl; saving = refl; since = refl; due = refl; count = refl; leaving = leaving; pending = pending }
@@ -143,32 +143,32 @@ is_marked c leaves pends leaving pending = record { keeps = keeps_marks c c.stag
 marked_itself : (c : Resource) → IsMarked c c
 marked_itself c = is_marked c c.leaving c.pending (λ e. e) (λ e. e)
 
-marked_pending : (c : Resource) → IsMarked c (set_pending c)
+marked_pending : (c : Resource) → IsMarked c (pending_core c)
 marked_pending c = is_marked c c.leaving true (λ e. e) (λ e. refl)
 
-marked_open : (c : Resource) → IsMarked c (pools.open_if_left c)
-marked_open c = by_cond (IsMarked c) (list_any is_held c.processors) c (record c { stage = Open }) (λ any. marked_itself c) (λ none. record { keeps = keeps_marks c Open c.leaving c.pending (λ e. e) (λ e. e); processors = refl; stage = inr (refl, none) })
+marked_open : (c : Resource) → IsMarked c (pools.reopened_core c)
+marked_open c = by_cond (IsMarked c) (list_any is_held_back c.processors) c (record c { stage = Open }) (λ any. marked_itself c) (λ none. record { keeps = keeps_marks c Open c.leaving c.pending (λ e. e) (λ e. e); processors = refl; stage = inr (refl, none) })
 
 -- the core asks again at once, since the cap of its unit's domain is set
 abbrev pub capped : ℕ → Resource → Resource
 capped t c = record c { pending = true; due = Some (moment t) }
 
 -- the cores of a domain changed, and no other
-pub like_of_domain : (R : Resource → Resource → Type 0) (d : ℕ) (f : Resource → Resource) (cores : List (Option Resource)) → ((c : Resource) → R c c) → ((c : Resource) → R c (f c)) → LikePlaces R cores (change_each 0 (λ r c. cond (is_of_domain d c.cur) (f c) c) cores)
+pub like_of_domain : (R : Resource → Resource → Type 0) (d : ℕ) (f : Resource → Resource) (cores : List (Option Resource)) → ((c : Resource) → R c c) → ((c : Resource) → R c (f c)) → LikePlaces R cores (change_each 0 (λ r c. cond (is_domain_unit d c.cur) (f c) c) cores)
 like_of_domain R d f cores same now =
-    like_change_each R (λ r c. cond (is_of_domain d c.cur) (f c) c) cores (λ r c. by_cond (R c) (is_of_domain d c.cur) (f c) c (λ is. now c) (λ is. same c))
+    like_change_each R (λ r c. cond (is_domain_unit d c.cur) (f c) c) cores (λ r c. by_cond (R c) (is_domain_unit d c.cur) (f c) c (λ is. now c) (λ is. same c))
 
 -- the vCPU after a change of it
-pub vcpu_after : (v : VcpuId) (f : Vcpu → Vcpu) (pool : Pool) (y : Vcpu) → vcpu_of (change_vcpu v f pool) v ≡ Some y → (x : Vcpu) × (vcpu_of pool v ≡ Some x) × (f x ≡ y)
+pub vcpu_after : (v : VcpuId) (f : Vcpu → Vcpu) (pool : Pool) (y : Vcpu) → pool_vcpu (change_vcpu v f pool) v ≡ Some y → (x : Vcpu) × (pool_vcpu pool v ≡ Some x) × (f x ≡ y)
 vcpu_after v f pool y is =
     let change : Domain → Domain = λ d. record d { vcpus = change_item v.n f d.vcpus } in
-    by_option (λ (o : Option Vcpu). o ≡ Some y → (x : Vcpu) × (vcpu_of pool v ≡ Some x) × (f x ≡ y)) (at_place (change_at v.dom.0 change pool.domains) v.dom.0) None (λ d. slice_get d.vcpus v.n)
+    by_option (λ (o : Option Vcpu). o ≡ Some y → (x : Vcpu) × (pool_vcpu pool v ≡ Some x) × (f x ≡ y)) (at_place (change_at v.dom.0 change pool.domains) v.dom.0) None (λ d. slice_get d.vcpus v.n)
     (λ none e. absurd (cc))
     (λ d2 at e. elim (read_change_at v.dom.0 v.dom.0 change pool.domains d2 at) [
       | inl was ↦ absurd (was.0 refl)
       | inr r ↦ (
           let has : slice_get (change_item v.n f r.0.vcpus) v.n ≡ Some y = rw (← r.3) at e in
-          elim (read_change_item v.n v.n f r.0.vcpus y has) [ inl was ↦ absurd (was.0 refl) | inr x ↦ (x.0, rw (vcpu_of, vcpu_among, r.1) x.1, x.3) ])
+          elim (read_change_item v.n v.n f r.0.vcpus y has) [ inl was ↦ absurd (was.0 refl) | inr x ↦ (x.0, rw (pool_vcpu, vcpu_among, r.1) x.1, x.3) ])
     ]) is
 
 -- nothing is known of an event that comes; it may come
@@ -181,37 +181,37 @@ Enabled g t pool action = enabled_in g t pool action ≡ true
 -- kept by what commands do to the marks, the queue and the paused domains
 pub record KeptByCommands (g : ℕ) (P : Pool → Type 0) : Type 0 where
   pub marks : (cores : List (Option Resource)) (pool : Pool) → LikePlaces IsMarked pool.resources cores → P pool → P (record pool { resources = cores })
-  pub queues : (u : UnitId) (pool : Pool) → is_runnable g pool u ≡ true → P pool → P (queue_unit u pool)
-  pub dequeues : (d : ℕ) (pool : Pool) → P pool → P (record pool { scheduler = dequeue_domain d pool.scheduler })
+  pub queues : (u : UnitId) (pool : Pool) → may_unit_run g pool u ≡ true → P pool → P (queue_unit u pool)
+  pub dequeues : (d : ℕ) (pool : Pool) → P pool → P (record pool { scheduler = scheduler_without_queued d pool.scheduler })
   pub pausing : (d : ℕ) (paused : Bool) (pool : Pool) → P pool → P (change_domain d (λ x. record x { paused = paused }) pool)
 
 -- kept by each step of an event at t, of which On tells what is known when it comes
 pub record KeptBySteps (g t : ℕ) (On : Pool → Action → Type 0) (P : Pool → Type 0) : Type 0 where
-  pub pends : (r : ℕ) (pool : Pool) → P pool → P (change_core r set_pending pool)
-  pub queues : (u : UnitId) (pool : Pool) → is_runnable g pool u ≡ true → P pool → P (queue_unit u pool)
+  pub pends : (r : ℕ) (pool : Pool) → P pool → P (change_core r pending_core pool)
+  pub queues : (u : UnitId) (pool : Pool) → may_unit_run g pool u ≡ true → P pool → P (queue_unit u pool)
   pub wakes : (v : VcpuId) (pool : Pool) → On pool (Wake v) → P pool → P (change_vcpu v pools.woken_vcpu pool)
-  pub joins : (v : VcpuId) (r : ℕ) (q : Processor) (pool : Pool) → core_of pool (unit_of g v) ≡ Some r → processor_of g pool (r * g + v.n % g) ≡ Some q → is_idle q ≡ true → ((x : Vcpu) → vcpu_of pool v ≡ Some x → x.asleep_until ≡ None)
+  pub joins : (v : VcpuId) (r : ℕ) (q : Processor) (pool : Pool) → unit_core pool (vcpu_unit g v) ≡ Some r → pool_processor g pool (r * g + v.n % g) ≡ Some q → is_idling q ≡ true → ((x : Vcpu) → pool_vcpu pool v ≡ Some x → x.asleep_until ≡ None)
       → P pool → P (started_on g t (r * g + v.n % g) v pool)
-  pub blocks : (p : ℕ) (v : VcpuId) (pool : Pool) → guest_of g pool p ≡ Some v → On pool (Block (processor p)) → P pool → P (change_processor g p (with_doing Idle) (change_vcpu v (pools.put_to_sleep t) pool))
+  pub blocks : (p : ℕ) (v : VcpuId) (pool : Pool) → running_guest g pool p ≡ Some v → On pool (Block (processor p)) → P pool → P (change_processor g p (with_doing Idle) (change_vcpu v (pools.put_to_sleep t) pool))
   pub arrives : (p : ℕ) (pool : Pool) → On pool (Arrive (processor p)) → P pool → P (pools.after_arrive g t p pool)
   pub decides : (r : ℕ) (c : Resource) (pool : Pool) → at_place pool.resources r ≡ Some c → On pool (Decide (core r)) → P pool → P (pools.after_decide g t r c pool)
   pub leaves : (p : ℕ) (c : Resource) (pool : Pool) → at_place pool.resources (p / g) ≡ Some c → On pool (Leave (processor p)) → P pool → P (pools.after_leave g t p c pool)
   pub saves : (r : ℕ) (c : Resource) (u : UnitId) (pool : Pool) → at_place pool.resources r ≡ Some c → c.saving ≡ Some u → On pool (Save (core r)) → P pool → P (change_core r pools.saved_core pool)
-  pub replenishes : (u : UnitId) (pool : Pool) → On pool (Repl u) → P pool → P (with_records (policy.replenish pool.scheduler.records t u) pool)
-  pub dues : (r : ℕ) (u : UnitId) (x : RtdsUnit) (old pool : Pool) → On old (Repl u) → rtds_record pool.scheduler.records u ≡ Some x → P pool → P (change_core r (pools.due_within t x.budget) pool)
-  pub refills : (d : ℕ) (pool : Pool) → On pool (Refill (domain_number d)) → P pool → P (with_records (policy.refill pool.scheduler.records t d) pool)
+  pub replenishes : (u : UnitId) (pool : Pool) → On pool (Repl u) → P pool → P (with_records (policy.records_after_replenish pool.scheduler.records t u) pool)
+  pub dues : (r : ℕ) (u : UnitId) (x : RtdsUnit) (old pool : Pool) → On old (Repl u) → unit_rtds_record pool.scheduler.records u ≡ Some x → P pool → P (change_core r (pools.due_within t x.budget) pool)
+  pub refills : (d : ℕ) (pool : Pool) → On pool (Refill (domain_number d)) → P pool → P (with_records (policy.records_after_refill pool.scheduler.records t d) pool)
 
 -- the same, where nothing but the cores' units and times, the domains' sizes and moves, the queue and the records count
 pub record KeptByParts (g t : ℕ) (On : Pool → Action → Type 0) (P : Pool → Type 0) : Type 0 where
   pub cores : (cores : List (Option Resource)) (pool : Pool) → LikePlaces KeepsCore pool.resources cores → P pool → P (record pool { resources = cores })
   pub domains : (d : ℕ) (f : Domain → Domain) (pool : Pool) → ((x : Domain) → length (f x).vcpus ≡ length x.vcpus) → ((x : Domain) → (f x).moving ≡ x.moving) → P pool → P (change_domain d f pool)
-  pub queues : (u : UnitId) (pool : Pool) → is_runnable g pool u ≡ true → P pool → P (queue_unit u pool)
-  pub dequeues : (d : ℕ) (pool : Pool) → P pool → P (record pool { scheduler = dequeue_domain d pool.scheduler })
+  pub queues : (u : UnitId) (pool : Pool) → may_unit_run g pool u ≡ true → P pool → P (queue_unit u pool)
+  pub dequeues : (d : ℕ) (pool : Pool) → P pool → P (record pool { scheduler = scheduler_without_queued d pool.scheduler })
   pub decides : (r : ℕ) (c : Resource) (pool : Pool) → at_place pool.resources r ≡ Some c → On pool (Decide (core r)) → P pool → P (pools.after_decide g t r c pool)
   pub saves : (r : ℕ) (c : Resource) (u : UnitId) (pool : Pool) → at_place pool.resources r ≡ Some c → c.saving ≡ Some u → On pool (Save (core r)) → P pool → P (change_core r pools.saved_core pool)
-  pub replenishes : (u : UnitId) (pool : Pool) → On pool (Repl u) → P pool → P (with_records (policy.replenish pool.scheduler.records t u) pool)
-  pub dues : (r : ℕ) (u : UnitId) (x : RtdsUnit) (old pool : Pool) → On old (Repl u) → rtds_record pool.scheduler.records u ≡ Some x → P pool → P (change_core r (pools.due_within t x.budget) pool)
-  pub refills : (d : ℕ) (pool : Pool) → On pool (Refill (domain_number d)) → P pool → P (with_records (policy.refill pool.scheduler.records t d) pool)
+  pub replenishes : (u : UnitId) (pool : Pool) → On pool (Repl u) → P pool → P (with_records (policy.records_after_replenish pool.scheduler.records t u) pool)
+  pub dues : (r : ℕ) (u : UnitId) (x : RtdsUnit) (old pool : Pool) → On old (Repl u) → unit_rtds_record pool.scheduler.records u ≡ Some x → P pool → P (change_core r (pools.due_within t x.budget) pool)
+  pub refills : (d : ℕ) (pool : Pool) → On pool (Refill (domain_number d)) → P pool → P (with_records (policy.records_after_refill pool.scheduler.records t d) pool)
 
 module _ {g : ℕ} {P : Pool → Type 0} (kept : KeptByCommands g P) where
   kept_marked_core : (r : ℕ) (f : Resource → Resource) (pool : Pool) → ((c : Resource) → IsMarked c (f c)) → P pool → P (change_core r f pool)
@@ -220,47 +220,47 @@ module _ {g : ℕ} {P : Pool → Type 0} (kept : KeptByCommands g P) where
   kept_marked_each : (f : ℕ → Resource → Resource) (pool : Pool) → ((r : ℕ) (c : Resource) → IsMarked c (f r c)) → P pool → P (record pool { resources = change_each 0 f pool.resources })
   kept_marked_each f pool marked here = kept.marks (change_each 0 f pool.resources) pool (like_change_each IsMarked f pool.resources marked) here
 
-  pub kept_pending : (r : ℕ) (pool : Pool) → P pool → P (change_core r set_pending pool)
-  kept_pending r pool here = kept_marked_core r set_pending pool marked_pending here
+  pub kept_pending : (r : ℕ) (pool : Pool) → P pool → P (change_core r pending_core pool)
+  kept_pending r pool here = kept_marked_core r pending_core pool marked_pending here
 
-  pub kept_opened : (r : ℕ) (pool : Pool) → P pool → P (change_core r pools.open_if_left pool)
-  kept_opened r pool here = kept_marked_core r pools.open_if_left pool marked_open here
+  pub kept_opened : (r : ℕ) (pool : Pool) → P pool → P (change_core r pools.reopened_core pool)
+  kept_opened r pool here = kept_marked_core r pools.reopened_core pool marked_open here
 
-  pub kept_set_leaving : (r : ℕ) (pool : Pool) → P pool → P (set_leaving r pool)
+  pub kept_set_leaving : (r : ℕ) (pool : Pool) → P pool → P (pool_with_leaving r pool)
   kept_set_leaving r pool here = kept_marked_core r (λ c. record c { leaving = true; pending = c.pending || is_some c.cur }) pool (λ c. is_marked c true (c.pending || is_some c.cur) (λ e. refl) (or_more c.pending (is_some c.cur))) here
 
   pub kept_settled : (t : ℕ) (pool : Pool) → P pool → P (settled_pool t pool)
   kept_settled t pool here =
-      kept_marked_each (reconsidered_core t (home_cores pool) pool.scheduler) pool
+      kept_marked_each (reconsidered_core t (pool_core_set pool) pool.scheduler) pool
       (λ r c. by_cond (IsMarked c) c.leaving c _ (λ is. marked_itself c) (λ is. is_marked c c.leaving _ (λ e. e) (or_more c.pending _))) here
 
   -- the cores of a domain, and each core, are to decide anew
-  pub kept_cores_pending : (d : ℕ) (pool : Pool) → P pool → P (change_cores_of d set_pending pool)
-  kept_cores_pending d pool here = kept.marks _ pool (like_of_domain IsMarked d set_pending pool.resources marked_itself marked_pending) here
+  pub kept_cores_pending : (d : ℕ) (pool : Pool) → P pool → P (change_cores_of d pending_core pool)
+  kept_cores_pending d pool here = kept.marks _ pool (like_of_domain IsMarked d pending_core pool.resources marked_itself marked_pending) here
 
   pub kept_withdrawn : (d : ℕ) (pool : Pool) → P pool → P (pools.withdrawn_pool d pool)
-  kept_withdrawn d pool here = kept_cores_pending d (record pool { scheduler = dequeue_domain d pool.scheduler }) (kept.dequeues d pool here)
+  kept_withdrawn d pool here = kept_cores_pending d (record pool { scheduler = scheduler_without_queued d pool.scheduler }) (kept.dequeues d pool here)
 
-  pub kept_pause : (d : ℕ) (pool : Pool) → P pool → P (pause d pool)
+  pub kept_pause : (d : ℕ) (pool : Pool) → P pool → P (paused_pool d pool)
   kept_pause d pool here =
       by_cond P (test_at pool.domains d (λ x. x.paused)) _ _ (λ is. here) (λ is. kept_withdrawn d (change_domain d (λ x. record x { paused = true }) pool) (kept.pausing d true pool here))
 
-  pub kept_queue_units : (d : ℕ) (units : List ℕ) (pool : Pool) → P pool → P (pools.queue_units g d units pool)
+  pub kept_queue_units : (d : ℕ) (units : List ℕ) (pool : Pool) → P pool → P (pools.pool_with_queued_units g d units pool)
   kept_queue_units d [] pool here = here
   kept_queue_units d (n ∷ ns) pool here =
       let u : UnitId = record { dom = domain_number d; n = n } in
-      kept_queue_units d ns (pools.queue_if_off g u pool) (by_cond P (is_runnable g pool u && pools.is_off pool u) (queue_unit u pool) pool (λ is. kept.queues u pool (and_left (is_runnable g pool u) (pools.is_off pool u) is) here) (λ is. here))
+      kept_queue_units d ns (pools.pool_with_queued_if_off g u pool) (by_cond P (may_unit_run g pool u && pools.is_unit_off pool u) (queue_unit u pool) pool (λ is. kept.queues u pool (and_left (may_unit_run g pool u) (pools.is_unit_off pool u) is) here) (λ is. here))
 
-  pub kept_unpause : (d : ℕ) (pool : Pool) → P pool → P (unpause g d pool)
+  pub kept_unpause : (d : ℕ) (pool : Pool) → P pool → P (unpaused_pool g d pool)
   kept_unpause d pool here =
       by_option P (at_place pool.domains d) _ _ (λ is. here)
       (λ domain is. by_cond P domain.paused _ _
-      (λ is2. kept_queue_units d (numbers_from 0 (unit_count g domain)) (change_domain d (λ x. record x { paused = false }) pool) (kept.pausing d false pool here)) (λ is2. here))
+      (λ is2. kept_queue_units d (numbers_from 0 (domain_unit_count g domain)) (change_domain d (λ x. record x { paused = false }) pool) (kept.pausing d false pool here)) (λ is2. here))
 
   -- what a change of parameters marks; a cap that is set makes the cores of the domain due
   pub kept_marked : (t : ℕ) → ((d : ℕ) (pool : Pool) → P pool → P (change_cores_of d (capped t) pool)) → (change : ParamChange) (pool : Pool) → P pool → P (pools.marked_pool change t pool)
   kept_marked t caps (changes.Dom d weight (Some percent)) pool here = caps d.0 pool here
-  kept_marked t caps (changes.Frame frame) pool here = kept_marked_each (λ r c. set_pending c) pool (λ r. marked_pending) here
+  kept_marked t caps (changes.Frame frame) pool here = kept_marked_each (λ r c. pending_core c) pool (λ r. marked_pending) here
   kept_marked t caps change pool here = here
 
 module _ {g t : ℕ} {On : Pool → Action → Type 0} {P : Pool → Type 0} (kept : KeptBySteps g t On P) where
@@ -268,36 +268,36 @@ module _ {g t : ℕ} {On : Pool → Action → Type 0} {P : Pool → Type 0} (ke
   kept_after_wake v pool on here =
       let next : Pool = change_vcpu v pools.woken_vcpu pool in
       let woken : P next = kept.wakes v pool on here in
-      let awake : (y : Vcpu) → vcpu_of next v ≡ Some y → y.asleep_until ≡ None = λ y has. (let x = vcpu_after v pools.woken_vcpu pool y has in subst (λ (z : Vcpu). z.asleep_until ≡ None) x.2 refl) in
-      by_test P (is_runnable g next (unit_of g v)) _ _
-      (λ runs. by_cond P (pools.is_off next (unit_of g v)) _ _ (λ off. kept.queues (unit_of g v) next runs woken)
-      (λ off. by_option P (core_of next (unit_of g v)) _ _ (λ is. woken)
-      (λ r is. by_option P (processor_of g next (r * g + v.n % g)) _ _ (λ is2. woken)
-      (λ q is2. by_cond P (is_idle q) _ _ (λ idle. kept.joins v r q next is is2 idle awake woken) (λ idle. woken)))))
+      let awake : (y : Vcpu) → pool_vcpu next v ≡ Some y → y.asleep_until ≡ None = λ y has. (let x = vcpu_after v pools.woken_vcpu pool y has in subst (λ (z : Vcpu). z.asleep_until ≡ None) x.2 refl) in
+      by_test P (may_unit_run g next (vcpu_unit g v)) _ _
+      (λ runs. by_cond P (pools.is_unit_off next (vcpu_unit g v)) _ _ (λ off. kept.queues (vcpu_unit g v) next runs woken)
+      (λ off. by_option P (unit_core next (vcpu_unit g v)) _ _ (λ is. woken)
+      (λ r is. by_option P (pool_processor g next (r * g + v.n % g)) _ _ (λ is2. woken)
+      (λ q is2. by_cond P (is_idling q) _ _ (λ idle. kept.joins v r q next is is2 idle awake woken) (λ idle. woken)))))
       (λ runs. woken)
 
-  kept_after_block : (p : ℕ) (v : VcpuId) (pool : Pool) → guest_of g pool p ≡ Some v → On pool (Block (processor p)) → P pool → P (pools.after_block g t p v pool)
+  kept_after_block : (p : ℕ) (v : VcpuId) (pool : Pool) → running_guest g pool p ≡ Some v → On pool (Block (processor p)) → P pool → P (pools.after_block g t p v pool)
   kept_after_block p v pool guest on here =
       let next : Pool = change_processor g p (with_doing Idle) (change_vcpu v (pools.put_to_sleep t) pool) in
       let slept : P next = kept.blocks p v pool guest on here in
-      by_cond P (is_runnable g next (unit_of g v)) _ _ (λ runs. slept) (λ runs. kept.pends (p / g) next slept)
+      by_cond P (may_unit_run g next (vcpu_unit g v)) _ _ (λ runs. slept) (λ runs. kept.pends (p / g) next slept)
 
   kept_after_save : (r : ℕ) (c : Resource) (u : UnitId) (pool : Pool) → at_place pool.resources r ≡ Some c → c.saving ≡ Some u → On pool (Save (core r)) → P pool → P (pools.after_save g r u pool)
   kept_after_save r c u pool at is on here =
       let next : Pool = change_core r pools.saved_core pool in
       let saved : P next = kept.saves r c u pool at is on here in
-      by_cond P (is_runnable g pool u) _ _ (λ runs. kept.queues u next runs saved) (λ runs. saved)
+      by_cond P (may_unit_run g pool u) _ _ (λ runs. kept.queues u next runs saved) (λ runs. saved)
 
   kept_after_replenish : (u : UnitId) (pool : Pool) → On pool (Repl u) → P pool → P (pools.after_replenish t u pool)
   kept_after_replenish u pool on here =
-      let next : Pool = with_records (policy.replenish pool.scheduler.records t u) pool in
+      let next : Pool = with_records (policy.records_after_replenish pool.scheduler.records t u) pool in
       let replenished : P next = kept.replenishes u pool on here in
-      by_option P (core_of pool u) _ _ (λ is. replenished)
-      (λ r is. by_option P (rtds_record next.scheduler.records u) _ _ (λ is2. replenished) (λ x is2. kept.dues r u x pool next on is2 replenished))
+      by_option P (unit_core pool u) _ _ (λ is. replenished)
+      (λ r is. by_option P (unit_rtds_record next.scheduler.records u) _ _ (λ is2. replenished) (λ x is2. kept.dues r u x pool next on is2 replenished))
 
   pub kept_by_event : (pool : Pool) (action : Action) → On pool action → P pool → P (after_in g t pool action)
   kept_by_event pool (Wake v) on here = kept_after_wake v pool on here
-  kept_by_event pool (Block p) on here = by_option P (guest_of g pool p.0) _ _ (λ is. here) (λ v is. kept_after_block p.0 v pool is on here)
+  kept_by_event pool (Block p) on here = by_option P (running_guest g pool p.0) _ _ (λ is. here) (λ v is. kept_after_block p.0 v pool is on here)
   kept_by_event pool (Slice r) on here = kept.pends r.0 pool here
   kept_by_event pool (Repl u) on here = kept_after_replenish u pool on here
   kept_by_event pool (Refill d) on here = kept.refills d.0 pool on here
@@ -336,10 +336,10 @@ module _ {g t : ℕ} {On : Pool → Action → Type 0} {P : Pool → Type 0} (ke
     wakes = λ v pool on. kept_vcpu v pools.woken_vcpu pool;
     joins = λ v r q pool is is2 idle awake. kept_started_on (r * g + v.n % g) v pool;
     blocks = λ p v pool guest on here. kept_processor p (with_doing Idle) (change_vcpu v (pools.put_to_sleep t) pool) (kept_vcpu v (pools.put_to_sleep t) pool here);
-    arrives = λ p pool on here. by_option (λ (next : Pool). P (change_processor g p (with_doing Held) next)) (guest_of g pool p) _ _ (λ is. kept_processor p (with_doing Held) pool here)
+    arrives = λ p pool on here. by_option (λ (next : Pool). P (change_processor g p (with_doing Held) next)) (running_guest g pool p) _ _ (λ is. kept_processor p (with_doing Held) pool here)
         (λ v is. kept_processor p (with_doing Held) (change_vcpu v (pools.stopped_vcpu t) pool) (kept_vcpu v (pools.stopped_vcpu t) pool here));
     decides = kept.decides;
-    leaves = λ p c pool at on here. by_option (λ (next : Pool). P (change_core (p / g) pools.open_if_left next)) (pools.vcpu_for g pool c (p % g)) _ _
+    leaves = λ p c pool at on here. by_option (λ (next : Pool). P (change_core (p / g) pools.reopened_core next)) (pools.vcpu_to_run g pool c (p % g)) _ _
         (λ is. kept_opened commands_of (p / g) (change_processor g p (with_doing Idle) pool) (kept_processor p (with_doing Idle) pool here))
         (λ v is. kept_opened commands_of (p / g) (started_on g t p v pool) (kept_started_on p v pool here));
     saves = kept.saves;

@@ -4,7 +4,7 @@ use Rattle.std.specs.Prelude.{◌^◌, ◌==◌, Option, Some, None, is_some}
 use Rattle.std.proofs.Math.Nat.{div-div-eq-div-mul, pow-succ'}
 use Rattle.std.proofs.lemmas.Nat.{div-mul-add, mod-mul-add}
 use Rattle.sched_model.specs.Places.{at_place}
-use Rattle.sched_model.specs.State.{has_core}
+use Rattle.sched_model.specs.State.{has_core_bit}
 use Rattle.sched_model.specs.Pool.{cores_from}
 use Rattle.sched_model.specs.declared.state.Resource.{Resource}
 
@@ -42,15 +42,15 @@ first_bit c x =
     of_bit None = refl
     of_bit (Some c) = refl
 
-pub home_has : (cores : List (Option Resource)) (r : ℕ) → has_core (cores_from 0 cores) r ≡ is_some (at_place cores r)
+pub home_has : (cores : List (Option Resource)) (r : ℕ) → has_core_bit (cores_from 0 cores) r ≡ is_some (at_place cores r)
 home_has [] r = none r
   where
-    none : (r : ℕ) → has_core 0 r ≡ false
+    none : (r : ℕ) → has_core_bit 0 r ≡ false
     none r = grind arith
-home_has (c ∷ cores) zero = ap (λ x. has_core x 0) (cores_cons c cores) ∙ first_bit c (cores_from 0 cores)
+home_has (c ∷ cores) zero = ap (λ x. has_core_bit x 0) (cores_cons c cores) ∙ first_bit c (cores_from 0 cores)
 home_has (c ∷ cores) (suc r) =
     let x : ℕ = cores_from 0 cores in
     let p : 2 ^ suc r ≡ 2 * 2 ^ r = pow-succ' 2 r in
     let half : (x * 2 + bit_of c) / 2 ≡ x = div-mul-add x 2 (bit_of c) (bit_small c) in
     let shift : (x * 2 + bit_of c) / 2 ^ suc r ≡ x / 2 ^ r = ap (λ y. (x * 2 + bit_of c) / y) p ∙ sym (div-div-eq-div-mul (x * 2 + bit_of c) 2 (2 ^ r)) ∙ ap (λ y. y / 2 ^ r) half in
-    ap (λ y. has_core y (suc r)) (cores_cons c cores) ∙ ap (λ y. y % 2 == 1) shift ∙ home_has cores r
+    ap (λ y. has_core_bit y (suc r)) (cores_cons c cores) ∙ ap (λ y. y % 2 == 1) shift ∙ home_has cores r

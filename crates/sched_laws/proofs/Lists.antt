@@ -13,7 +13,7 @@ use Rattle.sched_laws.specs.EachPlace.{EachPlace}
 use Rattle.sched_laws.proofs.EachPlace.{at_place-put_at_other, at_place-clear_at_other, at_place-clear_at}
 use Rattle.sched_base.specs.declared.Cores.{Cores}
 use Rattle.sched_base.specs.declared.Moment.{Moment}
-use Rattle.sched_base.specs.Numbers.{has_come}
+use Rattle.sched_base.specs.Numbers.{has_moment_come}
 use Rattle.sched_model.specs.Policy.{pinned_cores}
 
 -- none of the list passes, where none is found
@@ -173,7 +173,7 @@ length-pinned_cores None cores sets = length-map sets (λ old. cores)
 length-pinned_cores (Some n) cores sets = length_change_item n (λ old. cores) sets
 
 -- a moment that has come is there, and is not after t
-pub has_come-le : (t : ℕ) (o : Option Moment) → has_come t o ≡ true → (at : Moment) × (o ≡ Some at) × (at.0 ≤ t)
+pub has_come-le : (t : ℕ) (o : Option Moment) → has_moment_come t o ≡ true → (at : Moment) × (o ≡ Some at) × (at.0 ≤ t)
 has_come-le t None come = absurd (cc)
 has_come-le t (Some at) come = (at, refl, grind (arith, nat_tests, come))
 

@@ -12,11 +12,11 @@ use Rattle.sched_model.specs.declared.state.Records.{Records}
 use Rattle.sched_model.specs.declared.state.Records.TheVariants.{Credit2Pool, RtdsPool, ArincPool, NullPool}
 use Rattle.sched_model.specs.Places.{at_place, put_at, clear_at, same_unit}
 use Rattle.sched_model.specs.declared.ask.Ask.{Ask}
-use Rattle.sched_model.specs.EligibleUnits.{Decision, is_placed}
+use Rattle.sched_model.specs.EligibleUnits.{Decision, is_unit_placed}
 use Rattle.sched_model.specs.Policy.{decision_by}
 use Rattle.sched_model.specs.NullScheduler as null
 use Rattle.sched_model.specs.Pool as pools
-use Rattle.sched_model.specs.Pool.{ask_of, decided_core, same_choice}
+use Rattle.sched_model.specs.Pool.{core_ask, decided_core, same_choice}
 use Rattle.sched_laws.specs.EachPlace.{EachAt}
 use Rattle.sched_laws.proofs.Records.{decided_is}
 use Rattle.sched_laws.proofs.EachPlace.{read_put_at, read_clear_at, by_test, by_cond}
@@ -91,9 +91,9 @@ kept_once r u kept once a b w at_a at_b =
     not_released e other = same_unit_other u w other e
 
 -- a unit that is placed, runnable and the core's own is chosen again
-pub goes_on : (ask : Ask) (scheduler : Scheduler) (kept : List (Option UnitId)) (u : UnitId) → ask.leaving ≡ false → ask.cur ≡ Some u → ask.runnable ≡ true → is_placed scheduler kept ask.home.0 ask.core.0 u ≡ true
+pub goes_on : (ask : Ask) (scheduler : Scheduler) (kept : List (Option UnitId)) (u : UnitId) → ask.leaving ≡ false → ask.cur ≡ Some u → ask.runnable ≡ true → is_unit_placed scheduler kept ask.home.0 ask.core.0 u ≡ true
     → (null.null_decision ask scheduler kept).unit ≡ Some u
-goes_on ask scheduler kept u stays cur runs placed = rw (null.null_decision, stays, null.choice, cur, runs, placed) refl
+goes_on ask scheduler kept u stays cur runs placed = rw (null.null_decision, stays, null.null_choice, cur, runs, placed) refl
 
 pub fits_none : (records : Records) (cores : List (Option Resource)) → kept_of records ≡ None → NullFits records cores
 fits_none records cores none kept is = absurd (cc)
@@ -197,25 +197,25 @@ module _ (g t r : ℕ) (c : Resource) (pool : Pool) (at : at_place pool.resource
         not_same : (w : UnitId) → (u ≡ w → ⊥) → same_unit u w ≡ false
         not_same w other = (grind (arith, other))
 
-    fits_decide : (o : Option UnitId) → IfUnit Has o → NullFits (null.decide r kept o).records (put_at r (decided_core t (null.decide r kept o) c) pool.resources)
+    fits_decide : (o : Option UnitId) → IfUnit Has o → NullFits (null.null_decision_for r kept o).records (put_at r (decided_core t (null.null_decision_for r kept o) c) pool.resources)
     fits_decide None has = null_fits kept _ (fits_idle kept None 0 (NullPool kept) refl (λ q u at_q. at_q) (λ p u other at_p. at_p))
     fits_decide (Some u) has = null_fits (null.kept_for r u kept) _ (fits_chosen u None 0 (NullPool (null.kept_for r u kept)) has)
 
-    fits_choose : (d : Decision) → d ≡ null.null_decision (ask_of g t pool r c) pool.scheduler kept → NullFits d.records (put_at r (decided_core t d c) pool.resources)
+    fits_choose : (d : Decision) → d ≡ null.null_decision (core_ask g t pool r c) pool.scheduler kept → NullFits d.records (put_at r (decided_core t d c) pool.resources)
     fits_choose d is =
-        let ask : Ask = ask_of g t pool r c in
+        let ask : Ask = core_ask g t pool r c in
         let Q : Decision → Type 0 = λ x. NullFits x.records (put_at r (decided_core t x c) pool.resources) in
         subst Q (sym is)
-        (by_cond Q ask.leaving (null.decide r (clear_at r kept) None) (null.decide r kept (null.choice ask pool.scheduler kept))
+        (by_cond Q ask.leaving (null.null_decision_for r (clear_at r kept) None) (null.null_decision_for r kept (null.null_choice ask pool.scheduler kept))
         (λ leaves. null_fits (clear_at r kept) _ (fits_idle (clear_at r kept) None 0 (NullPool (clear_at r kept)) (length_set r None kept) (λ q u at_q. (read_clear_at r q kept u at_q).1) (λ p u other at_p. at_place-clear_at_other r p kept other ∙ at_p)))
-        (λ stays. fits_decide (null.choice ask pool.scheduler kept)
+        (λ stays. fits_decide (null.null_choice ask pool.scheduler kept)
         (null_has Has ask pool.scheduler (AllByRecursion-map (λ u. 1 ≤ times u pool.scheduler.queue) Has (λ u waits. inl waits) pool.scheduler.queue (there_each pool.scheduler.queue)) (λ u own runs. inr own) kept)))
 
   pub fits_after_decide : NullFits pool.scheduler.records pool.resources → NullFits (pools.after_decide g t r c pool).scheduler.records (pools.after_decide g t r c pool).resources
   fits_after_decide fits = by_records pool.scheduler.records refl
     where
-      by_records : (records : Records) → pool.scheduler.records ≡ records → NullFits (decision_by records (ask_of g t pool r c) pool.scheduler).records (put_at r (decided_core t (decision_by records (ask_of g t pool r c) pool.scheduler) c) pool.resources)
-      by_records (Credit2Pool records) is = fits_none _ _ (ap kept_of (decided_is (Credit2Pool records) (ask_of g t pool r c) pool.scheduler is).1)
-      by_records (RtdsPool domains) is = fits_none _ _ (ap kept_of (decided_is (RtdsPool domains) (ask_of g t pool r c) pool.scheduler is).1)
-      by_records (ArincPool records) is = fits_none _ _ (ap kept_of (decided_is (ArincPool records) (ask_of g t pool r c) pool.scheduler is))
+      by_records : (records : Records) → pool.scheduler.records ≡ records → NullFits (decision_by records (core_ask g t pool r c) pool.scheduler).records (put_at r (decided_core t (decision_by records (core_ask g t pool r c) pool.scheduler) c) pool.resources)
+      by_records (Credit2Pool records) is = fits_none _ _ (ap kept_of (decided_is (Credit2Pool records) (core_ask g t pool r c) pool.scheduler is).1)
+      by_records (RtdsPool domains) is = fits_none _ _ (ap kept_of (decided_is (RtdsPool domains) (core_ask g t pool r c) pool.scheduler is).1)
+      by_records (ArincPool records) is = fits_none _ _ (ap kept_of (decided_is (ArincPool records) (core_ask g t pool r c) pool.scheduler is))
       by_records (NullPool kept) is = fits_choose kept (fits kept (ap kept_of is)) _ refl

@@ -21,12 +21,12 @@ use Rattle.sched_model.specs.declared.state.Records.{Records}
 use Rattle.sched_model.specs.declared.state.Records.TheVariants.{Credit2Pool, RtdsPool, NullPool}
 use Rattle.sched_model.specs.declared.action.Action.TheVariants.{DomMoved, Decide}
 use Rattle.sched_model.specs.Places.{at_place, put_at, clear_at, test_at, numbers_from}
-use Rattle.sched_model.specs.Opening.{fresh_core, core_count}
+use Rattle.sched_model.specs.Opening.{joined_core, machine_core_count}
 use Rattle.sched_model.specs.Policy as policy
-use Rattle.sched_model.specs.Policy.{changed_records, joined_records, parted_records, fresh_records}
+use Rattle.sched_model.specs.Policy.{changed_records, joined_records, parted_records, empty_records}
 use Rattle.sched_model.specs.NullScheduler as null
 use Rattle.sched_model.specs.Pool as pools
-use Rattle.sched_model.specs.Pool.{enabled_in, change_core, change_domain, set_params, without_domain, with_domain, is_of_domain, is_held, is_open, first_up}
+use Rattle.sched_model.specs.Pool.{enabled_in, change_core, change_domain, changed_pool, pool_without_domain, pool_with_domain, is_domain_unit, is_held_back, is_gathering, is_first_processor_up}
 use Rattle.sched_laws.specs.EachPlace.{EachPlace}
 use Rattle.sched_laws.proofs.EachPlace.{read_put_at, read_clear_at, EachPlace-empty}
 use Rattle.sched_laws.proofs.Lists.{none_passes, at_numbered}
@@ -99,10 +99,10 @@ module _ (g : ℕ) where
   -- a core that decides saves nothing
   n_after_decide : (t r : ℕ) (c : Resource) (pool : Pool) → at_place pool.resources r ≡ Some c → enabled_in g t pool (Decide (core r)) ≡ true → IsKnownPool g pool → N pool → N (pools.after_decide g t r c pool)
   n_after_decide t r c pool at on known fits =
-      let may = passes_at pool.resources r (λ (x : Resource). list_all is_held x.processors && is_open x && first_up t x) c at on in
-      let gathered = and_left (list_all is_held c.processors && is_open c) (first_up t c) may in
-      let any = some_if_all t c.processors (and_right (list_all is_held c.processors && is_open c) (first_up t c) may) (and_left (list_all is_held c.processors) (is_open c) gathered) in
-      fits_after_decide g t r c pool at ((known.sound r c at).gathers (and_right (list_all is_held c.processors) (is_open c) gathered) any).1 known.one fits
+      let may = passes_at pool.resources r (λ (x : Resource). list_all is_held_back x.processors && is_gathering x && is_first_processor_up t x) c at on in
+      let gathered = and_left (list_all is_held_back c.processors && is_gathering c) (is_first_processor_up t c) may in
+      let any = some_if_all t c.processors (and_right (list_all is_held_back c.processors && is_gathering c) (is_first_processor_up t c) may) (and_left (list_all is_held_back c.processors) (is_gathering c) gathered) in
+      fits_after_decide g t r c pool at ((known.sound r c at).gathers (and_right (list_all is_held_back c.processors) (is_gathering c) gathered) any).1 known.one fits
 
   n_parts : (t : ℕ) → KeptByParts g t (λ pool action. Enabled g t pool action × IsKnownPool g pool) N
   n_parts t = record {
@@ -112,35 +112,35 @@ module _ (g : ℕ) where
     dequeues = λ d pool fits. fits;
     decides = λ r c pool at on. n_after_decide t r c pool at on.0 on.1;
     saves = λ r c u pool at is on. n_change_core r pools.saved_core pool (λ x. record { cur = refl; saving = inr refl });
-    replenishes = λ u pool on. fits_records pool.scheduler.records (policy.replenish pool.scheduler.records t u) pool.resources (records_lemmas.same_replenish kept_of no_credit2 no_rtds pool.scheduler.records t u);
+    replenishes = λ u pool on. fits_records pool.scheduler.records (policy.records_after_replenish pool.scheduler.records t u) pool.resources (records_lemmas.same_replenish kept_of no_credit2 no_rtds pool.scheduler.records t u);
     dues = λ r u x old pool on is. n_change_core r (pools.due_within t x.budget) pool (λ c. holds_same c _ refl refl);
-    refills = λ d pool on. fits_records pool.scheduler.records (policy.refill pool.scheduler.records t d) pool.resources (records_lemmas.same_refill kept_of no_credit2 no_rtds pool.scheduler.records t d);
+    refills = λ d pool on. fits_records pool.scheduler.records (policy.records_after_refill pool.scheduler.records t d) pool.resources (records_lemmas.same_refill kept_of no_credit2 no_rtds pool.scheduler.records t d);
   }
 
   n_commands : KeptByCommands g N
   n_commands = commands_of (n_parts 0)
 
-  n_set_params : (change : ParamChange) (t : ℕ) (pool : Pool) → N pool → N (set_params change t pool)
+  n_set_params : (change : ParamChange) (t : ℕ) (pool : Pool) → N pool → N (changed_pool change t pool)
   n_set_params change t pool fits =
       kept_marked n_commands t (λ d next. n_like _ next (like_of_domain Holds d (capped t) next.resources holds_itself (λ c. holds_same c _ refl refl)))
-      change (record pool { scheduler = policy.set_params change t pool.scheduler })
+      change (record pool { scheduler = policy.changed_scheduler change t pool.scheduler })
       (fits_records pool.scheduler.records (changed_records pool.scheduler.records change t) pool.resources (same_frame pool.scheduler.records change t) fits)
 
-  n_with_domain : (t d : ℕ) (domain : Domain) (params : DomParams) (pool : Pool) → N pool → N (with_domain g t d domain params pool)
+  n_with_domain : (t d : ℕ) (domain : Domain) (params : DomParams) (pool : Pool) → N pool → N (pool_with_domain g t d domain params pool)
   n_with_domain t d domain params pool fits =
-      kept_queue_units n_commands d (numbers_from 0 (pools.unit_count g domain)) (record pool { domains = put_at d domain pool.domains; scheduler = policy.join d (pools.unit_count g domain) params t pool.scheduler })
-      (fits_records pool.scheduler.records (joined_records pool.scheduler.records params d (pools.unit_count g domain) t) pool.resources (records_lemmas.same_joined kept_of no_credit2 no_rtds pool.scheduler.records params d (pools.unit_count g domain) t) fits)
+      kept_queue_units n_commands d (numbers_from 0 (pools.domain_unit_count g domain)) (record pool { domains = put_at d domain pool.domains; scheduler = policy.joined_scheduler d (pools.domain_unit_count g domain) params t pool.scheduler })
+      (fits_records pool.scheduler.records (joined_records pool.scheduler.records params d (pools.domain_unit_count g domain) t) pool.resources (records_lemmas.same_joined kept_of no_credit2 no_rtds pool.scheduler.records params d (pools.domain_unit_count g domain) t) fits)
 
-  n_core_comes : (r : ℕ) (ends : List Moment) (pool : Pool) → N pool → N (record pool { resources = put_at r (fresh_core ends) pool.resources })
+  n_core_comes : (r : ℕ) (ends : List Moment) (pool : Pool) → N pool → N (record pool { resources = put_at r (joined_core ends) pool.resources })
   n_core_comes r ends pool fits kept is =
       let before : KeptFits kept pool.resources = fits kept is in
       record {
-        count = before.count ∙ sym (length_set r (Some (fresh_core ends)) pool.resources);
-        cur = λ k d at u own. elim (read_put_at r k (fresh_core ends) pool.resources d at) [
+        count = before.count ∙ sym (length_set r (Some (joined_core ends)) pool.resources);
+        cur = λ k d at u own. elim (read_put_at r k (joined_core ends) pool.resources d at) [
           | inl was ↦ before.cur k d was u own
           | inr new ↦ absurd (let e : None ≡ Some u = ap (λ (x : Resource). x.cur) new.1 ∙ own in cc)
         ];
-        saving = λ k d at u saves q at_q. elim (read_put_at r k (fresh_core ends) pool.resources d at) [
+        saving = λ k d at u saves q at_q. elim (read_put_at r k (joined_core ends) pool.resources d at) [
           | inl was ↦ before.saving k d was u saves q at_q
           | inr new ↦ absurd (let e : None ≡ Some u = ap (λ (x : Resource). x.saving) new.1 ∙ saves in cc)
         ];
@@ -152,14 +152,14 @@ module _ (g : ℕ) where
       fits_come pool.scheduler.records pool.resources (clear_at r pool.resources) (length_set r None pool.resources)
       (λ k d at. (d, (read_clear_at r k pool.resources d at).1, holds_itself d)) fits
 
-  not_of : (d : ℕ) (o : Option UnitId) (u : UnitId) → is_of_domain d o ≡ false → o ≡ Some u → (u.dom.0 == d) ≡ false
-  not_of d o u none is = subst (λ x. is_of_domain d x ≡ false) is none
+  not_of : (d : ℕ) (o : Option UnitId) (u : UnitId) → is_domain_unit d o ≡ false → o ≡ Some u → (u.dom.0 == d) ≡ false
+  not_of d o u none is = subst (λ x. is_domain_unit d x ≡ false) is none
 
-  n_without_domain : (t d : ℕ) (pool : Pool) → enabled_in g t pool (DomMoved (domain_number d)) ≡ true → N pool → N (without_domain d pool)
+  n_without_domain : (t d : ℕ) (pool : Pool) → enabled_in g t pool (DomMoved (domain_number d)) ≡ true → N pool → N (pool_without_domain d pool)
   n_without_domain t d pool on fits = by_records pool.scheduler.records fits
     where
-      none : EachPlace (λ (x : Resource). (is_of_domain d x.cur || is_of_domain d x.saving) ≡ false) pool.resources
-      none = at_numbered (λ (x : Resource). (is_of_domain d x.cur || is_of_domain d x.saving) ≡ false) 0 pool.resources (none_passes _ _ (not-true _ (and_right (test_at pool.domains d (λ x. is_some x.moving)) _ on)))
+      none : EachPlace (λ (x : Resource). (is_domain_unit d x.cur || is_domain_unit d x.saving) ≡ false) pool.resources
+      none = at_numbered (λ (x : Resource). (is_domain_unit d x.cur || is_domain_unit d x.saving) ≡ false) 0 pool.resources (none_passes _ _ (not-true _ (and_right (test_at pool.domains d (λ x. is_some x.moving)) _ on)))
 
       less : List (Option UnitId) → List (Option UnitId)
       less kept = null.kept_without (λ u. u.dom.0 == d) kept
@@ -169,7 +169,7 @@ module _ (g : ℕ) where
           let fit : KeptFits kept pool.resources = before kept refl in
           null_fits (less kept) pool.resources (record {
             count = length_released (λ u. u.dom.0 == d) kept ∙ fit.count;
-            cur = λ r c at u own. at_released (λ u. u.dom.0 == d) kept r u (fit.cur r c at u own) (not_of d c.cur u (or_left (is_of_domain d c.cur) (is_of_domain d c.saving) (none r c at)) own);
+            cur = λ r c at u own. at_released (λ u. u.dom.0 == d) kept r u (fit.cur r c at u own) (not_of d c.cur u (or_left (is_domain_unit d c.cur) (is_domain_unit d c.saving) (none r c at)) own);
             saving = λ r c at u saves q at_q. fit.saving r c at u saves q (read_released (λ u. u.dom.0 == d) kept q u at_q).0;
             once = λ q r u at_q at_r. fit.once q r u (read_released (λ u. u.dom.0 == d) kept q u at_q).0 (read_released (λ u. u.dom.0 == d) kept r u at_r).0;
           })
@@ -179,7 +179,7 @@ nowhere : (n : ℕ) (r : ℕ) (u : UnitId) → at_place (replicate n None) r ≡
 nowhere n r u at = EachPlace-empty {X = UnitId} (λ x. ⊥) n r u at
 
 -- a pool that keeps no core for a unit, with fresh cores
-n_opened : (params : PoolParams) (domains count : ℕ) (cores : List (Option Resource)) → length cores ≡ count → EachPlace IsFresh cores → NullFits (fresh_records params domains count) cores
+n_opened : (params : PoolParams) (domains count : ℕ) (cores : List (Option Resource)) → length cores ≡ count → EachPlace IsFresh cores → NullFits (empty_records params domains count) cores
 n_opened pool_params.Null domains count cores whole fresh =
     null_fits (replicate count None) cores (record {
       count = length-replicate count None ∙ sym whole;
@@ -187,7 +187,7 @@ n_opened pool_params.Null domains count cores whole fresh =
       saving = λ r c at u saves q at_q. absurd (nowhere count q u at_q);
       once = λ q r u at_q at_r. absurd (nowhere count q u at_q);
     })
-n_opened other domains count cores whole fresh = fits_none (fresh_records other domains count) cores refl
+n_opened other domains count cores whole fresh = fits_none (empty_records other domains count) cores refl
 
 -- what is kept of every pool, a null pool or not
 pub record IsKeptPool (g : ℕ) (pool : Pool) : Type 0 where
@@ -212,6 +212,6 @@ null_is_kept g some =
       core_goes = λ t r pool on k. record { known = known.core_goes t r pool on k.known; fits = n_core_goes g r pool k.fits };
       domain_comes = λ t d domain params pool stays none k. record { known = known.domain_comes t d domain params pool stays none k.known; fits = n_with_domain g t d domain params pool k.fits };
       domain_goes = λ t d pool on k. record { known = known.domain_goes t d pool on k.known; fits = n_without_domain g t d pool on k.fits };
-      empty = λ config params. record { known = known.empty config params; fits = n_opened params (length config.domains) (core_count config) _ (length-replicate (core_count config) None) (EachPlace-empty IsFresh (core_count config)) };
-      opens = λ config params cores whole fresh. record { known = known.opens config params cores whole fresh; fits = n_opened params (length config.domains) (core_count config) cores whole fresh };
+      empty = λ config params. record { known = known.empty config params; fits = n_opened params (length config.domains) (machine_core_count config) _ (length-replicate (machine_core_count config) None) (EachPlace-empty IsFresh (machine_core_count config)) };
+      opens = λ config params cores whole fresh. record { known = known.opens config params cores whole fresh; fits = n_opened params (length config.domains) (machine_core_count config) cores whole fresh };
     }

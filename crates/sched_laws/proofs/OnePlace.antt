@@ -15,16 +15,16 @@ use Rattle.sched_model.specs.declared.state.Doing.TheVariants.{Guest, Idle, Held
 use Rattle.sched_model.specs.declared.state.Stage.TheVariants.{Open}
 use Rattle.sched_model.specs.declared.state.Processor.{Processor}
 use Rattle.sched_model.specs.declared.state.Resource.{Resource}
-use Rattle.sched_model.specs.Places.{at_place, put_at, change_at, change_each, change_item, numbered_items, without_unit, same_unit, is_unit, has_unit}
+use Rattle.sched_model.specs.Places.{at_place, put_at, change_at, change_each, change_item, numbered_items, without_unit, same_unit, is_unit, has_listed_unit}
 use Rattle.sched_model.specs.declared.state.Pool.{Pool}
 use Rattle.sched_model.specs.declared.state.Scheduler.{Scheduler}
 use Rattle.sched_model.specs.declared.state.Records.{Records}
-use Rattle.sched_model.specs.State.{is_awake, is_runnable, runnable_among}
+use Rattle.sched_model.specs.State.{is_awake, may_unit_run, runnable_among}
 use Rattle.sched_model.specs.EligibleUnits.{Decision}
 use Rattle.sched_model.specs.Policy as policy
-use Rattle.sched_model.specs.Policy.{decision_of, after_decision, rtds_record}
+use Rattle.sched_model.specs.Policy.{decision_of, after_decision, unit_rtds_record}
 use Rattle.sched_model.specs.Pool as pools
-use Rattle.sched_model.specs.Pool.{settled_pool, home_cores, reconsidered_core, change_core, change_processor, change_vcpu, change_cores_of, set_pending, with_doing, queue_unit, started_on, decided_core, same_choice, ask_of, with_records, is_of_domain}
+use Rattle.sched_model.specs.Pool.{settled_pool, pool_core_set, reconsidered_core, change_core, change_processor, change_vcpu, change_cores_of, pending_core, with_doing, queue_unit, started_on, decided_core, same_choice, core_ask, with_records, is_domain_unit}
 use Rattle.sched_laws.proofs.EachPlace.{EachAt-change_to, EachPlace-change_at, EachPlace-put_at, EachPlace-change_each, by_option, by_test, by_cond}
 use Rattle.sched_laws.proofs.Lists.{none_passes, at_numbered}
 use Rattle.sched_base.proofs.Lists.{AllByRecursion-map, AllByRecursion-push, AllByRecursion-filter}
@@ -99,15 +99,15 @@ on_some u n (Some c ∷ cores) some =
       ] e
     ] some
 
-pub off_is : (pool : Pool) (u : UnitId) → pools.is_off pool u ≡ true → places pool u ≡ 0
+pub off_is : (pool : Pool) (u : UnitId) → pools.is_unit_off pool u ≡ true → places pool u ≡ 0
 off_is pool u off =
-    let a = times_none u pool.scheduler.queue (not-true _ (and_left (not (has_unit pool.scheduler.queue u)) _ off)) in
-    let b = off_each u 0 pool.resources (not-true _ (and_right (not (has_unit pool.scheduler.queue u)) _ off)) in
+    let a = times_none u pool.scheduler.queue (not-true _ (and_left (not (has_listed_unit pool.scheduler.queue u)) _ off)) in
+    let b = off_each u 0 pool.resources (not-true _ (and_right (not (has_listed_unit pool.scheduler.queue u)) _ off)) in
     omega (arith, a, b)
 
-pub on_is : (pool : Pool) (u : UnitId) → pools.is_off pool u ≡ false → 1 ≤ places pool u
+pub on_is : (pool : Pool) (u : UnitId) → pools.is_unit_off pool u ≡ false → 1 ≤ places pool u
 on_is pool u on =
-    elim (has_unit pool.scheduler.queue u) as (λ b. has_unit pool.scheduler.queue u ≡ b → (not b && not (list_any (λ (e : ℕ × Resource). is_unit e.1.cur u || is_unit e.1.saving u) (numbered_items 0 pool.resources))) ≡ false → 1 ≤ places pool u) [
+    elim (has_listed_unit pool.scheduler.queue u) as (λ b. has_listed_unit pool.scheduler.queue u ≡ b → (not b && not (list_any (λ (e : ℕ × Resource). is_unit e.1.cur u || is_unit e.1.saving u) (numbered_items 0 pool.resources))) ≡ false → 1 ≤ places pool u) [
       | true ↦ λ is e. (let r = times_some u pool.scheduler.queue is in omega (arith, r))
       | false ↦ λ is e. (let r = on_some u 0 pool.resources (not_false _ e) in omega (arith, r))
     ] refl on
@@ -144,11 +144,11 @@ module _ (g : ℕ) (some : 0 < g) (Rest : UnitId → Type 0) where
   one_change_processor p f pool one = one_change_core (p / g) _ pool (λ c. (refl, refl, λ e. e)) one
 
   -- domains under which the same units are runnable
-  pub one_domains : (domains : List (Option Domain)) (pool : Pool) → ((u : UnitId) → runnable_among g domains u ≡ is_runnable g pool u) → One pool → One (record pool { domains = domains })
+  pub one_domains : (domains : List (Option Domain)) (pool : Pool) → ((u : UnitId) → runnable_among g domains u ≡ may_unit_run g pool u) → One pool → One (record pool { domains = domains })
   one_domains domains pool same one = record {
     most = one.most;
     runs = λ u runs. one.runs u (sym (same u) ∙ runs);
-    waits = AllByRecursion-map (λ u. is_runnable g pool u ≡ true) (λ u. runnable_among g domains u ≡ true) (λ u runs. same u ∙ runs) pool.scheduler.queue one.waits;
+    waits = AllByRecursion-map (λ u. may_unit_run g pool u ≡ true) (λ u. runnable_among g domains u ≡ true) (λ u runs. same u ∙ runs) pool.scheduler.queue one.waits;
     cur = λ r c at u is. elim (one.cur r c at u is) [ inl runs ↦ inl (same u ∙ runs) | inr pending ↦ inr pending ];
   }
 
@@ -159,7 +159,7 @@ module _ (g : ℕ) (some : 0 < g) (Rest : UnitId → Type 0) where
   one_started_on t p v pool one = one_change_processor p (with_doing (Guest v)) (change_vcpu v (λ x. record x { started = Some (moment t) }) pool) (one_change_vcpu v (λ x. record x { started = Some (moment t) }) pool (λ x. refl) one)
 
   -- a unit that gets a place in the queue
-  pub one_queue_unit : (u : UnitId) (pool : Pool) → places pool u ≡ 0 → is_runnable g pool u ≡ true → OneBut g (λ w. (w ≡ u) ⊎ Rest w) pool → One (queue_unit u pool)
+  pub one_queue_unit : (u : UnitId) (pool : Pool) → places pool u ≡ 0 → may_unit_run g pool u ≡ true → OneBut g (λ w. (w ≡ u) ⊎ Rest w) pool → One (queue_unit u pool)
   one_queue_unit u pool off runs one =
       let more : (w : UnitId) → places (queue_unit u pool) w ≡ places pool w + one_at w (Some u) = λ w. (let a = times-push w u pool.scheduler.queue in let b = one_is w u in omega (arith, a, b)) in
       record {
@@ -174,18 +174,18 @@ module _ (g : ℕ) (some : 0 < g) (Rest : UnitId → Type 0) where
             | inr later ↦ inr later
           ]
         ];
-        waits = AllByRecursion-push (λ w. is_runnable g pool w ≡ true) pool.scheduler.queue u one.waits runs;
+        waits = AllByRecursion-push (λ w. may_unit_run g pool w ≡ true) pool.scheduler.queue u one.waits runs;
         cur = one.cur;
       }
 
   -- a unit that has a place, or is not runnable, is none of the rest
-  pub one_less : (u : UnitId) (pool : Pool) → (is_runnable g pool u ≡ true → 1 ≤ places pool u) → OneBut g (λ w. (w ≡ u) ⊎ Rest w) pool → One pool
+  pub one_less : (u : UnitId) (pool : Pool) → (may_unit_run g pool u ≡ true → 1 ≤ places pool u) → OneBut g (λ w. (w ≡ u) ⊎ Rest w) pool → One pool
   one_less u pool has one = record {
     most = one.most;
     runs = λ w r. elim (one.runs w r) [
       | inl there ↦ inl there
       | inr rest ↦ elim rest [
-        | inl e ↦ inl (subst (λ x. 1 ≤ places pool x) (sym e) (has (subst (λ x. is_runnable g pool x ≡ true) e r)))
+        | inl e ↦ inl (subst (λ x. 1 ≤ places pool x) (sym e) (has (subst (λ x. may_unit_run g pool x ≡ true) e r)))
         | inr later ↦ inr later
       ]
     ];
@@ -195,17 +195,17 @@ module _ (g : ℕ) (some : 0 < g) (Rest : UnitId → Type 0) where
 
   pub one_settled : (t : ℕ) (pool : Pool) → One pool → One (settled_pool t pool)
   one_settled t pool one =
-      one_change_each (reconsidered_core t (home_cores pool) pool.scheduler) pool
+      one_change_each (reconsidered_core t (pool_core_set pool) pool.scheduler) pool
       (λ r c. by_cond (KeepsUnits c) c.leaving c _ (λ is. (refl, refl, λ e. e)) (λ is. (refl, refl, λ e. or_more c.pending _ e))) one
 
   pub one_joined_siblings : (t : ℕ) (v : VcpuId) (pool : Pool) → One pool → One (pools.joined_siblings g t v pool)
   one_joined_siblings t v pool one =
-      by_option One (pools.core_of pool (pools.unit_of g v)) _ _ (λ is. one)
-      (λ r is. by_option One (pools.processor_of g pool (r * g + v.n % g)) _ _ (λ is2. one)
-      (λ q is2. by_cond One (pools.is_idle q) _ _ (λ idle. one_started_on t (r * g + v.n % g) v pool one) (λ idle. one)))
+      by_option One (pools.unit_core pool (pools.vcpu_unit g v)) _ _ (λ is. one)
+      (λ r is. by_option One (pools.pool_processor g pool (r * g + v.n % g)) _ _ (λ is2. one)
+      (λ q is2. by_cond One (pools.is_idling q) _ _ (λ idle. one_started_on t (r * g + v.n % g) v pool one) (λ idle. one)))
 
   one_change_cores_of : (d : ℕ) (f : Resource → Resource) (pool : Pool) → ((c : Resource) → KeepsUnits c (f c)) → One pool → One (change_cores_of d f pool)
-  one_change_cores_of d f pool keeps one = one_change_each (λ r c. cond (is_of_domain d c.cur) (f c) c) pool (λ r c. by_cond (KeepsUnits c) (is_of_domain d c.cur) (f c) c (λ is. keeps c) (λ is. (refl, refl, λ e. e))) one
+  one_change_cores_of d f pool keeps one = one_change_each (λ r c. cond (is_domain_unit d c.cur) (f c) c) pool (λ r c. by_cond (KeepsUnits c) (is_domain_unit d c.cur) (f c) c (λ is. keeps c) (λ is. (refl, refl, λ e. e))) one
 
   pub one_scheduler : (scheduler : Scheduler) (pool : Pool) → scheduler.queue ≡ pool.scheduler.queue → One pool → One (record pool { scheduler = scheduler })
   one_scheduler scheduler pool same one =
@@ -213,13 +213,13 @@ module _ (g : ℕ) (some : 0 < g) (Rest : UnitId → Type 0) where
       record {
         most = λ u. (let a = one.most u in let b = e u in omega (arith, a, b));
         runs = λ u runs. elim (one.runs u runs) [ inl has ↦ inl (let b = e u in omega (arith, has, b)) | inr rest ↦ inr rest ];
-        waits = subst (AllByRecursion (λ u. is_runnable g pool u ≡ true)) (sym same) one.waits;
+        waits = subst (AllByRecursion (λ u. may_unit_run g pool u ≡ true)) (sym same) one.waits;
         cur = one.cur;
       }
 
   pub one_marked : (change : ParamChange) (t : ℕ) (pool : Pool) → One pool → One (pools.marked_pool change t pool)
   one_marked (changes.Dom d weight (Some cap)) t pool one = one_change_cores_of d.0 _ pool (λ c. (refl, refl, λ e. refl)) one
-  one_marked (changes.Frame frame) t pool one = one_change_each (λ r c. set_pending c) pool (λ r c. (refl, refl, λ e. refl)) one
+  one_marked (changes.Frame frame) t pool one = one_change_each (λ r c. pending_core c) pool (λ r c. (refl, refl, λ e. refl)) one
   one_marked change t pool one = one
 
 -- an Arrive
@@ -234,59 +234,59 @@ module _ (g : ℕ) (some : 0 < g) where
   Nobody u = ⊥
 
   -- a wake: its unit may have become runnable, and no other
-  one_woken : (v : VcpuId) (pool : Pool) → One0 pool → OneBut g (λ w. (w ≡ pools.unit_of g v) ⊎ ⊥) (change_vcpu v pools.woken_vcpu pool)
+  one_woken : (v : VcpuId) (pool : Pool) → One0 pool → OneBut g (λ w. (w ≡ pools.vcpu_unit g v) ⊎ ⊥) (change_vcpu v pools.woken_vcpu pool)
   one_woken v pool one =
       let next : Pool = change_vcpu v pools.woken_vcpu pool in
-      let more : (u : UnitId) → is_runnable g pool u ≡ true → is_runnable g next u ≡ true = λ u runs. runnable-more g some v pools.woken_vcpu (λ x. refl) pool u runs in
+      let more : (u : UnitId) → may_unit_run g pool u ≡ true → may_unit_run g next u ≡ true = λ u runs. runnable-more g some v pools.woken_vcpu (λ x. refl) pool u runs in
       record {
         most = one.most;
-        runs = λ u runs. elim (same_or_other u (pools.unit_of g v)) [
+        runs = λ u runs. elim (same_or_other u (pools.vcpu_unit g v)) [
           | inl e ↦ inr (inl e)
           | inr e ↦ elim (one.runs u (sym (runnable-other g some v pools.woken_vcpu pool u e) ∙ runs)) [ inl has ↦ inl has | inr none ↦ absurd none ]
         ];
-        waits = AllByRecursion-map (λ u. is_runnable g pool u ≡ true) (λ u. is_runnable g next u ≡ true) more pool.scheduler.queue one.waits;
+        waits = AllByRecursion-map (λ u. may_unit_run g pool u ≡ true) (λ u. may_unit_run g next u ≡ true) more pool.scheduler.queue one.waits;
         cur = λ r c at u is. elim (one.cur r c at u is) [ inl runs ↦ inl (more u runs) | inr pending ↦ inr pending ];
       }
 
   pub one_after_wake : (t : ℕ) (v : VcpuId) (pool : Pool) → One0 pool → One0 (pools.after_wake g t v pool)
   one_after_wake t v pool one =
-      let u : UnitId = pools.unit_of g v in
+      let u : UnitId = pools.vcpu_unit g v in
       let next : Pool = change_vcpu v pools.woken_vcpu pool in
       let woken : OneBut g (λ w. (w ≡ u) ⊎ ⊥) next = one_woken v pool one in
-      by_test One0 (is_runnable g next u) _ _
-      (λ runs. by_cond One0 (pools.is_off next u) _ _
+      by_test One0 (may_unit_run g next u) _ _
+      (λ runs. by_cond One0 (pools.is_unit_off next u) _ _
       (λ off. one_queue_unit g some Nobody u next (off_is next u off) runs woken)
       (λ off. one_joined_siblings g some Nobody t v next (one_less g some Nobody u next (λ r. on_is next u off) woken)))
       (λ runs. one_less g some Nobody u next (λ r. absurd (cc)) woken)
 
   -- a block: its unit, which is the core's own, may be no longer runnable, and then the core is pending
-  pub one_after_block : (t p : ℕ) (v : VcpuId) (pool : Pool) → pools.guest_of g pool p ≡ Some v → AreSound g pool → One0 pool → One0 (pools.after_block g t p v pool)
+  pub one_after_block : (t p : ℕ) (v : VcpuId) (pool : Pool) → pools.running_guest g pool p ≡ Some v → AreSound g pool → One0 pool → One0 (pools.after_block g t p v pool)
   one_after_block t p v pool guest sound one =
-      let u : UnitId = pools.unit_of g v in
+      let u : UnitId = pools.vcpu_unit g v in
       let found = guest_of_is g pool p v guest in
       let c0 : Resource = found.0 in
       let own : c0.cur ≡ Some u = ((sound (p / g) c0 found.2).guests (p % g) found.1 v found.3 found.4).0 in
       let slept : Pool = change_vcpu v (pools.put_to_sleep t) pool in
       let next : Pool = change_processor g p (with_doing Idle) slept in
       let has : 1 ≤ total (core_places u) pool.resources = (let a = total_at (core_places u) (p / g) c0 pool.resources found.2 in let b : one_at u c0.cur ≡ 1 = rw own (one_same u) in omega (arith, a, b)) in
-      let other : (w : UnitId) → w ≢ u → is_runnable g slept w ≡ is_runnable g pool w = λ w e. runnable-other g some v (pools.put_to_sleep t) pool w e in
-      let most : (w : UnitId) → is_runnable g slept w ≡ true → (1 ≤ places pool w) ⊎ ⊥ = λ w runs. elim (same_or_other w u) [
+      let other : (w : UnitId) → w ≢ u → may_unit_run g slept w ≡ may_unit_run g pool w = λ w e. runnable-other g some v (pools.put_to_sleep t) pool w e in
+      let most : (w : UnitId) → may_unit_run g slept w ≡ true → (1 ≤ places pool w) ⊎ ⊥ = λ w runs. elim (same_or_other w u) [
         | inl e ↦ inl (subst (λ (x : UnitId). 1 ≤ places pool x) (sym e) (omega (arith, has)))
         | inr e ↦ one.runs w (sym (other w e) ∙ runs)
       ] in
-      let waits : AllByRecursion (λ w. is_runnable g slept w ≡ true) pool.scheduler.queue =
-      AllByRecursion-map (λ w. (1 ≤ times w pool.scheduler.queue) × (is_runnable g pool w ≡ true)) (λ w. is_runnable g slept w ≡ true)
+      let waits : AllByRecursion (λ w. may_unit_run g slept w ≡ true) pool.scheduler.queue =
+      AllByRecursion-map (λ w. (1 ≤ times w pool.scheduler.queue) × (may_unit_run g pool w ≡ true)) (λ w. may_unit_run g slept w ≡ true)
       (λ w both. elim (same_or_other w u) [
         | inl e ↦ absurd (let a = one.most u in let b = subst (λ (x : UnitId). 1 ≤ times x pool.scheduler.queue) e both.0 in omega (arith, a, b, has))
         | inr e ↦ other w e ∙ both.1
       ]) pool.scheduler.queue (both_of _ _ pool.scheduler.queue (there_each pool.scheduler.queue) one.waits) in
-      by_cond One0 (is_runnable g next u) _ _
+      by_cond One0 (may_unit_run g next u) _ _
       (λ runs. one_change_processor g some Nobody p (with_doing Idle) slept (record {
         most = one.most;
         runs = most;
         waits = waits;
         cur = λ r c at w is. elim (same_or_other w u) [
-          | inl e ↦ inl (subst (λ (x : UnitId). is_runnable g slept x ≡ true) (sym e) runs)
+          | inl e ↦ inl (subst (λ (x : UnitId). may_unit_run g slept x ≡ true) (sym e) runs)
           | inr e ↦ elim (one.cur r c at w is) [ inl old ↦ inl (other w e ∙ old) | inr pending ↦ inr pending ]
         ];
       }))
@@ -312,12 +312,12 @@ module _ (g : ℕ) (some : 0 < g) where
 
   pub one_after_arrive : (t p : ℕ) (pool : Pool) → One0 pool → One0 (pools.after_arrive g t p pool)
   one_after_arrive t p pool one =
-      one_change_processor g some Nobody p (with_doing Held) _ (by_option One0 (pools.guest_of g pool p) _ _ (λ is. one) (λ v is. one_change_vcpu g some Nobody v (pools.stopped_vcpu t) pool (stopped_awake t) one))
+      one_change_processor g some Nobody p (with_doing Held) _ (by_option One0 (pools.running_guest g pool p) _ _ (λ is. one) (λ v is. one_change_vcpu g some Nobody v (pools.stopped_vcpu t) pool (stopped_awake t) one))
 
   pub one_after_leave : (t p : ℕ) (c : Resource) (pool : Pool) → One0 pool → One0 (pools.after_leave g t p c pool)
   one_after_leave t p c pool one =
-      one_change_core g some Nobody (p / g) pools.open_if_left _ (λ c2. by_cond (KeepsUnits c2) (list_any pools.is_held c2.processors) c2 (record c2 { stage = Open }) (λ is. (refl, refl, λ e. e)) (λ is. (refl, refl, λ e. e)))
-      (by_option One0 (pools.vcpu_for g pool c (p % g)) _ _ (λ is. one_change_processor g some Nobody p (with_doing Idle) pool one) (λ v is. one_started_on g some Nobody t p v pool one))
+      one_change_core g some Nobody (p / g) pools.reopened_core _ (λ c2. by_cond (KeepsUnits c2) (list_any pools.is_held_back c2.processors) c2 (record c2 { stage = Open }) (λ is. (refl, refl, λ e. e)) (λ is. (refl, refl, λ e. e)))
+      (by_option One0 (pools.vcpu_to_run g pool c (p % g)) _ _ (λ is. one_change_processor g some Nobody p (with_doing Idle) pool one) (λ v is. one_started_on g some Nobody t p v pool one))
 
   -- a save: the unit leaves the core, and joins the queue where it is runnable
   pub one_after_save : (r : ℕ) (u : UnitId) (c : Resource) (pool : Pool) → at_place pool.resources r ≡ Some c → c.saving ≡ Some u → One0 pool → One0 (pools.after_save g r u pool)
@@ -337,13 +337,13 @@ module _ (g : ℕ) (some : 0 < g) where
         cur = EachPlace-change_at (CurRuns g pool.domains) r pools.saved_core pool.resources one.cur (λ x at2 here. here);
       } in
       let off : places next u ≡ 0 = (let a = one.most u in let b = less u in let o = one_same u in omega (arith, a, b, o)) in
-      by_cond One0 (is_runnable g pool u) _ _ (λ runs. one_queue_unit g some Nobody u next off runs base) (λ runs. one_less g some Nobody u next (λ is. absurd (cc)) base)
+      by_cond One0 (may_unit_run g pool u) _ _ (λ runs. one_queue_unit g some Nobody u next off runs base) (λ runs. one_less g some Nobody u next (λ is. absurd (cc)) base)
 
   pub one_after_replenish : (t : ℕ) (u : UnitId) (pool : Pool) → One0 pool → One0 (pools.after_replenish t u pool)
   one_after_replenish t u pool one =
-      let here : One0 (with_records (policy.replenish pool.scheduler.records t u) pool) = one_scheduler g some Nobody _ pool refl one in
-      by_option One0 (pools.core_of pool u) _ _ (λ is. here)
-      (λ r is. by_option One0 (rtds_record (policy.replenish pool.scheduler.records t u) u) _ _ (λ is2. here) (λ x is2. one_change_core g some Nobody r _ _ (λ c. (refl, refl, λ e. e)) here))
+      let here : One0 (with_records (policy.records_after_replenish pool.scheduler.records t u) pool) = one_scheduler g some Nobody _ pool refl one in
+      by_option One0 (pools.unit_core pool u) _ _ (λ is. here)
+      (λ r is. by_option One0 (unit_rtds_record (policy.records_after_replenish pool.scheduler.records t u) u) _ _ (λ is2. here) (λ x is2. one_change_core g some Nobody r _ _ (λ c. (refl, refl, λ e. e)) here))
 
 -- choices that are the same
 pub same_choice_same : (a b : Option UnitId) → same_choice a b ≡ true → a ≡ b
@@ -368,7 +368,7 @@ unqueued unit queue = elim unit [ None ↦ queue | Some u ↦ without_unit u que
 
 module _ (g : ℕ) (t r : ℕ) (c : Resource) (pool : Pool) (at : at_place pool.resources r ≡ Some c) (no_saving : c.saving ≡ None) (one : OnePlace g pool) where
   abbrev MayBe : UnitId → Type 0
-  MayBe u = (is_runnable g pool u ≡ true) × ((1 ≤ times u pool.scheduler.queue) ⊎ (c.cur ≡ Some u))
+  MayBe u = (may_unit_run g pool u ≡ true) × ((1 ≤ times u pool.scheduler.queue) ⊎ (c.cur ≡ Some u))
 
   -- what leaves the queue comes to the core
   moved_to_cur : (unit : Option UnitId) → IfUnit MayBe unit → same_choice unit c.cur ≡ false → (w : UnitId) → times w (unqueued unit pool.scheduler.queue) + one_at w unit ≡ times w pool.scheduler.queue
@@ -405,13 +405,13 @@ module _ (g : ℕ) (t r : ℕ) (c : Resource) (pool : Pool) (at : at_place pool.
 
   now_runs : (unit : Option UnitId) (due : Option Moment) (reset : ℕ) (records : Records) → IfUnit MayBe unit → CurRuns g pool.domains (decided_core t (record { unit = unit; due = due; reset = reset; records = records }) c)
   now_runs unit due reset records may w =
-      by_test (λ (d : Resource). d.cur ≡ Some w → (is_runnable g pool w ≡ true) ⊎ (d.pending ≡ true)) (same_choice unit c.cur) _ _
+      by_test (λ (d : Resource). d.cur ≡ Some w → (may_unit_run g pool w ≡ true) ⊎ (d.pending ≡ true)) (same_choice unit c.cur) _ _
       (λ is e. inl (if_unit_is MayBe unit w may (same_choice_same unit c.cur is ∙ e)).0)
       (λ is e. inl (if_unit_is MayBe unit w may e).0)
 
-  waits_on : (unit : Option UnitId) → AllByRecursion (λ u. is_runnable g pool u ≡ true) (unqueued unit pool.scheduler.queue)
+  waits_on : (unit : Option UnitId) → AllByRecursion (λ u. may_unit_run g pool u ≡ true) (unqueued unit pool.scheduler.queue)
   waits_on None = one.waits
-  waits_on (Some u) = AllByRecursion-filter (λ w. is_runnable g pool w ≡ true) (λ w. is_runnable g pool w ≡ true) (λ w. not (same_unit u w)) (λ w is here. here) pool.scheduler.queue one.waits
+  waits_on (Some u) = AllByRecursion-filter (λ w. may_unit_run g pool w ≡ true) (λ w. may_unit_run g pool w ≡ true) (λ w. not (same_unit u w)) (λ w is here. here) pool.scheduler.queue one.waits
 
   one_decided : (d : Decision) → IfUnit MayBe d.unit → OnePlace g (record pool { scheduler = after_decision d pool.scheduler; resources = put_at r (decided_core t d c) pool.resources })
   one_decided d may =
@@ -426,13 +426,13 @@ module _ (g : ℕ) (t r : ℕ) (c : Resource) (pool : Pool) (at : at_place pool.
         cur = EachPlace-put_at (CurRuns g pool.domains) r (decided_core t d c) pool.resources one.cur (now_runs d.unit d.due d.reset d.records may);
       }
 
-  asked : (u : UnitId) → c.cur ≡ Some u → elim c.cur as (λ _. Bool) [ None ↦ false | Some w ↦ is_runnable g pool w ] ≡ true → is_runnable g pool u ≡ true
+  asked : (u : UnitId) → c.cur ≡ Some u → elim c.cur as (λ _. Bool) [ None ↦ false | Some w ↦ may_unit_run g pool w ] ≡ true → may_unit_run g pool u ≡ true
   asked u is runs = rw is at runs
 
   pub one_after_decide : OnePlace g (pools.after_decide g t r c pool)
   one_after_decide =
       let queue : List UnitId = pool.scheduler.queue in
-      one_decided (decision_of (ask_of g t pool r c) pool.scheduler)
-      (decision_has MayBe (ask_of g t pool r c) pool.scheduler
-      (AllByRecursion-map (λ u. (1 ≤ times u queue) × (is_runnable g pool u ≡ true)) MayBe (λ u both. (both.1, inl both.0)) queue (both_of _ _ queue (there_each queue) one.waits))
+      one_decided (decision_of (core_ask g t pool r c) pool.scheduler)
+      (decision_has MayBe (core_ask g t pool r c) pool.scheduler
+      (AllByRecursion-map (λ u. (1 ≤ times u queue) × (may_unit_run g pool u ≡ true)) MayBe (λ u both. (both.1, inl both.0)) queue (both_of _ _ queue (there_each queue) one.waits))
       (λ u is runs. (asked u is runs, inr is)))

@@ -9,7 +9,7 @@ use Rattle.sched_model.specs.Places.{at_place}
 use Rattle.sched_model.specs.declared.machine.Machine.{Machine}
 use Rattle.sched_model.specs.declared.state.State.{State}
 use Rattle.sched_model.specs.declared.state.Pool.{Pool}
-use Rattle.sched_model.specs.State.{is_runnable}
+use Rattle.sched_model.specs.State.{may_unit_run}
 use Rattle.sched_model.specs.Runs.{IsRun}
 use Rattle.sched_laws.specs.Laws.{count, count_in}
 use Rattle.sched_model.specs.CheckedMachine.{IsChecked}
@@ -68,13 +68,13 @@ units_have_one_place m checked entries run =
     record {
       most = most;
       runnable = λ u runs. (
-          let found = some_numbered (λ (pool : Pool). is_runnable g pool u) 0 s.pools runs in
+          let found = some_numbered (λ (pool : Pool). may_unit_run g pool u) 0 s.pools runs in
           let placed = elim ((known.pools found.0 found.1 found.2).one.runs u found.3) as (λ _. 1 ≤ places found.1 u) [ inl has ↦ has | inr nobody ↦ absurd nobody ] in
           let a = total_at (λ (pool : Pool). count_in pool u) found.0 found.1 s.pools found.2 in
           let b = count_in_is found.1 u in
           let e = count_is s u in
           let most_u = most u in
           omega (arith, placed, a, b, e, most_u));
-      waits = λ i pool at. All-from_recursion (λ u. is_runnable g pool u ≡ true) pool.scheduler.queue (known.pools i pool at).one.waits;
-      pending = λ i pool at r c has. if_some c.cur (λ u. is_runnable g pool u ≡ false → c.pending ≡ true) (λ u is stops. elim ((known.pools i pool at).one.cur r c has u is) [ inl runs ↦ absurd (cc) | inr pends ↦ pends ]);
+      waits = λ i pool at. All-from_recursion (λ u. may_unit_run g pool u ≡ true) pool.scheduler.queue (known.pools i pool at).one.waits;
+      pending = λ i pool at r c has. if_some c.cur (λ u. may_unit_run g pool u ≡ false → c.pending ≡ true) (λ u is stops. elim ((known.pools i pool at).one.cur r c has u is) [ inl runs ↦ absurd (cc) | inr pends ↦ pends ]);
     }

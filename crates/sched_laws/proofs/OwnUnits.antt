@@ -11,13 +11,13 @@ use Rattle.sched_model.specs.declared.state.Resource.{Resource}
 use Rattle.sched_model.specs.Places.{at_place, put_at, clear_at, change_at, test_at, numbers_from, without_unit, same_unit}
 use Rattle.sched_model.specs.declared.state.Pool.{Pool}
 use Rattle.sched_model.specs.declared.state.Records.{Records}
-use Rattle.sched_model.specs.State.{is_runnable, unit_runnable}
-use Rattle.sched_model.specs.Opening.{fresh_core, core_count}
+use Rattle.sched_model.specs.State.{may_unit_run, unit_runnable}
+use Rattle.sched_model.specs.Opening.{joined_core, machine_core_count}
 use Rattle.sched_model.specs.EligibleUnits.{Decision}
 use Rattle.sched_model.specs.Policy as policy
-use Rattle.sched_model.specs.Policy.{decision_of, dequeue_domain}
+use Rattle.sched_model.specs.Policy.{decision_of, scheduler_without_queued}
 use Rattle.sched_model.specs.Pool as pools
-use Rattle.sched_model.specs.Pool.{enabled_in, change_core, change_domain, change_cores_of, queue_unit, decided_core, same_choice, ask_of, set_moving, without_domain, with_domain, with_records, is_of_domain}
+use Rattle.sched_model.specs.Pool.{enabled_in, change_core, change_domain, change_cores_of, queue_unit, decided_core, same_choice, core_ask, pool_with_moving, pool_without_domain, pool_with_domain, with_records, is_domain_unit}
 use Rattle.sched_model.specs.declared.action.Action.TheVariants.{DomMoved}
 use Rattle.sched_laws.specs.EachPlace.{EachPlace}
 use Rattle.sched_laws.proofs.EachPlace.{EachPlace-change_at, EachPlace-put_at, EachPlace-clear_at, EachPlace-empty, by_test}
@@ -68,7 +68,7 @@ own_queue_unit : (u : UnitId) (pool : Pool) → IsStaying pool.domains u → Uni
 own_queue_unit u pool staying own = record { queue = AllByRecursion-push (IsStaying pool.domains) pool.scheduler.queue u own.queue staying; cores = own.cores }
 
 -- a runnable unit's domain is not moving
-staying_if_runnable : (g : ℕ) (pool : Pool) (u : UnitId) → is_runnable g pool u ≡ true → IsStaying pool.domains u
+staying_if_runnable : (g : ℕ) (pool : Pool) (u : UnitId) → may_unit_run g pool u ≡ true → IsStaying pool.domains u
 staying_if_runnable g pool u runs =
     let r = some-test_at pool.domains u.dom.0 (λ d. unit_runnable g d u.n) runs in
     test_at-some pool.domains u.dom.0 (λ d. is_none d.moving) r.0 r.1 (and_right _ _ (and_left _ _ r.2))
@@ -84,10 +84,10 @@ own_unqueued P (Some u) queue each = AllByRecursion-filter P P (λ w. not (same_
 
 own_after_decide : (g t r : ℕ) (c : Resource) (pool : Pool) → at_place pool.resources r ≡ Some c → UnitsAreOwn pool → UnitsAreOwn (pools.after_decide g t r c pool)
 own_after_decide g t r c pool at own =
-    let decision : Decision = decision_of (ask_of g t pool r c) pool.scheduler in
+    let decision : Decision = decision_of (core_ask g t pool r c) pool.scheduler in
     let core : CoreIsOwn pool.domains c = own.cores r c at in
     let chosen : IfUnit (IsThere pool.domains) decision.unit =
-    decision_has (IsThere pool.domains) (ask_of g t pool r c) pool.scheduler
+    decision_has (IsThere pool.domains) (core_ask g t pool r c) pool.scheduler
     (AllByRecursion-map (IsStaying pool.domains) (IsThere pool.domains) (there_if_staying pool.domains) pool.scheduler.queue own.queue)
     (λ u is runs. subst (IfUnit (IsThere pool.domains)) is core.cur) in
     record {
@@ -121,11 +121,11 @@ own_caps t d pool own =
 pub other_unit : (d : ℕ) (u : UnitId) → not (u.dom.0 == d) ≡ true → u.dom.0 ≢ d
 other_unit d u is e = grind arith
 
-own_set_moving : (d i : ℕ) (pool : Pool) → UnitsAreOwn pool → UnitsAreOwn (set_moving d i pool)
+own_set_moving : (d i : ℕ) (pool : Pool) → UnitsAreOwn pool → UnitsAreOwn (pool_with_moving d i pool)
 own_set_moving d i pool own =
     let f : Domain → Domain = λ domain. record domain { moving = Some (pool_number i) } in
     let there : (u : UnitId) → IsThere pool.domains u → IsThere (change_at d f pool.domains) u = λ u here. test_at-change_at d u.dom.0 f (λ x. true) pool.domains (λ x. refl) ∙ here in
-    kept_cores_pending (commands_of (own_parts 1 0)) d (record pool { domains = change_at d f pool.domains; scheduler = dequeue_domain d pool.scheduler })
+    kept_cores_pending (commands_of (own_parts 1 0)) d (record pool { domains = change_at d f pool.domains; scheduler = scheduler_without_queued d pool.scheduler })
     (record {
       queue = AllByRecursion-filter (IsStaying pool.domains) (IsStaying (change_at d f pool.domains)) (λ u. not (u.dom.0 == d))
           (λ u is staying. test_at-change_at_other d u.dom.0 f (λ x. is_none x.moving) pool.domains (other_unit d u is) ∙ staying) pool.scheduler.queue own.queue;
@@ -133,7 +133,7 @@ own_set_moving d i pool own =
     })
 
 -- a domain goes: it was moving, so none of its units waits, and none is cur or saving
-not_of_domain : (d : ℕ) (domains : List (Option Domain)) (o : Option UnitId) → is_of_domain d o ≡ false → IfUnit (IsThere domains) o → IfUnit (IsThere (clear_at d domains)) o
+not_of_domain : (d : ℕ) (domains : List (Option Domain)) (o : Option UnitId) → is_domain_unit d o ≡ false → IfUnit (IsThere domains) o → IfUnit (IsThere (clear_at d domains)) o
 not_of_domain d domains None none here = tt
 not_of_domain d domains (Some u) none here = test_at-clear_at d u.dom.0 (λ x. true) domains (λ e. grind arith) ∙ here
 
@@ -148,22 +148,22 @@ moving_not_staying d domains u moving staying e =
     both_ways None some none = cc
     both_ways (Some x) some none = cc
 
-own_without_domain : (g t d : ℕ) (pool : Pool) → enabled_in g t pool (DomMoved (domain_number d)) ≡ true → UnitsAreOwn pool → UnitsAreOwn (without_domain d pool)
+own_without_domain : (g t d : ℕ) (pool : Pool) → enabled_in g t pool (DomMoved (domain_number d)) ≡ true → UnitsAreOwn pool → UnitsAreOwn (pool_without_domain d pool)
 own_without_domain g t d pool on own =
     let moving = and_left (test_at pool.domains d (λ x. is_some x.moving)) _ on in
-    let none = at_numbered (λ (c : Resource). (is_of_domain d c.cur || is_of_domain d c.saving) ≡ false) 0 pool.resources (none_passes _ _ (not-true _ (and_right (test_at pool.domains d (λ x. is_some x.moving)) _ on))) in
+    let none = at_numbered (λ (c : Resource). (is_domain_unit d c.cur || is_domain_unit d c.saving) ≡ false) 0 pool.resources (none_passes _ _ (not-true _ (and_right (test_at pool.domains d (λ x. is_some x.moving)) _ on))) in
     record {
       queue = AllByRecursion-map (IsStaying pool.domains) (IsStaying (clear_at d pool.domains))
           (λ u staying. test_at-clear_at d u.dom.0 (λ x. is_none x.moving) pool.domains (moving_not_staying d pool.domains u moving staying) ∙ staying) pool.scheduler.queue own.queue;
       cores = λ r c at.
           let here : CoreIsOwn pool.domains c = own.cores r c at in
-          record { cur = not_of_domain d pool.domains c.cur (or_left _ _ (none r c at)) here.cur; saving = not_of_domain d pool.domains c.saving (or_right (is_of_domain d c.cur) _ (none r c at)) here.saving };
+          record { cur = not_of_domain d pool.domains c.cur (or_left _ _ (none r c at)) here.cur; saving = not_of_domain d pool.domains c.saving (or_right (is_domain_unit d c.cur) _ (none r c at)) here.saving };
     }
 
-own_with_domain : (g t d : ℕ) (domain : Domain) (params : DomParams) (pool : Pool) → domain.moving ≡ None → UnitsAreOwn pool → UnitsAreOwn (with_domain g t d domain params pool)
+own_with_domain : (g t d : ℕ) (domain : Domain) (params : DomParams) (pool : Pool) → domain.moving ≡ None → UnitsAreOwn pool → UnitsAreOwn (pool_with_domain g t d domain params pool)
 own_with_domain g t d domain params pool stays own =
-    kept_queue_units (commands_of (own_parts g t)) d (numbers_from 0 (pools.unit_count g domain)) _
-    (own_domains (put_at d domain pool.domains) (record pool { scheduler = policy.join d (pools.unit_count g domain) params t pool.scheduler })
+    kept_queue_units (commands_of (own_parts g t)) d (numbers_from 0 (pools.domain_unit_count g domain)) _
+    (own_domains (put_at d domain pool.domains) (record pool { scheduler = policy.joined_scheduler d (pools.domain_unit_count g domain) params t pool.scheduler })
     (λ u staying. test_at-put_at d u.dom.0 domain (λ x. is_none x.moving) pool.domains (rw stays refl) staying)
     (λ u there. test_at-put_at d u.dom.0 domain (λ x. true) pool.domains refl there)
     (record { queue = own.queue; cores = own.cores }))
@@ -188,10 +188,10 @@ units_are_own g =
         unpauses = kept_unpause commands;
         changes = λ change t pool own. kept_marked commands t (own_caps t) change _ (record { queue = own.queue; cores = own.cores });
       };
-      core_comes = λ r ends pool none own. own_cores _ pool (EachPlace-put_at (CoreIsOwn pool.domains) r (fresh_core ends) pool.resources own.cores (fresh_is_own pool.domains _ (ends, refl))) own;
+      core_comes = λ r ends pool none own. own_cores _ pool (EachPlace-put_at (CoreIsOwn pool.domains) r (joined_core ends) pool.resources own.cores (fresh_is_own pool.domains _ (ends, refl))) own;
       core_goes = λ t r pool on own. own_cores _ pool (EachPlace-clear_at (CoreIsOwn pool.domains) r pool.resources own.cores) own;
       domain_comes = λ t d domain params pool stays none own. own_with_domain g t d domain params pool stays own;
       domain_goes = own_without_domain g;
-      empty = λ config params. record { queue = tt; cores = λ r c at. absurd (empty_has_none (core_count config) r c at) };
+      empty = λ config params. record { queue = tt; cores = λ r c at. absurd (empty_has_none (machine_core_count config) r c at) };
       opens = λ config params cores whole fresh. record { queue = tt; cores = λ r c at. fresh_is_own _ c (fresh r c at) };
     }

@@ -9,7 +9,7 @@ use Rattle.sched_model.specs.declared.machine.Machine.{Machine}
 use Rattle.sched_model.specs.declared.state.State.{State}
 use Rattle.sched_model.specs.declared.state.Pool.{Pool}
 use Rattle.sched_model.specs.declared.state.FreeCore.{FreeCore}
-use Rattle.sched_model.specs.Actions.{home_of_core, home_of_domain}
+use Rattle.sched_model.specs.Actions.{home_pool_of_core, home_pool_of_domain}
 use Rattle.sched_model.specs.Runs.{IsRun}
 use Rattle.sched_laws.specs.EachPlace.{EachPlace}
 use Rattle.sched_model.specs.CheckedMachine.{IsChecked}
@@ -27,17 +27,17 @@ use Rattle.sched_laws.proofs.OwnUnits.{there_if_staying, units_are_own, if_unit}
 use Rattle.sched_laws.specs.PoolFacts.{UnitsAreOwn, IsThere, IsStaying}
 
 -- a pool that has the domain is its home
-pub home_is : (s : State) (i d : ℕ) → IsApart s → has_domain_at s i d ≡ true → home_of_domain s d ≡ Some i
+pub home_is : (s : State) (i d : ℕ) → IsApart s → has_domain_at s i d ≡ true → home_pool_of_domain s d ≡ Some i
 home_is s i d apart has =
-    elim (home_of_domain s d) as (λ o. home_of_domain s d ≡ o → home_of_domain s d ≡ Some i) [
+    elim (home_pool_of_domain s d) as (λ o. home_pool_of_domain s d ≡ o → home_pool_of_domain s d ≡ Some i) [
       | None ↦ λ is. (let p = some-test_at s.pools i (λ p. is_some (at_place p.domains d)) has in let no = none_found 0 i (λ p. is_some (at_place p.domains d)) s.pools p.0 is p.1 in absurd (cc))
       | Some j ↦ λ is. (let f = found_at j (λ p. is_some (at_place p.domains d)) s.pools is in let e = apart.domains j i d (test_at-some s.pools j (λ p. is_some (at_place p.domains d)) f.0 f.1 f.2) has in is ∙ subst (λ k. Some j ≡ Some k) e refl)
     ] refl
 
 -- a free core has no home
-no_home : (s : State) (r : ℕ) (c : FreeCore) → IsApart s → at_place s.free r ≡ Some c → home_of_core s r ≡ None
+no_home : (s : State) (r : ℕ) (c : FreeCore) → IsApart s → at_place s.free r ≡ Some c → home_pool_of_core s r ≡ None
 no_home s r c apart at =
-    is_empty (home_of_core s r) (λ i is.
+    is_empty (home_pool_of_core s r) (λ i is.
     let f = found_at i (λ p. is_some (at_place p.resources r)) s.pools is in
     apart.free i r (is_some_at (at_place s.free r) c at) (test_at-some s.pools i (λ p. is_some (at_place p.resources r)) f.0 f.1 f.2))
 

@@ -6,8 +6,8 @@ use Rattle.sched_model.specs.declared.machine.Machine.{Machine}
 use Rattle.sched_model.specs.declared.state.Pool.{Pool}
 use Rattle.sched_model.specs.declared.state.Resource.{Resource}
 use Rattle.sched_model.specs.Places.{at_place}
-use Rattle.sched_model.specs.Opening.{core_count}
-use Rattle.sched_model.specs.Actions.{home_of_core, home_of_domain}
+use Rattle.sched_model.specs.Opening.{machine_core_count}
+use Rattle.sched_model.specs.Actions.{home_pool_of_core, home_pool_of_domain}
 use Rattle.sched_model.specs.Runs.{IsRun}
 use Rattle.sched_model.specs.CheckedMachine.{IsChecked}
 use Rattle.sched_laws.specs.StateLaws.{state_after, has_core_at, has_domain_at}
@@ -28,10 +28,10 @@ module _ (m : Machine) (checked : IsChecked m) (entries : List Entry) (run : IsR
   is_apart = (kept_in_runs m checked entries run).apart
 
   -- a pool that has the core, or the domain, is its home
-  pub home_of_its_core : (i r : ℕ) → has_core_at (state_after m entries) i r ≡ true → home_of_core (state_after m entries) r ≡ Some i
+  pub home_of_its_core : (i r : ℕ) → has_core_at (state_after m entries) i r ≡ true → home_pool_of_core (state_after m entries) r ≡ Some i
   home_of_its_core i r has = core_home (state_after m entries) i r is_apart has
 
-  pub home_of_its_domain : (i d : ℕ) → has_domain_at (state_after m entries) i d ≡ true → home_of_domain (state_after m entries) d ≡ Some i
+  pub home_of_its_domain : (i d : ℕ) → has_domain_at (state_after m entries) i d ≡ true → home_pool_of_domain (state_after m entries) d ≡ Some i
   home_of_its_domain i d has = home_is (state_after m entries) i d is_apart has
 
   module _ (i : ℕ) (pool : Pool) (at : at_place (state_after m entries).pools i ≡ Some pool) where
@@ -51,7 +51,7 @@ module _ (m : Machine) (checked : IsChecked m) (entries : List Entry) (run : IsR
     null_fits = is_kept.fits
 
     -- there is a place for each core of the machine
-    pub places_for_cores : length pool.resources ≡ core_count m.config
+    pub places_for_cores : length pool.resources ≡ machine_core_count m.config
     places_for_cores = ((ready_in_runs m checked entries run).pools i pool at).fit.fits.count
 
     -- a core: its guests at their places, its stage, and what it saves; and all its processors

@@ -14,13 +14,13 @@ use Rattle.sched_model.specs.declared.machine.Machine.{Machine}
 use Rattle.sched_model.specs.declared.state.State.{State}
 use Rattle.sched_model.specs.declared.state.Pool.{Pool}
 use Rattle.sched_model.specs.declared.state.FreeCore.{FreeCore}
-use Rattle.sched_model.specs.State.{has_core, is_runnable}
-use Rattle.sched_model.specs.Opening.{opening_pool, empty_pool, with_pins, opening, opening_free, with_domains, with_configured, fresh_core, core_count, fresh_domain}
+use Rattle.sched_model.specs.State.{has_core_bit, may_unit_run}
+use Rattle.sched_model.specs.Opening.{pool_at_opening, fresh_pool, pool_with_pins, opening, free_core_at_opening, pool_with_domains, pool_with_configured, joined_core, machine_core_count, domain_at_opening}
 use Rattle.sched_model.specs.declared.action.Action.{Action}
-use Rattle.sched_model.specs.Pool.{home_cores}
-use Rattle.sched_model.specs.Commands.{set_rtds_unit}
-use Rattle.sched_model.specs.Machine.{is_enabled, first_enabled, moments, next_moment, next_in_horizon, after}
-use Rattle.sched_model.specs.Runs.{Reached, action_of, end_of, after_quiet, after_event, IsNextEvent, IsRunFrom, IsRun, run_start, after_entry, after_entries}
+use Rattle.sched_model.specs.Pool.{pool_core_set}
+use Rattle.sched_model.specs.Commands.{pool_with_rtds_unit}
+use Rattle.sched_model.specs.Machine.{is_action_enabled, first_enabled_action, moments, least_later_moment, next_in_horizon, after}
+use Rattle.sched_model.specs.Runs.{Reached, event_action, named_next_moment, after_quiet, after_event, IsNextEvent, IsRunFrom, IsRun, run_start, after_entry, after_entries}
 use Rattle.sched_model.specs.CheckedMachine.{IsChecked}
 use Rattle.std.proofs.lemmas.List.{length-map}
 use Rattle.sched_laws.specs.EachPlace.{EachPlace}
@@ -44,8 +44,8 @@ use Rattle.sched_model.specs.declared.config.ParamChange.TheVariants as changes
 use Rattle.sched_model.specs.declared.state.ArincRecords.{ArincRecords}
 use Rattle.sched_model.specs.declared.state.Domain.{Domain}
 use Rattle.sched_model.specs.CheckedMachine.{IsCheckedPool, PoolParamsPass}
-use Rattle.sched_model.specs.Policy.{default_pool_params, fresh_records, join, rtds_record, default_dom_params}
-use Rattle.sched_model.specs.Pool.{change_domain, queue_units, queue_if_off, queue_unit, with_domain, is_off, unit_count}
+use Rattle.sched_model.specs.Policy.{standard_pool_params, empty_records, joined_scheduler, unit_rtds_record, standard_dom_params}
+use Rattle.sched_model.specs.Pool.{change_domain, pool_with_queued_units, pool_with_queued_if_off, queue_unit, pool_with_domain, is_unit_off, domain_unit_count}
 use Rattle.sched_laws.proofs.Window.{FitsMajor}
 use Rattle.sched_laws.proofs.Due.{FrameFits, SameWindows, arinc_of, same_changed, same_joined, PoolFits, not_yet, d_parts, d_commands, d_set_params, d_with_domain, d_core_comes, d_core_goes, d_without_domain, d_later, d_set_rtds_unit}
 use Rattle.sched_laws.proofs.Calm.{IsCalm, calm_settled, calm_change_processor, calm_later, calm_without_domain}
@@ -58,14 +58,14 @@ use Rattle.sched_base.specs.declared.Span.{Span}
 use Rattle.sched_base.proofs.Lists.{each_get}
 
 -- a pool without a frame, as each new one is
-default_frame : (kind : SchedKind) (domains cores : ℕ) → FrameFits (fresh_records (default_pool_params kind) domains cores)
+default_frame : (kind : SchedKind) (domains cores : ℕ) → FrameFits (empty_records (standard_pool_params kind) domains cores)
 default_frame kinds.Arinc653 domains cores arinc frame is has =
     let e : ◌≡◌ {A = ArincRecords} (record { frame = None; installed = 0 }) arinc = cc in
     absurd (let f : None ≡ Some frame = ap (λ (a : ArincRecords). a.frame) e ∙ has in cc)
 default_frame other domains cores arinc frame is has = absurd (cc)
 
 -- the frame of a pool of the file
-opened_frame : (config : Config) (kind : SchedKind) (params : PoolParams) (domains cores : ℕ) → PoolParamsPass config kind params → FrameFits (fresh_records params domains cores)
+opened_frame : (config : Config) (kind : SchedKind) (params : PoolParams) (domains cores : ℕ) → PoolParamsPass config kind params → FrameFits (empty_records params domains cores)
 opened_frame config kind (pool_params.Arinc653 None) domains cores passed arinc frame is has =
     let e : ◌≡◌ {A = ArincRecords} (record { frame = None; installed = 0 }) arinc = cc in
     absurd (let f : None ≡ Some frame = ap (λ (a : ArincRecords). a.frame) e ∙ has in cc)
@@ -78,30 +78,30 @@ opened_frame config other (pool_params.Arinc653 (Some x)) domains cores passed a
 opened_frame config kind other domains cores passed arinc frame is has = absurd (cc)
 
 -- the domains of the file that join a pool leave its windows
-with_pins-windows : (d n : ℕ) (pins : List Cores) (pool : Pool) → SameWindows pool.scheduler.records (with_pins d n pins pool).scheduler.records
+with_pins-windows : (d n : ℕ) (pins : List Cores) (pool : Pool) → SameWindows pool.scheduler.records (pool_with_pins d n pins pool).scheduler.records
 with_pins-windows d n pins pool =
     pins_keep (λ p. SameWindows pool.scheduler.records p.scheduler.records) (λ e k cores p same. same_changed p.scheduler.records (changes.Pin (domain_number e) (Some k) cores) 0 tt ∙ same) d n pins pool refl
 
-queue_units-windows : (g d : ℕ) (units : List ℕ) (pool : Pool) → SameWindows pool.scheduler.records (queue_units g d units pool).scheduler.records
+queue_units-windows : (g d : ℕ) (units : List ℕ) (pool : Pool) → SameWindows pool.scheduler.records (pool_with_queued_units g d units pool).scheduler.records
 queue_units-windows g d [] pool = refl
 queue_units-windows g d (n ∷ ns) pool =
     let u : UnitId = record { dom = domain_number d; n = n } in
-    queue_units-windows g d ns (queue_if_off g u pool) ∙ by_cond (λ (p : Pool). SameWindows pool.scheduler.records p.scheduler.records) (is_runnable g pool u && is_off pool u) (queue_unit u pool) pool (λ is. refl) (λ is. refl)
+    queue_units-windows g d ns (pool_with_queued_if_off g u pool) ∙ by_cond (λ (p : Pool). SameWindows pool.scheduler.records p.scheduler.records) (may_unit_run g pool u && is_unit_off pool u) (queue_unit u pool) pool (λ is. refl) (λ is. refl)
 
-with_configured-windows : (g d : ℕ) (joining : DomConfig) (pool : Pool) → SameWindows pool.scheduler.records (with_configured g d joining pool).scheduler.records
+with_configured-windows : (g d : ℕ) (joining : DomConfig) (pool : Pool) → SameWindows pool.scheduler.records (pool_with_configured g d joining pool).scheduler.records
 with_configured-windows g d joining pool =
-    let x : Domain = fresh_domain joining in
-    with_pins-windows d 0 joining.pins (with_domain g 0 d x joining.params pool)
-    ∙ queue_units-windows g d (numbers_from 0 (unit_count g x)) (record pool { domains = put_at d x pool.domains; scheduler = join d (unit_count g x) joining.params 0 pool.scheduler })
-    ∙ same_joined pool.scheduler.records joining.params d (unit_count g x) 0
+    let x : Domain = domain_at_opening joining in
+    with_pins-windows d 0 joining.pins (pool_with_domain g 0 d x joining.params pool)
+    ∙ queue_units-windows g d (numbers_from 0 (domain_unit_count g x)) (record pool { domains = put_at d x pool.domains; scheduler = joined_scheduler d (domain_unit_count g x) joining.params 0 pool.scheduler })
+    ∙ same_joined pool.scheduler.records joining.params d (domain_unit_count g x) 0
 
-with_domains-windows : (g i d : ℕ) (domains : List DomConfig) (pool : Pool) → SameWindows pool.scheduler.records (with_domains g i d domains pool).scheduler.records
+with_domains-windows : (g i d : ℕ) (domains : List DomConfig) (pool : Pool) → SameWindows pool.scheduler.records (pool_with_domains g i d domains pool).scheduler.records
 with_domains-windows g i d domains pool =
     domains_keep g i (λ p. SameWindows pool.scheduler.records p.scheduler.records) d domains (λ k joining p at home same. with_configured-windows g (d + k) joining p ∙ same) pool refl
 
-own_set_rtds_unit : (g t : ℕ) (period budget : Option Span) (extra : Option Bool) (u : UnitId) (pool : Pool) → UnitsAreOwn pool → UnitsAreOwn (set_rtds_unit t period budget extra u pool)
+own_set_rtds_unit : (g t : ℕ) (period budget : Option Span) (extra : Option Bool) (u : UnitId) (pool : Pool) → UnitsAreOwn pool → UnitsAreOwn (pool_with_rtds_unit t period budget extra u pool)
 own_set_rtds_unit g t period budget extra u pool own =
-    by_option UnitsAreOwn (rtds_record pool.scheduler.records u) _ _ (λ is. own)
+    by_option UnitsAreOwn (unit_rtds_record pool.scheduler.records u) _ _ (λ is. own)
     (λ x is. (units_are_own g).inside.changes (changes.«Unit» u (unwrap_or period (span x.next_period)) (unwrap_or budget (span x.next_budget)) (unwrap_or extra x.next_extra)) t pool own)
 
 -- all that is needed of the ends of a free core: there is one for each processor
@@ -116,7 +116,7 @@ Whole g ends = length ends ≡ g
 
 pub record PoolIsFit (m : Machine) (t : ℕ) (pool : Pool) : Type 0 where
   pub own : UnitsAreOwn pool
-  pub fits : PoolFits (core_count m.config) m.config.granularity t pool.scheduler.records pool.resources
+  pub fits : PoolFits (machine_core_count m.config) m.config.granularity t pool.scheduler.records pool.resources
 
 pub record PoolIsReady (m : Machine) (t : ℕ) (pool : Pool) : Type 0 where
   pub fit : PoolIsFit m t pool
@@ -126,7 +126,7 @@ module _ (m : Machine) (t : ℕ) where
   pub ready_steps : IsKeptAt m t NoEnd (Whole m.config.granularity) NoDomain (PoolIsReady m t) (PoolIsFit m t)
   ready_steps =
       let own = units_are_own m.config.granularity in
-      let n : ℕ = core_count m.config in
+      let n : ℕ = machine_core_count m.config in
       let g : ℕ = m.config.granularity in
       record {
         stays = λ pool r. r;
@@ -145,12 +145,12 @@ module _ (m : Machine) (t : ℕ) where
         ends_go = λ r c pool at q. length-map c.processors _ ∙ (q.fit.fits.cores r c at).processors;
         domain_is = λ d domain pool at q. tt;
         core_goes = λ r pool on q. record { own = own.core_goes t r pool on q.fit.own; fits = d_core_goes n g t r pool q.fit.fits };
-        domain_comes = λ d domain pool stays none comes f. record { own = own.domain_comes t d domain (default_dom_params pool.scheduler.records) pool stays none f.own; fits = d_with_domain n g t d domain (default_dom_params pool.scheduler.records) pool f.fits };
+        domain_comes = λ d domain pool stays none comes f. record { own = own.domain_comes t d domain (standard_dom_params pool.scheduler.records) pool stays none f.own; fits = d_with_domain n g t d domain (standard_dom_params pool.scheduler.records) pool f.fits };
         domain_goes = λ d pool on r. record { own = own.domain_goes t d pool on r.fit.own; fits = d_without_domain n g t d pool r.fit.fits };
         domain_leaves = λ d pool null on r. record { fit = record { own = own.domain_goes t d pool on r.fit.own; fits = d_without_domain n g t d pool r.fit.fits }; calms = calm_without_domain g t d pool null on r.fit.own r.calms };
         empty = λ kind. record {
-          fit = record { own = own.empty m.config (default_pool_params kind); fits = record { frame = default_frame kind (length m.config.domains) (core_count m.config); count = length-replicate (core_count m.config) None; cores = EachPlace-empty _ (core_count m.config) } };
-          calms = λ r c at. absurd (EachPlace-empty {X = Resource} (λ x. ⊥) (core_count m.config) r c at);
+          fit = record { own = own.empty m.config (standard_pool_params kind); fits = record { frame = default_frame kind (length m.config.domains) (machine_core_count m.config); count = length-replicate (machine_core_count m.config) None; cores = EachPlace-empty _ (machine_core_count m.config) } };
+          calms = λ r c at. absurd (EachPlace-empty {X = Resource} (λ x. ⊥) (machine_core_count m.config) r c at);
         };
       }
 
@@ -160,7 +160,7 @@ pub record IsReady (m : Machine) (s : State) : Type 0 where
   pub pools : EachPlace (PoolIsReady m s.now) s.pools
   pub free : FreeFits (Whole m.config.granularity) s
 
-ready_after : (m : Machine) (s : State) (action : Action) → is_enabled m s s.now action ≡ true → IsReady m s → IsReady m (after m s s.now action)
+ready_after : (m : Machine) (s : State) (action : Action) → is_action_enabled m s s.now action ≡ true → IsReady m s → IsReady m (after m s s.now action)
 ready_after m s action on ready =
     let free = free_after (ready_steps m s.now) s action ready.free (λ l is. tt) ready.pools in
     record {
@@ -176,9 +176,9 @@ ready_later m s next past ready = record {
   pools = λ i pool at. (
       let here : PoolIsReady m s.now pool = ready.pools i pool at in
       record {
-        fit = record { own = here.fit.own; fits = d_later (core_count m.config) m.config.granularity s.now next past pool.scheduler.records pool.resources here.fit.fits };
+        fit = record { own = here.fit.own; fits = d_later (machine_core_count m.config) m.config.granularity s.now next past pool.scheduler.records pool.resources here.fit.fits };
         calms = λ r c has stays decided low.
-            calm_later s.now next (home_cores pool) pool.scheduler r c ((here.fit.fits.cores r c has).due stays decided next past low) (here.calms r c has stays decided (not_yet next s.now c.due past low));
+            calm_later s.now next (pool_core_set pool) pool.scheduler r c ((here.fit.fits.cores r c has).due stays decided next past low) (here.calms r c has stays decided (not_yet next s.now c.due past low));
       });
 }
 
@@ -210,13 +210,13 @@ later_each t test (n ∷ ns) =
 
 pub next_later : (m : Machine) (s : State) (next : ℕ) → next_in_horizon m s ≡ Some next → s.now ≤ next
 next_later m s next is =
-    by_option (λ (o : Option ℕ). o ≡ Some next → s.now ≤ next) (next_moment m s s.now) None (λ k. cond (nat_le k m.config.horizon.0) (Some k) None)
+    by_option (λ (o : Option ℕ). o ≡ Some next → s.now ≤ next) (least_later_moment m s s.now) None (λ k. cond (nat_le k m.config.horizon.0) (Some k) None)
     (λ none e. absurd (cc))
     (λ k found. by_cond (λ (o : Option ℕ). o ≡ Some next → s.now ≤ next) (nat_le k m.config.horizon.0) (Some k) None
-    (λ within e. (let same : k ≡ next = cc in subst (λ x. s.now ≤ x) same (least_is (λ n. s.now ≤ n) _ k (later_each s.now (λ later. is_some (first_enabled m s later)) (moments m s)) found))) (λ past e. absurd (cc))) is
+    (λ within e. (let same : k ≡ next = cc in subst (λ x. s.now ≤ x) same (least_is (λ n. s.now ≤ n) _ k (later_each s.now (λ later. is_some (first_enabled_action m s later)) (moments m s)) found))) (λ past e. absurd (cc))) is
 
 ready_event : (m : Machine) (e : Event) (action : Option Action) (from : Reached) → IsNextEvent m from.state e action → IsReady m from.state → IsReady m (after_event m e action from).state
-ready_event m e None from next ready = ready_quiet (end_of e) next.1
+ready_event m e None from next ready = ready_quiet (named_next_moment e) next.1
   where
     ready_quiet : (end : Option ℕ) → next_in_horizon m from.state ≡ end → IsReady m (after_quiet end from).state
     ready_quiet None is = ready
@@ -225,13 +225,13 @@ ready_event m e (Some action) from next ready = ready_after m from.state action 
 
 ready_from : (m : Machine) (from : Reached) (entries : List Entry) → IsRunFrom m from entries → IsReady m from.state → IsReady m (after_entries m from entries).state
 ready_from m from [] run ready = ready
-ready_from m from (entry ∷ entries) run ready = ready_from m (after_entry m from entry) entries run.1 (ready_event m entry.event (action_of entry.event) from run.0.event ready)
+ready_from m from (entry ∷ entries) run ready = ready_from m (after_entry m from entry) entries run.1 (ready_event m entry.event (event_action entry.event) from run.0.event ready)
 
 -- at the opening all cores are fresh
-opening_frame : (config : Config) (p : PoolConfig) (i : ℕ) (pool : Pool) → pool ≡ opening_pool config i p → PoolParamsPass config p.kind p.params → FrameFits pool.scheduler.records
+opening_frame : (config : Config) (p : PoolConfig) (i : ℕ) (pool : Pool) → pool ≡ pool_at_opening config i p → PoolParamsPass config p.kind p.params → FrameFits pool.scheduler.records
 opening_frame config p i pool is passed arinc frame at has =
-    let same = with_domains-windows config.granularity i 0 config.domains (record (empty_pool config p.params) { resources = map (λ r. cond (has_core p.cores r) (Some (fresh_core (replicate config.granularity (moment 0)))) None) (numbers_from 0 (core_count config)) }) in
-    opened_frame config p.kind p.params (length config.domains) (core_count config) passed arinc frame (sym same ∙ sym (ap (λ (x : Pool). arinc_of x.scheduler.records) is) ∙ at) has
+    let same = with_domains-windows config.granularity i 0 config.domains (record (fresh_pool config p.params) { resources = map (λ r. cond (has_core_bit p.cores r) (Some (joined_core (replicate config.granularity (moment 0)))) None) (numbers_from 0 (machine_core_count config)) }) in
+    opened_frame config p.kind p.params (length config.domains) (machine_core_count config) passed arinc frame (sym same ∙ sym (ap (λ (x : Pool). arinc_of x.scheduler.records) is) ∙ at) has
 
 ready_opening : (m : Machine) → IsChecked m → IsReady m (opening m)
 ready_opening m checked = record {
@@ -239,17 +239,17 @@ ready_opening m checked = record {
   pools = λ i pool at. (
       let own : UnitsAreOwn pool = kept_opening m UnitsAreOwn (units_are_own m.config.granularity) i pool at in
       let r = read_pools m.config 0 _ m.config.pools i pool at in
-      let cores : List (Option Resource) = map (λ r2. cond (has_core r.0.cores r2) (Some (fresh_core (replicate m.config.granularity (moment 0)))) None) (numbers_from 0 (core_count m.config)) in
+      let cores : List (Option Resource) = map (λ r2. cond (has_core_bit r.0.cores r2) (Some (joined_core (replicate m.config.granularity (moment 0)))) None) (numbers_from 0 (machine_core_count m.config)) in
       let same : pool.resources ≡ cores = ap (λ (x : Pool). x.resources) r.2 ∙ with_domains-resources m.config.granularity (0 + i) 0 m.config.domains _ in
-      let fresh : (n : ℕ) (c : Resource) → at_place pool.resources n ≡ Some c → fresh_core (replicate m.config.granularity (moment 0)) ≡ c = λ n c has. (
-      let e = read_map (λ r2. cond (has_core r.0.cores r2) (Some (fresh_core (replicate m.config.granularity (moment 0)))) None) 0 (core_count m.config) n c (subst (λ (places : List (Option Resource)). at_place places n ≡ Some c) same has) in
-      by_cond (λ (o : Option Resource). o ≡ Some c → fresh_core (replicate m.config.granularity (moment 0)) ≡ c) (has_core r.0.cores (0 + n)) (Some (fresh_core (replicate m.config.granularity (moment 0)))) None (λ is h. cc) (λ is h. absurd (cc)) e) in
+      let fresh : (n : ℕ) (c : Resource) → at_place pool.resources n ≡ Some c → joined_core (replicate m.config.granularity (moment 0)) ≡ c = λ n c has. (
+      let e = read_map (λ r2. cond (has_core_bit r.0.cores r2) (Some (joined_core (replicate m.config.granularity (moment 0)))) None) 0 (machine_core_count m.config) n c (subst (λ (places : List (Option Resource)). at_place places n ≡ Some c) same has) in
+      by_cond (λ (o : Option Resource). o ≡ Some c → joined_core (replicate m.config.granularity (moment 0)) ≡ c) (has_core_bit r.0.cores (0 + n)) (Some (joined_core (replicate m.config.granularity (moment 0)))) None (λ is h. cc) (λ is h. absurd (cc)) e) in
       record {
         fit = record {
           own = own;
           fits = record {
             frame = opening_frame m.config r.0 (0 + i) pool r.2 (each_get (IsCheckedPool m.config) m.config.pools i r.0 (recursion_from_All (IsCheckedPool m.config) m.config.pools checked.config.pools) r.1).params;
-            count = ap length same ∙ length_map_numbers _ 0 (core_count m.config);
+            count = ap length same ∙ length_map_numbers _ 0 (machine_core_count m.config);
             cores = λ n c has. record {
               processors = ap (λ (x : Resource). length x.processors) (sym (fresh n c has)) ∙ length-map (replicate m.config.granularity (moment 0)) _ ∙ length-replicate m.config.granularity (moment 0);
               due = λ stays decided later past low. absurd (let e : true ≡ false = ap (λ (x : Resource). x.pending) (fresh n c has) ∙ decided in cc);
@@ -259,8 +259,8 @@ ready_opening m checked = record {
         calms = λ n c has stays decided low. absurd (let e : true ≡ false = ap (λ (x : Resource). x.pending) (fresh n c has) ∙ decided in cc);
       });
   free = λ r c at. (
-      let e = read_map (opening_free m.config) 0 (core_count m.config) r c at in
-      by_cond (λ (o : Option FreeCore). o ≡ Some c → length c.stall_ends ≡ m.config.granularity) (list_any (λ pool. has_core pool.cores (0 + r)) m.config.pools) None (Some (record { target = None; stall_ends = replicate m.config.granularity (moment 0) }))
+      let e = read_map (free_core_at_opening m.config) 0 (machine_core_count m.config) r c at in
+      by_cond (λ (o : Option FreeCore). o ≡ Some c → length c.stall_ends ≡ m.config.granularity) (list_any (λ pool. has_core_bit pool.cores (0 + r)) m.config.pools) None (Some (record { target = None; stall_ends = replicate m.config.granularity (moment 0) }))
       (λ is h. absurd (cc)) (λ is h. (let s : ◌≡◌ {A = FreeCore} (record { target = None; stall_ends = replicate m.config.granularity (moment 0) }) c = cc in ap (λ (x : FreeCore). length x.stall_ends) (sym s) ∙ length-replicate m.config.granularity (moment 0))) e);
 }
 

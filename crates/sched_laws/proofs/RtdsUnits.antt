@@ -6,8 +6,8 @@ use Rattle.sched_base.specs.declared.UnitId.{UnitId}
 use Rattle.sched_model.specs.Places.{at_place, change_at, change_item, same_unit}
 use Rattle.sched_model.specs.declared.state.Records.TheVariants.{RtdsPool}
 use Rattle.sched_model.specs.declared.state.RtdsUnit.{RtdsUnit}
-use Rattle.sched_model.specs.EligibleUnits.{rtds_unit}
-use Rattle.sched_model.specs.Rtds.{burn_to, change_unit}
+use Rattle.sched_model.specs.EligibleUnits.{rtds_unit_at}
+use Rattle.sched_model.specs.Rtds.{unit_burned_to, change_unit}
 use Rattle.sched_laws.proofs.EachPlace.{at_place-change_at, at_place-set_other, by_option}
 use Rattle.sched_laws.proofs.Lists.{slice_get-change_item, slice_get-change_item_other}
 
@@ -16,7 +16,7 @@ pub rtds_same : (a b : List (Option (List RtdsUnit))) → RtdsPool a ≡ RtdsPoo
 rtds_same a b same = cc
 
 -- the unit's record after a change of it
-rtds_unit-changed : (u : UnitId) (f : RtdsUnit → RtdsUnit) (domains : List (Option (List RtdsUnit))) → rtds_unit (change_unit u f domains) u ≡ option_map f (rtds_unit domains u)
+rtds_unit-changed : (u : UnitId) (f : RtdsUnit → RtdsUnit) (domains : List (Option (List RtdsUnit))) → rtds_unit_at (change_unit u f domains) u ≡ option_map f (rtds_unit_at domains u)
 rtds_unit-changed u f domains =
     ap (λ (o : Option (List RtdsUnit)). elim o as (λ _. Option RtdsUnit) [ None ↦ None | Some units ↦ slice_get units u.n ]) (at_place-change_at u.dom.0 (change_item u.n f) domains)
     ∙ there (at_place domains u.dom.0)
@@ -26,14 +26,14 @@ rtds_unit-changed u f domains =
     there None = refl
     there (Some units) = slice_get-change_item u.n f units
 
-pub rtds_unit-same : (u : UnitId) (f : RtdsUnit → RtdsUnit) (domains : List (Option (List RtdsUnit))) (x : RtdsUnit) → rtds_unit domains u ≡ Some x → rtds_unit (change_unit u f domains) u ≡ Some (f x)
+pub rtds_unit-same : (u : UnitId) (f : RtdsUnit → RtdsUnit) (domains : List (Option (List RtdsUnit))) (x : RtdsUnit) → rtds_unit_at domains u ≡ Some x → rtds_unit_at (change_unit u f domains) u ≡ Some (f x)
 rtds_unit-same u f domains x at = rtds_unit-changed u f domains ∙ ap (option_map f) at
 
-pub rtds_unit-none : (u : UnitId) (f : RtdsUnit → RtdsUnit) (domains : List (Option (List RtdsUnit))) → rtds_unit domains u ≡ None → rtds_unit (change_unit u f domains) u ≡ None
+pub rtds_unit-none : (u : UnitId) (f : RtdsUnit → RtdsUnit) (domains : List (Option (List RtdsUnit))) → rtds_unit_at domains u ≡ None → rtds_unit_at (change_unit u f domains) u ≡ None
 rtds_unit-none u f domains at = rtds_unit-changed u f domains ∙ ap (option_map f) at
 
 -- and after one of another unit
-pub rtds_unit-other : (w u : UnitId) (f : RtdsUnit → RtdsUnit) (domains : List (Option (List RtdsUnit))) → same_unit w u ≡ false → rtds_unit (change_unit w f domains) u ≡ rtds_unit domains u
+pub rtds_unit-other : (w u : UnitId) (f : RtdsUnit → RtdsUnit) (domains : List (Option (List RtdsUnit))) → same_unit w u ≡ false → rtds_unit_at (change_unit w f domains) u ≡ rtds_unit_at domains u
 rtds_unit-other w u f domains other =
     elim (ℕ_discrete w.dom.0 u.dom.0) [
       | yes e ↦ (
@@ -49,5 +49,5 @@ rtds_unit-other w u f domains other =
     there (Some units) n = slice_get-change_item_other w.n u.n f units n
 
 -- whether a unit burns since a moment does not change as it burns
-pub burned_on : (t : ℕ) (x : RtdsUnit) → is_some (burn_to t x).burned ≡ is_some x.burned
+pub burned_on : (t : ℕ) (x : RtdsUnit) → is_some (unit_burned_to t x).burned ≡ is_some x.burned
 burned_on t x = by_option (λ (y : RtdsUnit). is_some y.burned ≡ is_some x.burned) x.burned _ _ (λ is. refl) (λ from is. ap (λ (o : Option ℕ). is_some o) (sym is))

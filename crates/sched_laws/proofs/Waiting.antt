@@ -1,5 +1,5 @@
 -- The law of waiting: where nothing may happen, no core that may be used is pending, and no due has come.
-use Rattle.sched_base.specs.Numbers.{core, domain, processor, has_come}
+use Rattle.sched_base.specs.Numbers.{core, domain, processor, has_moment_come}
 use Rattle.std.proofs.Common.{◌≡◌, ◌<◌, ◌≤◌, ℕ, zero, suc, Bool, true, false, not, List, [], ◌∷◌, ◌++◌, refl, arith, subst, sym, ap, inl, inr}
 use Rattle.std.specs.Prelude.{Option, Some, None, is_some, is_none, slice_get, length, map, ◌&&◌, ◌||◌, ◌+◌, ◌-◌, ◌*◌, ◌/◌, ◌%◌}
 use Rattle.std.specs.List.{list_any, list_all, AllByRecursion}
@@ -14,14 +14,14 @@ use Rattle.sched_model.specs.Places.{at_place, test_at, numbers_from}
 use Rattle.sched_model.specs.declared.machine.Machine.{Machine}
 use Rattle.sched_model.specs.declared.state.State.{State}
 use Rattle.sched_model.specs.declared.state.Pool.{Pool}
-use Rattle.sched_model.specs.State.{is_up}
-use Rattle.sched_model.specs.Opening.{core_count}
+use Rattle.sched_model.specs.State.{is_not_stalled}
+use Rattle.sched_model.specs.Opening.{machine_core_count}
 use Rattle.sched_model.specs.declared.action.Action.{Action}
-use Rattle.sched_model.specs.Pool.{enabled_in, home_cores, is_held, is_open, first_up, processor_of}
+use Rattle.sched_model.specs.Pool.{enabled_in, pool_core_set, is_held_back, is_gathering, is_first_processor_up, pool_processor}
 use Rattle.sched_model.specs.declared.action.Action.TheVariants.{Stall, Xl, Moved, DomMoved, Wake, Block, Slice, Repl, Refill, Arrive, Decide, Leave, Save}
-use Rattle.sched_model.specs.Actions.{home_of_core, candidates, vcpus_from, units_from}
-use Rattle.sched_model.specs.Machine.{is_enabled, first_enabled}
-use Rattle.sched_model.specs.Runs.{action_of, IsNextEvent, IsRun, run_start}
+use Rattle.sched_model.specs.Actions.{home_pool_of_core, candidates, vcpus_from, units_from}
+use Rattle.sched_model.specs.Machine.{is_action_enabled, first_enabled_action}
+use Rattle.sched_model.specs.Runs.{event_action, IsNextEvent, IsRun, run_start}
 use Rattle.sched_model.specs.CheckedMachine.{IsChecked}
 use Rattle.sched_laws.specs.StateLaws.{state_after}
 use Rattle.sched_laws.specs.RunLaws.{NobodyWaits}
@@ -44,11 +44,11 @@ parts_of P (x ∷ xs) ys each = (let r = parts_of P xs ys each.1 in ((each.0, r.
 after_two : (P : Action → Type 0) (a b : Action) (xs : List Action) → AllByRecursion P (a ∷ b ∷ xs) → AllByRecursion P xs
 after_two P a b xs each = each.1.1
 
-processor_at : (g : ℕ) (pool : Pool) (p r k : ℕ) (c : Resource) (q : Processor) → p / g ≡ r → p % g ≡ k → at_place pool.resources r ≡ Some c → slice_get c.processors k ≡ Some q → processor_of g pool p ≡ Some q
+processor_at : (g : ℕ) (pool : Pool) (p r k : ℕ) (c : Resource) (q : Processor) → p / g ≡ r → p % g ≡ k → at_place pool.resources r ≡ Some c → slice_get c.processors k ≡ Some q → pool_processor g pool p ≡ Some q
 processor_at g pool p r k c q at_r at_i has at_k =
     let there : at_place pool.resources (p / g) ≡ Some c = subst (λ x. at_place pool.resources x ≡ Some c) (sym at_r) has in
     let item : slice_get c.processors (p % g) ≡ Some q = subst (λ x. slice_get c.processors x ≡ Some q) (sym at_i) at_k in
-    rw (processor_of, there) item
+    rw (pool_processor, there) item
 
 of_number : (P : Action → Type 0) (f : ℕ → Action) (k n j : ℕ) → k ≤ j → j < k + n → AllByRecursion P (map f (numbers_from k n)) → P (f j)
 of_number P f k zero j low high each = absurd (omega (arith, low, high))
@@ -79,16 +79,16 @@ all_have test [] k x all at = absurd (cc)
 all_have test (y ∷ xs) zero x all at = (let e : y ≡ x = cc in subst (λ z. test z ≡ true) e (and_left (test y) _ all))
 all_have test (y ∷ xs) (suc k) x all at = all_have test xs k x (and_right (test y) _ all) at
 
-first_is_up : (t : ℕ) (ps : List Processor) → 0 < length ps → list_all (is_up t) ps ≡ true → elim ps as (λ _. Bool) [ [] ↦ false | p ∷ rest ↦ is_up t p ] ≡ true
+first_is_up : (t : ℕ) (ps : List Processor) → 0 < length ps → list_all (is_not_stalled t) ps ≡ true → elim ps as (λ _. Bool) [ [] ↦ false | p ∷ rest ↦ is_not_stalled t p ] ≡ true
 first_is_up t [] some all = absurd (omega (arith, some))
-first_is_up t (p ∷ ps) some all = and_left (is_up t p) _ all
+first_is_up t (p ∷ ps) some all = and_left (is_not_stalled t p) _ all
 
 -- the actions in order, up to those of a kind
 abbrev to_block : Machine → List Action
-to_block m = map (λ n. Moved (core n)) (numbers_from 0 (core_count m.config)) ++ map (λ n. DomMoved (domain n)) (numbers_from 0 (length m.config.domains)) ++ map Wake (vcpus_from 0 m.config.domains) ++ map (λ n. Block (processor n)) (numbers_from 0 m.config.processors)
+to_block m = map (λ n. Moved (core n)) (numbers_from 0 (machine_core_count m.config)) ++ map (λ n. DomMoved (domain n)) (numbers_from 0 (length m.config.domains)) ++ map Wake (vcpus_from 0 m.config.domains) ++ map (λ n. Block (processor n)) (numbers_from 0 m.config.processors)
 
 abbrev to_slice : Machine → List Action
-to_slice m = to_block m ++ map (λ n. Slice (core n)) (numbers_from 0 (core_count m.config))
+to_slice m = to_block m ++ map (λ n. Slice (core n)) (numbers_from 0 (machine_core_count m.config))
 
 abbrev to_repl : Machine → List Action
 to_repl m = to_slice m ++ map Repl (units_from m.config.granularity 0 m.config.domains)
@@ -100,45 +100,45 @@ abbrev to_arrive : Machine → List Action
 to_arrive m = to_refill m ++ map (λ n. Arrive (processor n)) (numbers_from 0 m.config.processors)
 
 abbrev to_decide : Machine → List Action
-to_decide m = to_arrive m ++ map (λ n. Decide (core n)) (numbers_from 0 (core_count m.config))
+to_decide m = to_arrive m ++ map (λ n. Decide (core n)) (numbers_from 0 (machine_core_count m.config))
 
 abbrev to_leave : Machine → List Action
 to_leave m = to_decide m ++ map (λ n. Leave (processor n)) (numbers_from 0 m.config.processors)
 
 abbrev to_save : Machine → List Action
-to_save m = to_leave m ++ map (λ n. Save (core n)) (numbers_from 0 (core_count m.config))
+to_save m = to_leave m ++ map (λ n. Save (core n)) (numbers_from 0 (machine_core_count m.config))
 
-module _ (m : Machine) (s : State) (checked : IsChecked m) (ready : IsReady m s) (sound : (i : ℕ) (pool : Pool) → at_place s.pools i ≡ Some pool → AreSound m.config.granularity pool) (quiet : first_enabled m s s.now ≡ None)
-    (i r : ℕ) (pool : Pool) (c : Resource) (at : at_place s.pools i ≡ Some pool) (has : at_place pool.resources r ≡ Some c) (up : list_all (is_up s.now) c.processors ≡ true) where
+module _ (m : Machine) (s : State) (checked : IsChecked m) (ready : IsReady m s) (sound : (i : ℕ) (pool : Pool) → at_place s.pools i ≡ Some pool → AreSound m.config.granularity pool) (quiet : first_enabled_action m s s.now ≡ None)
+    (i r : ℕ) (pool : Pool) (c : Resource) (at : at_place s.pools i ≡ Some pool) (has : at_place pool.resources r ≡ Some c) (up : list_all (is_not_stalled s.now) c.processors ≡ true) where
   g_some : 0 < m.config.granularity
   g_some = some_processor m.config.granularity checked.config.granularity
 
-  home : home_of_core s r ≡ Some i
+  home : home_pool_of_core s r ≡ Some i
   home = core_home s i r ready.apart (test_at-some s.pools i (λ x. is_some (at_place x.resources r)) pool at (is_some_at (at_place pool.resources r) c has))
 
-  below : r < core_count m.config
+  below : r < machine_core_count m.config
   below = (let e = (ready.pools i pool at).fit.fits.count in let l = place_below pool.resources r c has in omega (arith, e, l))
 
   whole : length c.processors ≡ m.config.granularity
   whole = ((ready.pools i pool at).fit.fits.cores r c has).processors
 
-  core_first : first_up s.now c ≡ true
+  core_first : is_first_processor_up s.now c ≡ true
   core_first = first_is_up s.now c.processors (let e = whole in let p = g_some in omega (arith, e, p)) up
 
   abbrev Off : Action → Type 0
-  Off action = is_enabled m s s.now action ≡ false
+  Off action = is_action_enabled m s s.now action ≡ false
 
   all_off : AllByRecursion Off (to_save m)
-  all_off = after_two Off Stall Xl (to_save m) (none_from_find (is_enabled m s s.now) (candidates m.config) quiet)
+  all_off = after_two Off Stall Xl (to_save m) (none_from_find (is_action_enabled m s s.now) (candidates m.config) quiet)
 
   leave_off : AllByRecursion Off (to_leave m)
-  leave_off = (parts_of Off (to_leave m) (map (λ n. Save (core n)) (numbers_from 0 (core_count m.config))) all_off).0
+  leave_off = (parts_of Off (to_leave m) (map (λ n. Save (core n)) (numbers_from 0 (machine_core_count m.config))) all_off).0
 
   decide_off : AllByRecursion Off (to_decide m)
   decide_off = (parts_of Off (to_decide m) (map (λ n. Leave (processor n)) (numbers_from 0 m.config.processors)) leave_off).0
 
   arrive_off : AllByRecursion Off (to_arrive m)
-  arrive_off = (parts_of Off (to_arrive m) (map (λ n. Decide (core n)) (numbers_from 0 (core_count m.config))) decide_off).0
+  arrive_off = (parts_of Off (to_arrive m) (map (λ n. Decide (core n)) (numbers_from 0 (machine_core_count m.config))) decide_off).0
 
   slice_off : AllByRecursion Off (to_slice m)
   slice_off =
@@ -146,22 +146,22 @@ module _ (m : Machine) (s : State) (checked : IsChecked m) (ready : IsReady m s)
       let b = (parts_of Off (to_repl m) (map (λ n. Refill (domain n)) (numbers_from 0 (length m.config.domains))) a).0 in
       (parts_of Off (to_slice m) (map Repl (units_from m.config.granularity 0 m.config.domains)) b).0
 
-  off_in : (action : Action) → elim (home_of_core s r) as (λ _. Bool) [ None ↦ false | Some j ↦ test_at s.pools j (λ x. enabled_in m.config.granularity s.now x action) ] ≡ false → enabled_in m.config.granularity s.now pool action ≡ false
+  off_in : (action : Action) → elim (home_pool_of_core s r) as (λ _. Bool) [ None ↦ false | Some j ↦ test_at s.pools j (λ x. enabled_in m.config.granularity s.now x action) ] ≡ false → enabled_in m.config.granularity s.now pool action ≡ false
   off_in action off = rw (home, at, test_at) at off
 
   no_slice : enabled_in m.config.granularity s.now pool (Slice (core r)) ≡ false
-  no_slice = off_in (Slice (core r)) (of_number Off (λ n. Slice (core n)) 0 (core_count m.config) r (omega arith) (let b = below in omega (arith, b)) (parts_of Off (to_block m) (map (λ n. Slice (core n)) (numbers_from 0 (core_count m.config))) slice_off).1)
+  no_slice = off_in (Slice (core r)) (of_number Off (λ n. Slice (core n)) 0 (machine_core_count m.config) r (omega arith) (let b = below in omega (arith, b)) (parts_of Off (to_block m) (map (λ n. Slice (core n)) (numbers_from 0 (machine_core_count m.config))) slice_off).1)
 
   no_decide : enabled_in m.config.granularity s.now pool (Decide (core r)) ≡ false
-  no_decide = off_in (Decide (core r)) (of_number Off (λ n. Decide (core n)) 0 (core_count m.config) r (omega arith) (let b = below in omega (arith, b)) (parts_of Off (to_arrive m) (map (λ n. Decide (core n)) (numbers_from 0 (core_count m.config))) decide_off).1)
+  no_decide = off_in (Decide (core r)) (of_number Off (λ n. Decide (core n)) 0 (machine_core_count m.config) r (omega arith) (let b = below in omega (arith, b)) (parts_of Off (to_arrive m) (map (λ n. Decide (core n)) (numbers_from 0 (machine_core_count m.config))) decide_off).1)
 
   no_save : enabled_in m.config.granularity s.now pool (Save (core r)) ≡ false
-  no_save = off_in (Save (core r)) (of_number Off (λ n. Save (core n)) 0 (core_count m.config) r (omega arith) (let b = below in omega (arith, b)) (parts_of Off (to_leave m) (map (λ n. Save (core n)) (numbers_from 0 (core_count m.config))) all_off).1)
+  no_save = off_in (Save (core r)) (of_number Off (λ n. Save (core n)) 0 (machine_core_count m.config) r (omega arith) (let b = below in omega (arith, b)) (parts_of Off (to_leave m) (map (λ n. Save (core n)) (numbers_from 0 (machine_core_count m.config))) all_off).1)
 
   inside : (k : ℕ) → k < length c.processors → r * m.config.granularity + k < m.config.processors
   inside k low =
       let g : ℕ = m.config.granularity in
-      let n : ℕ = core_count m.config in
+      let n : ℕ = machine_core_count m.config in
       let b = below in
       let w = whole in
       let d : m.config.processors / g * g + m.config.processors % g ≡ m.config.processors = div-add-mod' m.config.processors g in
@@ -175,17 +175,17 @@ module _ (m : Machine) (s : State) (checked : IsChecked m) (ready : IsReady m s)
   no_arrive k low =
       let g : ℕ = m.config.granularity in
       let at_r : (r * g + k) / g ≡ r = div-mul-add r g k (let w = whole in omega (arith, low, w)) in
-      off_in (Arrive (processor (r * g + k))) (subst (λ x. elim (home_of_core s x) as (λ _. Bool) [ None ↦ false | Some j ↦ test_at s.pools j (λ y. enabled_in g s.now y (Arrive (processor (r * g + k)))) ] ≡ false) at_r
+      off_in (Arrive (processor (r * g + k))) (subst (λ x. elim (home_pool_of_core s x) as (λ _. Bool) [ None ↦ false | Some j ↦ test_at s.pools j (λ y. enabled_in g s.now y (Arrive (processor (r * g + k)))) ] ≡ false) at_r
       (of_number Off (λ n. Arrive (processor n)) 0 m.config.processors (r * g + k) (omega arith) (let b = inside k low in omega (arith, b)) (parts_of Off (to_refill m) (map (λ n. Arrive (processor n)) (numbers_from 0 m.config.processors)) arrive_off).1))
 
   no_leave : (k : ℕ) → k < length c.processors → enabled_in m.config.granularity s.now pool (Leave (processor (r * m.config.granularity + k))) ≡ false
   no_leave k low =
       let g : ℕ = m.config.granularity in
       let at_r : (r * g + k) / g ≡ r = div-mul-add r g k (let w = whole in omega (arith, low, w)) in
-      off_in (Leave (processor (r * g + k))) (subst (λ x. elim (home_of_core s x) as (λ _. Bool) [ None ↦ false | Some j ↦ test_at s.pools j (λ y. enabled_in g s.now y (Leave (processor (r * g + k)))) ] ≡ false) at_r
+      off_in (Leave (processor (r * g + k))) (subst (λ x. elim (home_pool_of_core s x) as (λ _. Bool) [ None ↦ false | Some j ↦ test_at s.pools j (λ y. enabled_in g s.now y (Leave (processor (r * g + k)))) ] ≡ false) at_r
       (of_number Off (λ n. Leave (processor n)) 0 m.config.processors (r * g + k) (omega arith) (let b = inside k low in omega (arith, b)) (parts_of Off (to_decide m) (map (λ n. Leave (processor n)) (numbers_from 0 m.config.processors)) leave_off).1))
 
-  processor_is : (k : ℕ) (q : Processor) → slice_get c.processors k ≡ Some q → k < length c.processors → processor_of m.config.granularity pool (r * m.config.granularity + k) ≡ Some q
+  processor_is : (k : ℕ) (q : Processor) → slice_get c.processors k ≡ Some q → k < length c.processors → pool_processor m.config.granularity pool (r * m.config.granularity + k) ≡ Some q
   processor_is k q at_k low =
       let g : ℕ = m.config.granularity in
       let at_r : (r * g + k) / g ≡ r = div-mul-add r g k (let w = whole in omega (arith, low, w)) in
@@ -201,40 +201,40 @@ module _ (m : Machine) (s : State) (checked : IsChecked m) (ready : IsReady m s)
   known_core : CoreIsSound m.config.granularity c
   known_core = sound i pool at r c has
 
-  leave_on : (k : ℕ) (q : Processor) → slice_get c.processors k ≡ Some q → is_held q ≡ true → k < length c.processors → is_open c ≡ false → ⊥
+  leave_on : (k : ℕ) (q : Processor) → slice_get c.processors k ≡ Some q → is_held_back q ≡ true → k < length c.processors → is_gathering c ≡ false → ⊥
   leave_on k q at_k held low closed =
       clash (enabled_in m.config.granularity s.now pool (Leave (processor (r * m.config.granularity + k))))
-      (and_from _ _ (core_test k (λ x. not (is_open x)) low (ap not closed)) (rw (processor_is k q at_k low) (and_from (is_held q) (is_up s.now q) held (all_have (is_up s.now) c.processors k q up at_k))))
+      (and_from _ _ (core_test k (λ x. not (is_gathering x)) low (ap not closed)) (rw (processor_is k q at_k low) (and_from (is_held_back q) (is_not_stalled s.now q) held (all_have (is_not_stalled s.now) c.processors k q up at_k))))
       (no_leave k low)
 
-  arrive_on : (k : ℕ) (q : Processor) → slice_get c.processors k ≡ Some q → is_held q ≡ false → k < length c.processors → c.pending ≡ true → is_open c ≡ true → is_none c.saving ≡ true → ⊥
+  arrive_on : (k : ℕ) (q : Processor) → slice_get c.processors k ≡ Some q → is_held_back q ≡ false → k < length c.processors → c.pending ≡ true → is_gathering c ≡ true → is_none c.saving ≡ true → ⊥
   arrive_on k q at_k free low pending open_c none =
       clash (enabled_in m.config.granularity s.now pool (Arrive (processor (r * m.config.granularity + k))))
-      (and_from _ _ (core_test k (λ x. x.pending && is_open x && is_none x.saving) low (and_from (c.pending && is_open c) (is_none c.saving) (and_from c.pending (is_open c) pending open_c) none))
-      (rw (processor_is k q at_k low) (and_from (not (is_held q)) (is_up s.now q) (ap not free) (all_have (is_up s.now) c.processors k q up at_k))))
+      (and_from _ _ (core_test k (λ x. x.pending && is_gathering x && is_none x.saving) low (and_from (c.pending && is_gathering c) (is_none c.saving) (and_from c.pending (is_gathering c) pending open_c) none))
+      (rw (processor_is k q at_k low) (and_from (not (is_held_back q)) (is_not_stalled s.now q) (ap not free) (all_have (is_not_stalled s.now) c.processors k q up at_k))))
       (no_arrive k low)
 
-  decide_on : list_all is_held c.processors ≡ true → is_open c ≡ true → ⊥
+  decide_on : list_all is_held_back c.processors ≡ true → is_gathering c ≡ true → ⊥
   decide_on all open_c =
       clash (enabled_in m.config.granularity s.now pool (Decide (core r)))
-      (test_at-some pool.resources r (λ x. list_all is_held x.processors && is_open x && first_up s.now x) c has (and_from (list_all is_held c.processors && is_open c) (first_up s.now c) (and_from (list_all is_held c.processors) (is_open c) all open_c) core_first)) no_decide
+      (test_at-some pool.resources r (λ x. list_all is_held_back x.processors && is_gathering x && is_first_processor_up s.now x) c has (and_from (list_all is_held_back c.processors && is_gathering c) (is_first_processor_up s.now c) (and_from (list_all is_held_back c.processors) (is_gathering c) all open_c) core_first)) no_decide
 
-  save_on : is_some c.saving ≡ true → list_any is_held c.processors ≡ false → ⊥
+  save_on : is_some c.saving ≡ true → list_any is_held_back c.processors ≡ false → ⊥
   save_on some none =
       clash (enabled_in m.config.granularity s.now pool (Save (core r)))
-      (test_at-some pool.resources r (λ x. is_some x.saving && not (list_any is_held x.processors) && first_up s.now x) c has (and_from (is_some c.saving && not (list_any is_held c.processors)) (first_up s.now c) (and_from (is_some c.saving) (not (list_any is_held c.processors)) some (ap not none)) core_first)) no_save
+      (test_at-some pool.resources r (λ x. is_some x.saving && not (list_any is_held_back x.processors) && is_first_processor_up s.now x) c has (and_from (is_some c.saving && not (list_any is_held_back c.processors)) (is_first_processor_up s.now c) (and_from (is_some c.saving) (not (list_any is_held_back c.processors)) some (ap not none)) core_first)) no_save
 
   not_pending : c.pending ≡ true → ⊥
   not_pending pending =
-      elim (cases_Bool (is_open c)) [
-        | inr closed ↦ (let f = some_passes is_held c.processors (known_core.decided closed) in leave_on f.0 f.1 f.2 f.3 f.4 closed)
-        | inl open_c ↦ elim (cases_Bool (list_all is_held c.processors)) [
+      elim (cases_Bool (is_gathering c)) [
+        | inr closed ↦ (let f = some_passes is_held_back c.processors (known_core.decided closed) in leave_on f.0 f.1 f.2 f.3 f.4 closed)
+        | inl open_c ↦ elim (cases_Bool (list_all is_held_back c.processors)) [
           | inl all ↦ decide_on all open_c
           | inr some ↦ (
-              let f = some_fails is_held c.processors some in
+              let f = some_fails is_held_back c.processors some in
               elim (cases_Bool (is_none c.saving)) [
                 | inl none ↦ arrive_on f.0 f.1 f.2 f.3 f.4 pending open_c none
-                | inr saves_one ↦ elim (cases_Bool (list_any is_held c.processors)) [
+                | inr saves_one ↦ elim (cases_Bool (list_any is_held_back c.processors)) [
                   | inl any ↦ clash (is_none c.saving) (rw (known_core.gathers open_c any).1 refl) saves_one
                   | inr nobody ↦ save_on (some_not_none c.saving saves_one) nobody
                 ]
@@ -248,38 +248,38 @@ module _ (m : Machine) (s : State) (checked : IsChecked m) (ready : IsReady m s)
 
   pub saves_none : is_some c.saving ≡ true → ⊥
   saves_none saves =
-      elim (cases_Bool (list_any is_held c.processors)) [
+      elim (cases_Bool (list_any is_held_back c.processors)) [
         | inr nobody ↦ save_on saves nobody
-        | inl any ↦ elim (cases_Bool (is_open c)) [
+        | inl any ↦ elim (cases_Bool (is_gathering c)) [
           | inl open_c ↦ clash (is_some c.saving) saves (rw (known_core.gathers open_c any).1 refl)
-          | inr closed ↦ (let f = some_passes is_held c.processors any in leave_on f.0 f.1 f.2 f.3 f.4 closed)
+          | inr closed ↦ (let f = some_passes is_held_back c.processors any in leave_on f.0 f.1 f.2 f.3 f.4 closed)
         ]
       ]
 
-  not_due : has_come s.now c.due ≡ true → c.pending ≡ false → ⊥
+  not_due : has_moment_come s.now c.due ≡ true → c.pending ≡ false → ⊥
   not_due come decided =
       clash (enabled_in m.config.granularity s.now pool (Slice (core r)))
-      (test_at-some pool.resources r (λ x. has_come s.now x.due && not x.pending && first_up s.now x) c has (and_from (has_come s.now c.due && not c.pending) (first_up s.now c) (and_from (has_come s.now c.due) (not c.pending) come (ap not decided)) core_first)) no_slice
+      (test_at-some pool.resources r (λ x. has_moment_come s.now x.due && not x.pending && is_first_processor_up s.now x) c has (and_from (has_moment_come s.now c.due && not c.pending) (is_first_processor_up s.now c) (and_from (has_moment_come s.now c.due) (not c.pending) come (ap not decided)) core_first)) no_slice
 
-  is_calm : c.leaving ≡ false → calm s.now (home_cores pool) pool.scheduler r c ≡ true
+  is_calm : c.leaving ≡ false → calm s.now (pool_core_set pool) pool.scheduler r c ≡ true
   is_calm stays =
       let decided : c.pending ≡ false = (elim (cases_Bool c.pending) [ inl p ↦ absurd (not_pending p) | inr p ↦ p ]) in
-      let low : has_come s.now c.due ≡ false = (elim (cases_Bool (has_come s.now c.due)) [ inl p ↦ absurd (not_due p decided) | inr p ↦ p ]) in
+      let low : has_moment_come s.now c.due ≡ false = (elim (cases_Bool (has_moment_come s.now c.due)) [ inl p ↦ absurd (not_due p decided) | inr p ↦ p ]) in
       (ready.pools i pool at).calms r c has stays decided low
 
-pub quiet_event : (m : Machine) (s : State) (e : Event) (action : Option Action) → action ≡ None → IsNextEvent m s e action → first_enabled m s s.now ≡ None
+pub quiet_event : (m : Machine) (s : State) (e : Event) (action : Option Action) → action ≡ None → IsNextEvent m s e action → first_enabled_action m s s.now ≡ None
 quiet_event m s e None is next = next.0
 quiet_event m s e (Some action) is next = absurd (cc)
 
-pub nobody_waits : (m : Machine) → IsChecked m → (before : List Entry) (last : Entry) → IsRun m (before ++ last ∷ []) → action_of last.event ≡ None → NobodyWaits (state_after m before)
+pub nobody_waits : (m : Machine) → IsChecked m → (before : List Entry) (last : Entry) → IsRun m (before ++ last ∷ []) → event_action last.event ≡ None → NobodyWaits (state_after m before)
 nobody_waits m checked before last run is i pool at r c has =
     let parts = split_run m (run_start m) before (last ∷ []) run in
     let s : State = state_after m before in
-    let quiet : first_enabled m s s.now ≡ None = quiet_event m s last.event (action_of last.event) is parts.1.0.event in
+    let quiet : first_enabled_action m s s.now ≡ None = quiet_event m s last.event (event_action last.event) is parts.1.0.event in
     let ready : IsReady m s = ready_in_runs m checked before parts.0 in
     let known = known_in_runs m (AreSound m.config.granularity) (cores_are_sound m.config.granularity (some_processor m.config.granularity checked.config.granularity)) checked before parts.0 in
-    implied (not c.leaving && list_all (is_up s.now) c.processors) (calm s.now (home_cores pool) pool.scheduler r c)
-    (λ may. is_calm m s checked ready (λ j p at_j. known.pools j p at_j) quiet i r pool c at has (and_right (not c.leaving) (list_all (is_up s.now) c.processors) may) (not-true c.leaving (and_left (not c.leaving) (list_all (is_up s.now) c.processors) may)))
+    implied (not c.leaving && list_all (is_not_stalled s.now) c.processors) (calm s.now (pool_core_set pool) pool.scheduler r c)
+    (λ may. is_calm m s checked ready (λ j p at_j. known.pools j p at_j) quiet i r pool c at has (and_right (not c.leaving) (list_all (is_not_stalled s.now) c.processors) may) (not-true c.leaving (and_left (not c.leaving) (list_all (is_not_stalled s.now) c.processors) may)))
   where
     implied : (a b : Bool) → (a ≡ true → b ≡ true) → (not a || b) ≡ true
     implied true b to = to refl

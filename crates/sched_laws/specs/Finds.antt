@@ -4,7 +4,7 @@ use Rattle.sched_model.specs.declared.state.Domain.{Domain}
 use Rattle.sched_model.specs.declared.state.Pool.{Pool}
 use Rattle.sched_model.specs.declared.state.State.{State}
 use Rattle.sched_model.specs.Places.{at_place}
-use Rattle.sched_model.specs.Actions.{home_of_domain}
+use Rattle.sched_model.specs.Actions.{home_pool_of_domain}
 
 -- the pool i is there
 abbrev pub IsThere : State → ℕ → Type 0
@@ -21,7 +21,7 @@ pub record FindsDomain (s : State) (d : ℕ) (P : Pool → Domain → Type 0) : 
   pub home : ℕ
   pub pool : Pool
   pub domain : Domain
-  pub is_home : home_of_domain s d ≡ Some home
+  pub is_home : home_pool_of_domain s d ≡ Some home
   pub at : at_place s.pools home ≡ Some pool
   pub has : at_place pool.domains d ≡ Some domain
   pub meets : P pool domain

@@ -10,13 +10,13 @@ use Rattle.sched_model.specs.declared.state.Records.{Records}
 use Rattle.sched_model.specs.declared.state.Pool.{Pool}
 use Rattle.sched_model.specs.declared.state.State.{State}
 use Rattle.sched_model.specs.declared.machine.Machine.{Machine}
-use Rattle.sched_model.specs.State.{is_runnable, is_up}
+use Rattle.sched_model.specs.State.{may_unit_run, is_not_stalled}
 use Rattle.sched_model.specs.declared.state.Records.TheVariants.{Credit2Pool, RtdsPool, ArincPool, NullPool}
-use Rattle.sched_model.specs.EligibleUnits.{is_eligible, is_allowed}
-use Rattle.sched_model.specs.Rtds.{unit_before}
-use Rattle.sched_model.specs.Pool.{home_cores, is_held, is_open, unit_of}
+use Rattle.sched_model.specs.EligibleUnits.{is_unit_eligible, is_unit_allowed}
+use Rattle.sched_model.specs.Rtds.{is_unit_before}
+use Rattle.sched_model.specs.Pool.{pool_core_set, is_held_back, is_gathering, vcpu_unit}
 use Rattle.sched_model.specs.Actions.{units_from}
-use Rattle.sched_model.specs.Machine.{first_enabled, after, next_in_horizon}
+use Rattle.sched_model.specs.Machine.{first_enabled_action, after, next_in_horizon}
 
 -- whether the first implies the second
 abbrev pub implies : Bool → Bool → Bool
@@ -34,7 +34,7 @@ count s u = sum_by (λ e. count_in e.1 u) (numbered_items 0 s.pools)
 
 -- whether the unit is runnable in the pool that has its domain
 abbrev pub runs_somewhere : ℕ → State → UnitId → Bool
-runs_somewhere g s u = list_any (λ e. is_runnable g e.1 u) (numbered_items 0 s.pools)
+runs_somewhere g s u = list_any (λ e. may_unit_run g e.1 u) (numbered_items 0 s.pools)
 
 -- the unit has at most one place, and one where it is runnable; a unit that is not runnable does not wait
 abbrev pub has_one_place : ℕ → State → UnitId → Bool
@@ -45,11 +45,11 @@ has_one_place g s u =
 
 -- a core whose own unit is not runnable is to decide anew
 abbrev pub cur_runs : ℕ → Pool → Resource → Bool
-cur_runs g pool c = elim c.cur [ None ↦ true | Some u ↦ is_runnable g pool u || c.pending ]
+cur_runs g pool c = elim c.cur [ None ↦ true | Some u ↦ may_unit_run g pool u || c.pending ]
 
 -- the i-th processor of the core runs a vCPU of the core's unit, and the one at its place
 abbrev pub is_own_guest : ℕ → Resource → ℕ × Processor → Bool
-is_own_guest g c e = elim e.1.doing [ Guest v ↦ is_unit c.cur (unit_of g v) && v.n % g == e.0 | Idle ↦ true | Held ↦ true ]
+is_own_guest g c e = elim e.1.doing [ Guest v ↦ is_unit c.cur (vcpu_unit g v) && v.n % g == e.0 | Idle ↦ true | Held ↦ true ]
 
 -- the unit that stands there, if any does, is of a domain of the pool
 abbrev pub is_of_pool : Pool → Option UnitId → Bool
@@ -59,8 +59,8 @@ is_of_pool pool (Some u) = is_some (at_place pool.domains u.dom.0)
 -- the stage of the core fits its processors, its mark and its saved unit
 abbrev pub stage_fits : Resource → Bool
 stage_fits c =
-    implies (not (is_open c)) (list_any is_held c.processors)
-    && implies (is_open c && list_any is_held c.processors) (c.pending && is_none c.saving)
+    implies (not (is_gathering c)) (list_any is_held_back c.processors)
+    && implies (is_gathering c && list_any is_held_back c.processors) (c.pending && is_none c.saving)
 
 -- all that holds of a core of the pool
 abbrev pub is_sound_core : ℕ → Pool → Resource → Bool
@@ -79,18 +79,18 @@ is_sound m s =
 -- whether the unit runs before the core's own, where the pool is one of RTDS
 abbrev pub is_more_urgent : Records → UnitId → UnitId → Bool
 is_more_urgent (Credit2Pool records) cur u = false
-is_more_urgent (RtdsPool domains) cur u = unit_before domains u cur
+is_more_urgent (RtdsPool domains) cur u = is_unit_before domains u cur
 is_more_urgent (ArincPool records) cur u = false
 is_more_urgent (NullPool kept) cur u = false
 
 -- nobody waits for the core without need: it does not idle while a unit is eligible, its own unit is allowed, and none is more urgent
 abbrev pub keeps_none_waiting : ℕ → Pool → ℕ × Resource → Bool
 keeps_none_waiting t pool e =
-    implies (not e.1.leaving && list_all (is_up t) e.1.processors) (elim e.1.cur [
-      | None ↦ not (list_any (is_eligible pool.scheduler (home_cores pool) e.0 t) pool.scheduler.queue)
+    implies (not e.1.leaving && list_all (is_not_stalled t) e.1.processors) (elim e.1.cur [
+      | None ↦ not (list_any (is_unit_eligible pool.scheduler (pool_core_set pool) e.0 t) pool.scheduler.queue)
       | Some cur ↦
-          is_allowed pool.scheduler (home_cores pool) e.0 cur
-          && not (list_any (λ u. is_eligible pool.scheduler (home_cores pool) e.0 t u && is_more_urgent pool.scheduler.records cur u) pool.scheduler.queue)
+          is_unit_allowed pool.scheduler (pool_core_set pool) e.0 cur
+          && not (list_any (λ u. is_unit_eligible pool.scheduler (pool_core_set pool) e.0 t u && is_more_urgent pool.scheduler.records cur u) pool.scheduler.queue)
     ])
 
 -- no core keeps a unit waiting without need
@@ -103,7 +103,7 @@ ordered_run_is_sound zero m s = is_sound m s
 ordered_run_is_sound (suc entries) m s =
     elim (is_sound m s) [
       | false ↦ false
-      | true ↦ elim (first_enabled m s s.now) [
+      | true ↦ elim (first_enabled_action m s s.now) [
         | Some action ↦ ordered_run_is_sound entries m (after m s s.now action)
         | None ↦ elim (is_quiet s) [
           | false ↦ false

@@ -12,10 +12,10 @@ use Rattle.sched_model.specs.declared.state.State.{State}
 use Rattle.sched_model.specs.declared.state.Resource.{Resource}
 use Rattle.sched_model.specs.declared.state.Records.TheVariants.{NullPool}
 use Rattle.sched_model.specs.Places.{at_place}
-use Rattle.sched_model.specs.State.{is_runnable, is_up}
-use Rattle.sched_model.specs.EligibleUnits.{is_allowed, is_placed}
-use Rattle.sched_model.specs.Pool.{home_cores}
-use Rattle.sched_model.specs.Runs.{action_of}
+use Rattle.sched_model.specs.State.{may_unit_run, is_not_stalled}
+use Rattle.sched_model.specs.EligibleUnits.{is_unit_allowed, is_unit_placed}
+use Rattle.sched_model.specs.Pool.{pool_core_set}
+use Rattle.sched_model.specs.Runs.{event_action}
 use Rattle.sched_laws.specs.EachPlace.{EachPlace}
 
 -- the pool is one of the null scheduler, which keeps these units for its cores
@@ -26,7 +26,7 @@ Keeps pool kept = pool.scheduler.records ≡ NullPool kept
 pub record IsGiven (pool : Pool) (r : ℕ) (u : UnitId) : Type 0 where
   pub kept : List (Option UnitId)
   pub keeps : Keeps pool kept
-  pub placed : is_placed pool.scheduler kept (home_cores pool) r u ≡ true
+  pub placed : is_unit_placed pool.scheduler kept (pool_core_set pool) r u ≡ true
 
 -- no two cores of a null pool are given to the same unit
 abbrev pub NoUnitHasTwoCores : State → Type 0
@@ -39,7 +39,7 @@ chosen_by _ = None
 
 -- the core may lose its unit: it is leaving, or the unit is not runnable, or is not allowed there
 abbrev pub MayLose : ℕ → Pool → ℕ → Resource → UnitId → Type 0
-MayLose g pool r core u = (core.leaving ≡ true) ⊎ (is_runnable g pool u ≡ false) ⊎ (is_allowed pool.scheduler (home_cores pool) r u ≡ false)
+MayLose g pool r core u = (core.leaving ≡ true) ⊎ (may_unit_run g pool u ≡ false) ⊎ (is_unit_allowed pool.scheduler (pool_core_set pool) r u ≡ false)
 
 -- the entry is a Decide of the core r of this null pool
 pub record DecidesIn (s : State) (entry : Entry) (pool : Pool) (r : ℕ) (core : Resource) : Type 0 where
@@ -48,7 +48,7 @@ pub record DecidesIn (s : State) (entry : Entry) (pool : Pool) (r : ℕ) (core :
   pub kept : List (Option UnitId)
   pub keeps : Keeps pool kept
   pub core_at : at_place pool.resources r ≡ Some core
-  pub decides : action_of entry.event ≡ Some (Decide (core_number r))
+  pub decides : event_action entry.event ≡ Some (Decide (core_number r))
 
 -- a Decide of a core of a null pool keeps the core's unit, unless the core may lose it
 abbrev pub StayEndsWithCause : ℕ → State → Entry → Type 0
@@ -60,9 +60,9 @@ GivenUnitsGoNowhereElse s entry = (pool : Pool) (q r : ℕ) (core : Resource) (u
 
 -- the core has the unit, unless it is leaving or a processor of it is stalled
 abbrev pub RunsUnlessHindered : ℕ → UnitId → Resource → Type 0
-RunsUnlessHindered t u core = core.leaving ≡ false → list_all (is_up t) core.processors ≡ true → core.cur ≡ Some u
+RunsUnlessHindered t u core = core.leaving ≡ false → list_all (is_not_stalled t) core.processors ≡ true → core.cur ≡ Some u
 
 -- each runnable unit that a null pool has given a core is that core's own
 abbrev pub GivenUnitsRun : ℕ → State → Type 0
 GivenUnitsRun g s =
-    EachPlace (λ (pool : Pool). (r : ℕ) (u : UnitId) → IsGiven pool r u → is_runnable g pool u ≡ true → (core : Resource) × (at_place pool.resources r ≡ Some core) × RunsUnlessHindered s.now u core) s.pools
+    EachPlace (λ (pool : Pool). (r : ℕ) (u : UnitId) → IsGiven pool r u → may_unit_run g pool u ≡ true → (core : Resource) × (at_place pool.resources r ≡ Some core) × RunsUnlessHindered s.now u core) s.pools

@@ -11,7 +11,7 @@ use Rattle.sched_model.specs.declared.state.Doing.TheVariants.{Guest}
 use Rattle.sched_model.specs.declared.state.Processor.{Processor}
 use Rattle.sched_model.specs.declared.state.Resource.{Resource}
 use Rattle.sched_model.specs.declared.state.Pool.{Pool}
-use Rattle.sched_model.specs.State.{is_runnable, runnable_among}
+use Rattle.sched_model.specs.State.{may_unit_run, runnable_among}
 use Rattle.sched_model.specs.Pool as pools
 use Rattle.sched_model.specs.Pool.{decided_core as decided}
 use Rattle.sched_laws.specs.EachPlace.{EachPlace}
@@ -39,9 +39,9 @@ pub record UnitsAreOwn (pool : Pool) : Type 0 where
 
 -- the processors of a core, and its stage
 pub record CoreIsSound (g : ℕ) (c : Resource) : Type 0 where
-  pub guests : (i : ℕ) (p : Processor) (v : VcpuId) → slice_get c.processors i ≡ Some p → p.doing ≡ Guest v → (c.cur ≡ Some (pools.unit_of g v)) × (v.n % g ≡ i)
-  pub decided : pools.is_open c ≡ false → list_any pools.is_held c.processors ≡ true
-  pub gathers : pools.is_open c ≡ true → list_any pools.is_held c.processors ≡ true → (c.pending ≡ true) × (c.saving ≡ None)
+  pub guests : (i : ℕ) (p : Processor) (v : VcpuId) → slice_get c.processors i ≡ Some p → p.doing ≡ Guest v → (c.cur ≡ Some (pools.vcpu_unit g v)) × (v.n % g ≡ i)
+  pub decided : pools.is_gathering c ≡ false → list_any pools.is_held_back c.processors ≡ true
+  pub gathers : pools.is_gathering c ≡ true → list_any pools.is_held_back c.processors ≡ true → (c.pending ≡ true) × (c.saving ≡ None)
 
 abbrev pub AreSound : ℕ → Pool → Type 0
 AreSound g pool = EachPlace (CoreIsSound g) pool.resources
@@ -61,8 +61,8 @@ CurRuns g domains c = (u : UnitId) → c.cur ≡ Some u → (runnable_among g do
 -- each unit has at most one place; a runnable one has a place, or is one of those that are yet to get one; those that wait are runnable
 pub record OneBut (g : ℕ) (Rest : UnitId → Type 0) (pool : Pool) : Type 0 where
   pub most : (u : UnitId) → places pool u ≤ 1
-  pub runs : (u : UnitId) → is_runnable g pool u ≡ true → (1 ≤ places pool u) ⊎ Rest u
-  pub waits : AllByRecursion (λ u. is_runnable g pool u ≡ true) pool.scheduler.queue
+  pub runs : (u : UnitId) → may_unit_run g pool u ≡ true → (1 ≤ places pool u) ⊎ Rest u
+  pub waits : AllByRecursion (λ u. may_unit_run g pool u ≡ true) pool.scheduler.queue
   pub cur : EachPlace (CurRuns g pool.domains) pool.resources
 
 abbrev pub OnePlace : ℕ → Pool → Type 0

@@ -12,10 +12,10 @@ use Rattle.sched_model.specs.Places.{at_place, test_at}
 use Rattle.sched_model.specs.declared.machine.Machine.{Machine}
 use Rattle.sched_model.specs.declared.state.State.{State}
 use Rattle.sched_model.specs.declared.state.Pool.{Pool}
-use Rattle.sched_model.specs.State.{is_runnable}
+use Rattle.sched_model.specs.State.{may_unit_run}
 use Rattle.sched_laws.specs.Laws.{count, runs_somewhere}
-use Rattle.sched_model.specs.Pool.{unit_of}
-use Rattle.sched_model.specs.Actions.{home_of_core, home_of_domain}
+use Rattle.sched_model.specs.Pool.{vcpu_unit}
+use Rattle.sched_model.specs.Actions.{home_pool_of_core, home_pool_of_domain}
 use Rattle.sched_model.specs.Runs.{run_start, after_entries}
 use Rattle.sched_laws.specs.EachPlace.{EachAt, EachPlace}
 use Rattle.sched_model.specs.declared.action.Action.{Action}
@@ -27,7 +27,7 @@ state_after m entries = (after_entries m (run_start m) entries).state
 
 -- the home of the unit's domain is the pool i
 abbrev pub IsOfPool : State → ℕ → UnitId → Type 0
-IsOfPool s i u = home_of_domain s u.dom.0 ≡ Some i
+IsOfPool s i u = home_pool_of_domain s u.dom.0 ≡ Some i
 
 -- the units that wait in the pool i, and those of its cores, are of domains of the pool
 pub record UnitsAreOfPool (s : State) (i : ℕ) (pool : Pool) : Type 0 where
@@ -49,11 +49,11 @@ pub record PoolsKeepTheirOwn (s : State) : Type 0 where
   pub units : EachAt (UnitsAreOfPool s) s.pools
   pub cores : (i j r : ℕ) → has_core_at s i r ≡ true → has_core_at s j r ≡ true → i ≡ j
   pub domains : (i j d : ℕ) → has_domain_at s i d ≡ true → has_domain_at s j d ≡ true → i ≡ j
-  pub free : (r : ℕ) → ForSome (at_place s.free r) (λ c. home_of_core s r ≡ None)
+  pub free : (r : ℕ) → ForSome (at_place s.free r) (λ c. home_pool_of_core s r ≡ None)
 
 -- a processor that runs a vCPU has its core run that vCPU's unit, and stands at the vCPU's place in it
 pub record RunsItsUnit (g : ℕ) (core : Resource) (i : ℕ) (p : Processor) : Type 0 where
-  pub unit : (v : VcpuId) → p.doing ≡ Guest v → core.cur ≡ Some (unit_of g v)
+  pub unit : (v : VcpuId) → p.doing ≡ Guest v → core.cur ≡ Some (vcpu_unit g v)
   pub place : (v : VcpuId) → p.doing ≡ Guest v → v.n % g ≡ i
 
 -- each processor does, so two processors of a core that run vCPUs run vCPUs of one unit
@@ -65,8 +65,8 @@ SiblingsRunOneUnit g s = EachPlace (λ (pool : Pool). EachPlace (λ (c : Resourc
 pub record UnitsHaveOnePlace (g : ℕ) (s : State) : Type 0 where
   pub most : (u : UnitId) → count s u ≤ 1
   pub runnable : (u : UnitId) → runs_somewhere g s u ≡ true → count s u ≡ 1
-  pub waits : EachPlace (λ (pool : Pool). All (λ u. is_runnable g pool u ≡ true) pool.scheduler.queue) s.pools
-  pub pending : EachPlace (λ (pool : Pool). EachPlace (λ (c : Resource). IfSome c.cur (λ u. is_runnable g pool u ≡ false → c.pending ≡ true)) pool.resources) s.pools
+  pub waits : EachPlace (λ (pool : Pool). All (λ u. may_unit_run g pool u ≡ true) pool.scheduler.queue) s.pools
+  pub pending : EachPlace (λ (pool : Pool). EachPlace (λ (c : Resource). IfSome c.cur (λ u. may_unit_run g pool u ≡ false → c.pending ≡ true)) pool.resources) s.pools
 
 -- the action moves no core and no domain
 abbrev pub MovesNothing : Action → Type 0

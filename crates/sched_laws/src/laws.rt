@@ -6,7 +6,7 @@ ghost use Rattle.std.specs.List.{All};
 ghost use Rattle.sched_model.specs.declared.event.Entry.{Entry};
 ghost use Rattle.sched_model.specs.declared.machine.Machine.{Machine};
 ghost use Rattle.sched_model.specs.declared.action.Action.TheVariants.{Arrive};
-ghost use Rattle.sched_model.specs.Runs.{IsRun, action_of};
+ghost use Rattle.sched_model.specs.Runs.{IsRun, event_action};
 ghost use Rattle.sched_laws.specs.NullLaws.{GivenUnitsGoNowhereElse, GivenUnitsRun, NoUnitHasTwoCores, StayEndsWithCause};
 ghost use Rattle.sched_laws.specs.RunLaws.{IsNoDecideOf, NobodyWaits, StillWaits};
 ghost use Rattle.sched_model.specs.CheckedMachine.{IsChecked};
@@ -34,7 +34,7 @@ pub fn law_one_place()
 pub fn law_still_waits()
     ensures { (m : Machine) → IsChecked m →
         (before : List Entry) (arrive : Entry) (later : List Entry) (p : ℕ) →
-        IsRun m (before ++ arrive ∷ later) → action_of arrive.event ≡ Some (Arrive (processor p)) →
+        IsRun m (before ++ arrive ∷ later) → event_action arrive.event ≡ Some (Arrive (processor p)) →
         All (IsNoDecideOf (p / m.config.granularity)) later →
         StillWaits m p (state_after m (before ++ arrive ∷ later)) }
 {}
@@ -42,7 +42,7 @@ pub fn law_still_waits()
 /// Before each End and Finish nobody waits for a core without need.
 pub fn law_waiting()
     ensures { (m : Machine) → IsChecked m → (before : List Entry) (last : Entry) →
-        IsRun m (before ++ last ∷ []) → action_of last.event ≡ None →
+        IsRun m (before ++ last ∷ []) → event_action last.event ≡ None →
         NobodyWaits (state_after m before) }
 {}
 
@@ -58,6 +58,6 @@ pub fn law_null_kept()
     ensures own_core { (m : Machine) → IsChecked m → (entries : List Entry) (next : Entry) →
         IsRun m (entries ++ next ∷ []) → GivenUnitsGoNowhereElse (state_after m entries) next }
     ensures running { (m : Machine) → IsChecked m → (before : List Entry) (last : Entry) →
-        IsRun m (before ++ last ∷ []) → action_of last.event ≡ None →
+        IsRun m (before ++ last ∷ []) → event_action last.event ≡ None →
         GivenUnitsRun m.config.granularity (state_after m before) }
 {}

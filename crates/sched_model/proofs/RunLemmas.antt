@@ -7,9 +7,9 @@ use Rattle.sched_base.specs.Numbers.{moment}
 use Rattle.sched_model.specs.State.{Machine, State}
 use Rattle.sched_model.specs.Pool.{Action}
 use Rattle.sched_model.specs.declared.action.Action.TheVariants.{Stall, Xl, Moved, DomMoved, Wake, Block, Slice, Repl, Refill, Arrive, Decide, Leave, Save}
-use Rattle.sched_model.specs.Machine.{is_enabled, first_enabled, event_of, after, next_in_horizon, ordered_run}
+use Rattle.sched_model.specs.Machine.{is_action_enabled, first_enabled_action, event_of, after, next_in_horizon, ordered_run}
 use Rattle.sched_model.specs.Actions.{candidates}
-use Rattle.sched_model.specs.Runs.{Reached, action_of, IsNext, IsRunFrom, after_entry, after_entries}
+use Rattle.sched_model.specs.Runs.{Reached, event_action, IsNext, IsRunFrom, after_entry, after_entries}
 
 -- where the run has come to after the entries and one more
 pub after_entries-append : (m : Machine) (from : Reached) (entries : List Entry) (entry : Entry) → after_entries m from (entries ++ entry ∷ []) ≡ after_entry m (after_entries m from entries) entry
@@ -22,7 +22,7 @@ IsRunFrom-append m from [] entry run next = (next, tt)
 IsRunFrom-append m from (first ∷ entries) entry run next = (run.0, IsRunFrom-append m (after_entry m from first) entries entry run.1 next)
 
 -- the event of an action has the action's kind and subject
-pub action_of-event_of : (m : Machine) (s : State) (t : ℕ) (action : Action) → action_of (event_of m s t action) ≡ Some action
+pub action_of-event_of : (m : Machine) (s : State) (t : ℕ) (action : Action) → event_action (event_of m s t action) ≡ Some action
 action_of-event_of m s t Stall = refl
 action_of-event_of m s t Xl = refl
 action_of-event_of m s t (Moved r) = refl
@@ -47,7 +47,7 @@ find_passes {X} test (y ∷ ys) x found =
     ] refl found
 
 -- an enabled action's event may come next
-pub IsNext-action : (m : Machine) (s : State) (action : Action) → is_enabled m s s.now action ≡ true → IsNext m (record { state = s; over = false }) (record { at = moment s.now; event = event_of m s s.now action })
+pub IsNext-action : (m : Machine) (s : State) (action : Action) → is_action_enabled m s s.now action ≡ true → IsNext m (record { state = s; over = false }) (record { at = moment s.now; event = event_of m s s.now action })
 IsNext-action m s action on = record { goes_on = refl; moment = refl; event = rw action_of-event_of (on, refl) }
 
 -- and leads to the state after the action
@@ -58,7 +58,7 @@ after_entry-action m s action = rw action_of-event_of
 pub ordered_run-IsRunFrom : (entries : ℕ) (m : Machine) (s : State) → IsRunFrom m (record { state = s; over = false }) (ordered_run entries m s)
 ordered_run-IsRunFrom zero m s = tt
 ordered_run-IsRunFrom (suc n) m s =
-    elim (first_enabled m s s.now) as (λ o. first_enabled m s s.now ≡ o → IsRunFrom m (record { state = s; over = false }) (elim o [
+    elim (first_enabled_action m s s.now) as (λ o. first_enabled_action m s s.now ≡ o → IsRunFrom m (record { state = s; over = false }) (elim o [
       | Some action ↦ record { at = moment s.now; event = event_of m s s.now action } ∷ ordered_run n m (after m s s.now action)
       | None ↦ elim (next_in_horizon m s) [
         | Some next ↦ record { at = moment s.now; event = event.End (moment next) } ∷ ordered_run n m (record s { now = next })
@@ -66,7 +66,7 @@ ordered_run-IsRunFrom (suc n) m s =
       ]
     ])) [
       | Some action ↦ λ is. (
-        IsNext-action m s action (find_passes (is_enabled m s s.now) (candidates m.config) action is),
+        IsNext-action m s action (find_passes (is_action_enabled m s s.now) (candidates m.config) action is),
         subst (λ from. IsRunFrom m from (ordered_run n m (after m s s.now action))) (sym (after_entry-action m s action)) (ordered_run-IsRunFrom n m (after m s s.now action)),
       )
       | None ↦ λ is. elim (next_in_horizon m s) as (λ o. next_in_horizon m s ≡ o → IsRunFrom m (record { state = s; over = false }) (elim o [

@@ -7,33 +7,33 @@ use Rattle.sched_model.specs.declared.config.Config.{Config}
 use Rattle.sched_model.specs.declared.config.DomConfig.{DomConfig}
 use Rattle.sched_model.specs.Places.{at_place, change_at, first_place, numbers_from}
 use Rattle.sched_model.specs.State.{Pool, State}
-use Rattle.sched_model.specs.Opening.{core_count}
+use Rattle.sched_model.specs.Opening.{machine_core_count}
 use Rattle.sched_model.specs.Pool.{Action}
 use Rattle.sched_model.specs.declared.action.Action.TheVariants.{Stall, Xl, Moved, DomMoved, Wake, Block, Slice, Repl, Refill, Arrive, Decide, Leave, Save}
 
 -- the pool that has the core
-abbrev pub home_of_core : State → ℕ → Option ℕ
-home_of_core s r = first_place 0 (λ pool. is_some (at_place pool.resources r)) s.pools
+abbrev pub home_pool_of_core : State → ℕ → Option ℕ
+home_pool_of_core s r = first_place 0 (λ pool. is_some (at_place pool.resources r)) s.pools
 
 -- the pool that has the domain
-abbrev pub home_of_domain : State → ℕ → Option ℕ
-home_of_domain s d = first_place 0 (λ pool. is_some (at_place pool.domains d)) s.pools
+abbrev pub home_pool_of_domain : State → ℕ → Option ℕ
+home_pool_of_domain s d = first_place 0 (λ pool. is_some (at_place pool.domains d)) s.pools
 
 -- the pool of the action's subject
-abbrev pub home_of : ℕ → State → Action → Option ℕ
-home_of g s Stall = None
-home_of g s Xl = None
-home_of g s (Moved r) = home_of_core s r.0
-home_of g s (DomMoved d) = home_of_domain s d.0
-home_of g s (Wake v) = home_of_domain s v.dom.0
-home_of g s (Block p) = home_of_core s (p.0 / g)
-home_of g s (Slice r) = home_of_core s r.0
-home_of g s (Repl u) = home_of_domain s u.dom.0
-home_of g s (Refill d) = home_of_domain s d.0
-home_of g s (Arrive p) = home_of_core s (p.0 / g)
-home_of g s (Decide r) = home_of_core s r.0
-home_of g s (Leave p) = home_of_core s (p.0 / g)
-home_of g s (Save r) = home_of_core s r.0
+abbrev pub home_pool_of_action : ℕ → State → Action → Option ℕ
+home_pool_of_action g s Stall = None
+home_pool_of_action g s Xl = None
+home_pool_of_action g s (Moved r) = home_pool_of_core s r.0
+home_pool_of_action g s (DomMoved d) = home_pool_of_domain s d.0
+home_pool_of_action g s (Wake v) = home_pool_of_domain s v.dom.0
+home_pool_of_action g s (Block p) = home_pool_of_core s (p.0 / g)
+home_pool_of_action g s (Slice r) = home_pool_of_core s r.0
+home_pool_of_action g s (Repl u) = home_pool_of_domain s u.dom.0
+home_pool_of_action g s (Refill d) = home_pool_of_domain s d.0
+home_pool_of_action g s (Arrive p) = home_pool_of_core s (p.0 / g)
+home_pool_of_action g s (Decide r) = home_pool_of_core s r.0
+home_pool_of_action g s (Leave p) = home_pool_of_core s (p.0 / g)
+home_pool_of_action g s (Save r) = home_pool_of_core s r.0
 
 -- the vCPUs of all domains in order; the first domain of the list has the number d
 abbrev pub vcpus_from : ℕ → List DomConfig → List VcpuId
@@ -53,7 +53,7 @@ units_from g d (domain ∷ domains) = map (λ n. record { dom = domain_number d;
 abbrev pub candidates : Config → List Action
 candidates config =
     let g = config.granularity in
-    let cores = numbers_from 0 (core_count config) in
+    let cores = numbers_from 0 (machine_core_count config) in
     let processors = numbers_from 0 config.processors in
     let domains = numbers_from 0 (length config.domains) in
     Stall ∷ Xl ∷ map (λ n. Moved (core n)) cores ++ map (λ n. DomMoved (domain_number n)) domains ++ map Wake (vcpus_from 0 config.domains) ++ map (λ n. Block (processor n)) processors

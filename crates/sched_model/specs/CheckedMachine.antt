@@ -4,7 +4,7 @@ pub use Rattle.sched_base.specs.Numbers.{most_span}
 use Rattle.std.specs.List.{All}
 use Rattle.std.specs.Option.{IfSome}
 use Rattle.std.specs.Result.{IfOk, IfErr}
-use Rattle.sched_base.specs.Names.{is_name}
+use Rattle.sched_base.specs.Names.{is_valid_name}
 use Rattle.sched_base.specs.declared.Span.{Span}
 use Rattle.sched_base.specs.declared.Cores.{Cores}
 use Rattle.sched_model.specs.declared.config.Config.{Config}
@@ -27,8 +27,8 @@ use Rattle.sched_model.specs.declared.command.Which.TheVariants.{Name, Number}
 use Rattle.sched_model.specs.declared.work.Work.{Work}
 use Rattle.sched_model.specs.declared.work.StallLine.{StallLine}
 use Rattle.sched_model.specs.declared.work.CommandLine.{CommandLine}
-use Rattle.sched_model.specs.State.{Machine, has_core}
-use Rattle.sched_model.specs.Opening.{core_count}
+use Rattle.sched_model.specs.State.{Machine, has_core_bit}
+use Rattle.sched_model.specs.Opening.{machine_core_count}
 use Rattle.sched_model.specs.Actions.{units_from}
 
 -- the number is in the range
@@ -63,10 +63,10 @@ PoolParamsPass config kind params = ⊥
 
 -- a pool of the file: an ARINC 653 pool has one core at most
 pub record IsCheckedPool (config : Config) (pool : PoolConfig) : Type 0 where
-  pub name : is_name pool.name ≡ true
-  pub cores : pool.cores < 2 ^ core_count config
+  pub name : is_valid_name pool.name ≡ true
+  pub cores : pool.cores < 2 ^ machine_core_count config
   pub params : PoolParamsPass config pool.kind pool.params
-  pub one_core : pool.kind ≡ kinds.Arinc653 → (r s : ℕ) → has_core pool.cores r ≡ true → has_core pool.cores s ≡ true → r ≡ s
+  pub one_core : pool.kind ≡ kinds.Arinc653 → (r s : ℕ) → has_core_bit pool.cores r ≡ true → has_core_bit pool.cores s ≡ true → r ≡ s
 
 -- a script has an even count of spans, at most 64
 pub record IsCheckedScript (script : List Span) : Type 0 where
@@ -85,11 +85,11 @@ DomParamsPass kind params = ⊥
 -- no sets of cores at all, or one for each unit, each with a core of the machine
 pub record IsCheckedPins (config : Config) (domain : DomConfig) : Type 0 where
   pub count : (domain.pins ≡ []) ⊎ (length domain.pins ≡ length (units_from config.granularity 0 (domain ∷ [])))
-  pub cores : All (λ (c : Cores). IsWithin 1 (2 ^ core_count config - 1) c.0) domain.pins
+  pub cores : All (λ (c : Cores). IsWithin 1 (2 ^ machine_core_count config - 1) c.0) domain.pins
 
 -- a domain of the file: its home is a pool with a core, and it has 1 to 32 vCPUs
 pub record IsCheckedDomain (config : Config) (domain : DomConfig) : Type 0 where
-  pub name : is_name domain.name ≡ true
+  pub name : is_valid_name domain.name ≡ true
   pub home : domain.home.0 < length config.pools
   pub home_pool : (pool : PoolConfig) → slice_get config.pools domain.home.0 ≡ Some pool → (0 < pool.cores) × DomParamsPass pool.kind domain.params
   pub some_guest : 1 ≤ length domain.guests
@@ -107,7 +107,7 @@ pub record IsCheckedConfig (config : Config) : Type 0 where
   pub few_pools : length config.pools ≤ 16
   pub few_domains : length config.domains ≤ 64
   pub pools : All (IsCheckedPool config) config.pools
-  pub cores_apart : (i j r : ℕ) (p q : PoolConfig) → slice_get config.pools i ≡ Some p → slice_get config.pools j ≡ Some q → has_core p.cores r ≡ true → has_core q.cores r ≡ true → i ≡ j
+  pub cores_apart : (i j r : ℕ) (p q : PoolConfig) → slice_get config.pools i ≡ Some p → slice_get config.pools j ≡ Some q → has_core_bit p.cores r ≡ true → has_core_bit q.cores r ≡ true → i ≡ j
   pub pool_names_apart : (i j : ℕ) (p q : PoolConfig) → slice_get config.pools i ≡ Some p → slice_get config.pools j ≡ Some q → p.name ≡ q.name → i ≡ j
   pub domains : All (IsCheckedDomain config) config.domains
   pub domain_names_apart : (i j : ℕ) (d e : DomConfig) → slice_get config.domains i ≡ Some d → slice_get config.domains j ≡ Some e → d.name ≡ e.name → i ≡ j
@@ -123,7 +123,7 @@ IsGivenNumber n = IfSome n IsNumber
 
 -- a pool or a domain as a command names it
 abbrev pub IsCheckedWhich : Which → Type 0
-IsCheckedWhich (Name name) = is_name name ≡ true
+IsCheckedWhich (Name name) = is_valid_name name ≡ true
 IsCheckedWhich (Number n) = IsNumber n
 
 -- an entry of the frame that a command sets
@@ -139,9 +139,9 @@ IsCheckedRange range = (range.0 ≤ range.1) × IsNumber range.1
 -- a command that has a reading
 abbrev pub IsCheckedCommand : Command → Type 0
 IsCheckedCommand (command.PoolList pool) = IfSome pool IsCheckedWhich
-IsCheckedCommand (command.PoolCreate name sched) = is_name name ≡ true
+IsCheckedCommand (command.PoolCreate name sched) = is_valid_name name ≡ true
 IsCheckedCommand (command.PoolDestroy pool) = IsCheckedWhich pool
-IsCheckedCommand (command.PoolRename pool name) = IsCheckedWhich pool × (is_name name ≡ true)
+IsCheckedCommand (command.PoolRename pool name) = IsCheckedWhich pool × (is_valid_name name ≡ true)
 IsCheckedCommand (command.CpuAdd pool cpu) = IsCheckedWhich pool × IsNumber cpu
 IsCheckedCommand (command.CpuRemove pool cpu) = IsCheckedWhich pool × IsNumber cpu
 IsCheckedCommand (command.Migrate dom pool) = IsCheckedWhich dom × IsCheckedWhich pool

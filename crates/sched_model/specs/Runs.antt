@@ -7,31 +7,31 @@ use Rattle.sched_model.specs.State.{Machine, State}
 use Rattle.sched_model.specs.Opening.{opening}
 use Rattle.sched_model.specs.Pool.{Action}
 use Rattle.sched_model.specs.declared.action.Action.TheVariants.{Stall, Xl, Moved, DomMoved, Wake, Block, Slice, Repl, Refill, Arrive, Decide, Leave, Save}
-use Rattle.sched_model.specs.Machine.{is_enabled, first_enabled, event_of, after, next_in_horizon}
+use Rattle.sched_model.specs.Machine.{is_action_enabled, first_enabled_action, event_of, after, next_in_horizon}
 use Rattle.sched_base.specs.Numbers.{moment}
 
 -- the action whose event it is, where it is one of an action
-abbrev pub action_of : Event → Option Action
-action_of (event.Stall p until) = Some Stall
-action_of (event.Xl k answer) = Some Xl
-action_of (event.Moved r to) = Some (Moved r)
-action_of (event.DomMoved d to) = Some (DomMoved d)
-action_of (event.Wake v) = Some (Wake v)
-action_of (event.Block p v) = Some (Block p)
-action_of (event.Slice r) = Some (Slice r)
-action_of (event.Repl u start deadline budget extra) = Some (Repl u)
-action_of (event.Refill d periods budget) = Some (Refill d)
-action_of (event.Arrive p) = Some (Arrive p)
-action_of (event.Decide r unit due late reset) = Some (Decide r)
-action_of (event.Leave p v) = Some (Leave p)
-action_of (event.Save r u queued) = Some (Save r)
-action_of (event.End next) = None
-action_of event.Finish = None
+abbrev pub event_action : Event → Option Action
+event_action (event.Stall p until) = Some Stall
+event_action (event.Xl k answer) = Some Xl
+event_action (event.Moved r to) = Some (Moved r)
+event_action (event.DomMoved d to) = Some (DomMoved d)
+event_action (event.Wake v) = Some (Wake v)
+event_action (event.Block p v) = Some (Block p)
+event_action (event.Slice r) = Some (Slice r)
+event_action (event.Repl u start deadline budget extra) = Some (Repl u)
+event_action (event.Refill d periods budget) = Some (Refill d)
+event_action (event.Arrive p) = Some (Arrive p)
+event_action (event.Decide r unit due late reset) = Some (Decide r)
+event_action (event.Leave p v) = Some (Leave p)
+event_action (event.Save r u queued) = Some (Save r)
+event_action (event.End next) = None
+event_action event.Finish = None
 
 -- the next moment that an End names
-abbrev pub end_of : Event → Option ℕ
-end_of (event.End next) = Some next.0
-end_of _ = None
+abbrev pub named_next_moment : Event → Option ℕ
+named_next_moment (event.End next) = Some next.0
+named_next_moment _ = None
 
 -- where a run has come to: the state, and whether it is over
 pub record Reached : Type 0 where
@@ -49,12 +49,12 @@ after_quiet (Some next) from = record from { state = record from.state { now = n
 
 -- after an event, with the action whose event it is
 abbrev pub after_event : Machine → Event → Option Action → Reached → Reached
-after_event m e None from = after_quiet (end_of e) from
+after_event m e None from = after_quiet (named_next_moment e) from
 after_event m e (Some action) from = record from { state = after m from.state from.state.now action }
 
 -- after an entry
 abbrev pub after_entry : Machine → Reached → Entry → Reached
-after_entry m from entry = after_event m entry.event (action_of entry.event) from
+after_entry m from entry = after_event m entry.event (event_action entry.event) from
 
 -- after several entries
 abbrev pub after_entries : Machine → Reached → List Entry → Reached
@@ -64,14 +64,14 @@ after_entries m from (entry ∷ entries) = after_entries m (after_entry m from e
 -- an action's event may come where it is enabled, with the printed fields of that action; End and Finish where nothing is enabled,
 -- End with the next moment within the horizon, Finish where there is none
 abbrev pub IsNextEvent : Machine → State → Event → Option Action → Type 0
-IsNextEvent m s e (Some action) = (is_enabled m s s.now action ≡ true) × (e ≡ event_of m s s.now action)
-IsNextEvent m s e None = (first_enabled m s s.now ≡ None) × (next_in_horizon m s ≡ end_of e)
+IsNextEvent m s e (Some action) = (is_action_enabled m s s.now action ≡ true) × (e ≡ event_of m s s.now action)
+IsNextEvent m s e None = (first_enabled_action m s s.now ≡ None) × (next_in_horizon m s ≡ named_next_moment e)
 
 -- the entry may come next
 pub record IsNext (m : Machine) (from : Reached) (entry : Entry) : Type 0 where
   pub goes_on : from.over ≡ false
   pub moment : entry.at.0 ≡ from.state.now
-  pub event : IsNextEvent m from.state entry.event (action_of entry.event)
+  pub event : IsNextEvent m from.state entry.event (event_action entry.event)
 
 -- each entry may come next after those before it
 abbrev pub IsRunFrom : Machine → Reached → List Entry → Type 0
@@ -91,5 +91,5 @@ abbrev pub IsWholeRun : Machine → List Entry → Type 0
 IsWholeRun m entries = IsRun m entries × ((after_entries m (run_start m) entries).over ≡ true)
 
 -- the entry of an action that may come now
-abbrev pub entry_of : Machine → State → Action → Entry
-entry_of m s action = record { at = moment s.now; event = event_of m s s.now action }
+abbrev pub action_entry : Machine → State → Action → Entry
+action_entry m s action = record { at = moment s.now; event = event_of m s s.now action }

@@ -6,7 +6,7 @@ use Rattle.sched_model.specs.declared.state.Processor.{Processor}
 use Rattle.sched_model.specs.declared.state.Vcpu.{Vcpu}
 use Rattle.sched_model.specs.declared.state.Domain.{Domain}
 use Rattle.sched_model.specs.Places.{at_place}
-pub use Rattle.sched_base.specs.CoreSets.{has_core}
+pub use Rattle.sched_base.specs.CoreSets.{has_core_bit}
 pub use Rattle.sched_model.specs.declared.machine.Machine.{Machine}
 pub use Rattle.sched_model.specs.declared.state.FreeCore.{FreeCore}
 pub use Rattle.sched_model.specs.declared.state.Credit2Unit.{Credit2Unit}
@@ -35,9 +35,9 @@ unit_runnable g d n = not d.paused && is_none d.moving && list_any is_awake (vcp
 abbrev pub runnable_among : ℕ → List (Option Domain) → UnitId → Bool
 runnable_among g domains u = elim (at_place domains u.dom.0) [ None ↦ false | Some d ↦ unit_runnable g d u.n ]
 
-abbrev pub is_runnable : ℕ → Pool → UnitId → Bool
-is_runnable g pool u = runnable_among g pool.domains u
+abbrev pub may_unit_run : ℕ → Pool → UnitId → Bool
+may_unit_run g pool u = runnable_among g pool.domains u
 
 -- whether the processor is not stalled
-abbrev pub is_up : ℕ → Processor → Bool
-is_up t p = nat_le p.stall_end.0 t
+abbrev pub is_not_stalled : ℕ → Processor → Bool
+is_not_stalled t p = nat_le p.stall_end.0 t

@@ -1,7 +1,7 @@
 //! What a pool tells of itself to those who judge commands and move cores.
 
 ghost use Rattle.std.specs.Prelude.{◌≡◌};
-ghost use Rattle.sched_model.specs.Policy.{kind_of as kind_of_spec};
+ghost use Rattle.sched_model.specs.Policy.{records_kind};
 
 use crate::config::SchedKind;
 use crate::short::Short;
@@ -10,7 +10,7 @@ use sched_base::{DomId, Moment, PoolId, ResId, Span};
 
 /// Which scheduler has these records.
 pub fn kind_of(records: &Records) -> SchedKind
-    ensures { result ≡ kind_of_spec records.now }
+    ensures { result ≡ records_kind records.now }
 {
     match records {
         Records::Credit2Pool(_) => SchedKind::Credit2,

@@ -10,11 +10,11 @@ use Rattle.sched_model.specs.declared.config.PoolParams.TheVariants as pool_para
 use Rattle.sched_model.specs.declared.config.SchedKind.TheVariants as kinds
 use Rattle.sched_model.specs.declared.state.Records.{Records}
 use Rattle.sched_model.specs.declared.state.Records.TheVariants.{NullPool}
-use Rattle.sched_model.specs.State.{has_core}
-use Rattle.sched_model.specs.Places.{at_place, has_unit, is_unit, same_unit}
-use Rattle.sched_model.specs.EligibleUnits.{is_allowed_by, is_placed, is_taken, has_place, is_eligible, eligible_units}
+use Rattle.sched_model.specs.State.{has_core_bit}
+use Rattle.sched_model.specs.Places.{at_place, has_listed_unit, is_unit, same_unit}
+use Rattle.sched_model.specs.EligibleUnits.{is_allowed_by, is_unit_placed, is_core_given, has_given_core, is_unit_eligible, eligible_units}
 use Rattle.sched_model.specs.NullScheduler.{earliest_unit}
-use Rattle.sched_model.specs.Policy.{fresh_records}
+use Rattle.sched_model.specs.Policy.{empty_records}
 use Rattle.sched_laws.proofs.Choices.{same_unit_same}
 use Rattle.sched_laws.proofs.Counts.{same_unit_refl}
 use Rattle.sched_ops.specs.Conditions.{ArePoolParams, is_vacant}
@@ -32,42 +32,42 @@ or_false false = refl
 -- the null scheduler's own rule
 abbrev own_rule : Units → List (Option UnitId) → ℕ → ℕ → UnitId → Bool
 own_rule units kept home core u =
-    is_placed (scheduler_of units.queue units.affinity (NullPool kept)) kept home core u
-    || (not (has_place (scheduler_of units.queue units.affinity (NullPool kept)) kept home u) && not (is_taken (scheduler_of units.queue units.affinity (NullPool kept)) kept home core))
+    is_unit_placed (scheduler_of units.queue units.affinity (NullPool kept)) kept home core u
+    || (not (has_given_core (scheduler_of units.queue units.affinity (NullPool kept)) kept home u) && not (is_core_given (scheduler_of units.queue units.affinity (NullPool kept)) kept home core))
 
 -- a unit that may have the core that is kept for it is given the core
-pub given_to_kept : (units : Units) (kept : List (Option UnitId)) (home core : ℕ) (w : UnitId) → at_place kept core ≡ Some w → (has_core home core && is_allowed_by units.affinity home core w) ≡ true
-    → is_placed (scheduler_of units.queue units.affinity (NullPool kept)) kept home core w ≡ true
+pub given_to_kept : (units : Units) (kept : List (Option UnitId)) (home core : ℕ) (w : UnitId) → at_place kept core ≡ Some w → (has_core_bit home core && is_allowed_by units.affinity home core w) ≡ true
+    → is_unit_placed (scheduler_of units.queue units.affinity (NullPool kept)) kept home core w ≡ true
 given_to_kept units kept home core w at may =
     let own : is_unit (at_place kept core) w ≡ true = ap (λ (o : Option UnitId). is_unit o w) at ∙ same_unit_refl w in
-    let here : has_core home core ≡ true = and_left (has_core home core) (is_allowed_by units.affinity home core w) may in
-    let allowed : is_allowed_by units.affinity home core w ≡ true = and_right (has_core home core) (is_allowed_by units.affinity home core w) may in
+    let here : has_core_bit home core ≡ true = and_left (has_core_bit home core) (is_allowed_by units.affinity home core w) may in
+    let allowed : is_allowed_by units.affinity home core w ≡ true = and_right (has_core_bit home core) (is_allowed_by units.affinity home core w) may in
     rw (own, here, allowed) refl
 
 -- where the core is given to a unit, that one alone is eligible for it
-pub first_of_placed : (units : Units) (kept : List (Option UnitId)) (home core : ℕ) (w : UnitId) → at_place kept core ≡ Some w → is_placed (scheduler_of units.queue units.affinity (NullPool kept)) kept home core w ≡ true
-    → earliest_unit (eligible_units (scheduler_of units.queue units.affinity (NullPool kept)) home core 0) ≡ cond (has_unit units.queue w) (Some w) None
+pub first_of_placed : (units : Units) (kept : List (Option UnitId)) (home core : ℕ) (w : UnitId) → at_place kept core ≡ Some w → is_unit_placed (scheduler_of units.queue units.affinity (NullPool kept)) kept home core w ≡ true
+    → earliest_unit (eligible_units (scheduler_of units.queue units.affinity (NullPool kept)) home core 0) ≡ cond (has_listed_unit units.queue w) (Some w) None
 first_of_placed units kept home core w at placed =
-    first_of_one w (is_eligible (scheduler_of units.queue units.affinity (NullPool kept)) home core 0) units.queue only
-    ∙ ap (λ b. cond (has_unit units.queue w && b) (Some w) None) passes
-    ∙ ap (λ b. cond b (Some w) None) (and_true (has_unit units.queue w))
+    first_of_one w (is_unit_eligible (scheduler_of units.queue units.affinity (NullPool kept)) home core 0) units.queue only
+    ∙ ap (λ b. cond (has_listed_unit units.queue w && b) (Some w) None) passes
+    ∙ ap (λ b. cond b (Some w) None) (and_true (has_listed_unit units.queue w))
   where
     allowed : is_allowed_by units.affinity home core w ≡ true
-    allowed = and_right (is_unit (at_place kept core) w && has_core home core) (is_allowed_by units.affinity home core w) placed
+    allowed = and_right (is_unit (at_place kept core) w && has_core_bit home core) (is_allowed_by units.affinity home core w) placed
 
-    taken : is_taken (scheduler_of units.queue units.affinity (NullPool kept)) kept home core ≡ true
-    taken = ap (λ (o : Option UnitId). elim o as (λ _. Bool) [ None ↦ false | Some u ↦ is_placed (scheduler_of units.queue units.affinity (NullPool kept)) kept home core u ]) at ∙ placed
+    taken : is_core_given (scheduler_of units.queue units.affinity (NullPool kept)) kept home core ≡ true
+    taken = ap (λ (o : Option UnitId). elim o as (λ _. Bool) [ None ↦ false | Some u ↦ is_unit_placed (scheduler_of units.queue units.affinity (NullPool kept)) kept home core u ]) at ∙ placed
 
-    passes : is_eligible (scheduler_of units.queue units.affinity (NullPool kept)) home core 0 w ≡ true
-    passes = ap (λ b. b && own_rule units kept home core w) allowed ∙ ap (λ b. b || (not (has_place (scheduler_of units.queue units.affinity (NullPool kept)) kept home w) && not (is_taken (scheduler_of units.queue units.affinity (NullPool kept)) kept home core))) placed
+    passes : is_unit_eligible (scheduler_of units.queue units.affinity (NullPool kept)) home core 0 w ≡ true
+    passes = ap (λ b. b && own_rule units kept home core w) allowed ∙ ap (λ b. b || (not (has_given_core (scheduler_of units.queue units.affinity (NullPool kept)) kept home w) && not (is_core_given (scheduler_of units.queue units.affinity (NullPool kept)) kept home core))) placed
 
-    only : (u : UnitId) → is_eligible (scheduler_of units.queue units.affinity (NullPool kept)) home core 0 u ≡ true → u ≡ w
+    only : (u : UnitId) → is_unit_eligible (scheduler_of units.queue units.affinity (NullPool kept)) home core 0 u ≡ true → u ≡ w
     only u is =
-        let given : Bool = is_placed (scheduler_of units.queue units.affinity (NullPool kept)) kept home core u in
-        let nowhere : Bool = not (has_place (scheduler_of units.queue units.affinity (NullPool kept)) kept home u) in
-        let passes_rule : (given || (nowhere && not (is_taken (scheduler_of units.queue units.affinity (NullPool kept)) kept home core))) ≡ true = and_right (is_allowed_by units.affinity home core u) _ is in
+        let given : Bool = is_unit_placed (scheduler_of units.queue units.affinity (NullPool kept)) kept home core u in
+        let nowhere : Bool = not (has_given_core (scheduler_of units.queue units.affinity (NullPool kept)) kept home u) in
+        let passes_rule : (given || (nowhere && not (is_core_given (scheduler_of units.queue units.affinity (NullPool kept)) kept home core))) ≡ true = and_right (is_allowed_by units.affinity home core u) _ is in
         let own : given ≡ true = sym (or_false given) ∙ ap (λ b. given || b) (sym (and_false nowhere)) ∙ ap (λ b. given || (nowhere && not b)) (sym taken) ∙ passes_rule in
-        let there : is_unit (at_place kept core) u ≡ true = and_left (is_unit (at_place kept core) u) (has_core home core) (and_left (is_unit (at_place kept core) u && has_core home core) (is_allowed_by units.affinity home core u) own) in
+        let there : is_unit (at_place kept core) u ≡ true = and_left (is_unit (at_place kept core) u) (has_core_bit home core) (and_left (is_unit (at_place kept core) u && has_core_bit home core) (is_allowed_by units.affinity home core u) own) in
         let same : same_unit w u ≡ true = ap (λ o. is_unit o u) (sym at) ∙ there in
         sym (same_unit_same w u same)
 
@@ -88,7 +88,7 @@ none_better test units = any_of_none (λ u. test u && false) units (λ u. and_fa
 pub only_where_barred : (allowed : Bool) (test : UnitId → Bool) (units : List UnitId) → not allowed ≡ (not allowed || list_any (λ u. test u && false) units)
 only_where_barred allowed test units = sym (or_false (not allowed)) ∙ ap (λ b. not allowed || b) (sym (none_better test units))
 
-fresh_null : (params : PoolParams) (domains cores : ℕ) → ArePoolParams kinds.Null params → fresh_records params domains cores ≡ NullPool (replicate cores None)
+fresh_null : (params : PoolParams) (domains cores : ℕ) → ArePoolParams kinds.Null params → empty_records params domains cores ≡ NullPool (replicate cores None)
 fresh_null (pool_params.Credit2 limit) domains cores are = absurd are
 fresh_null pool_params.Rtds domains cores are = absurd are
 fresh_null (pool_params.Arinc653 frame) domains cores are = absurd are
@@ -96,7 +96,7 @@ fresh_null pool_params.Null domains cores are = refl
 
 -- a pool without domains, whose cores are kept for no unit
 pub begun_anew : (queue : List UnitId) (affinity : List (Option (List Cores))) (kept : List (Option UnitId)) (params : PoolParams)
-    → ((u : UnitId) → has_unit queue u ≡ true → is_member_among affinity u ≡ true) → is_vacant (scheduler_of queue affinity (NullPool kept)) ≡ true → ArePoolParams kinds.Null params
+    → ((u : UnitId) → has_listed_unit queue u ≡ true → is_member_among affinity u ≡ true) → is_vacant (scheduler_of queue affinity (NullPool kept)) ≡ true → ArePoolParams kinds.Null params
     → scheduler_of queue affinity (NullPool (replicate (length kept) None)) ≡ restarted_scheduler params (scheduler_of queue affinity (NullPool kept))
 begun_anew queue affinity kept params members vacant are =
     ap (λ (q : List UnitId). scheduler_of q affinity (NullPool (replicate (length kept) None))) (queue_of_vacant queue affinity members vacant)

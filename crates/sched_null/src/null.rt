@@ -14,12 +14,12 @@
 //! *Ordering.* The unit that came to wait earlier goes first. No unit is better than a core's own. There are no timers.
 
 ghost use Rattle.std.specs.Prelude.{◌≡◌, ◌≤◌, ◌<◌, ◌&&◌, ℕ, [], false, Some, None, if◌then◌else◌, length};
-ghost use Rattle.sched_model.specs.Places.{has_unit};
+ghost use Rattle.sched_model.specs.Places.{has_listed_unit};
 ghost use Rattle.sched_model.specs.declared.state.Records.TheVariants.{NullPool};
-ghost use Rattle.sched_model.specs.State.{has_core as has_core_spec};
-ghost use Rattle.sched_model.specs.EligibleUnits.{is_allowed_by, is_placed as is_placed_spec, eligible_units};
-ghost use Rattle.sched_model.specs.Policy.{better_waits};
-ghost use Rattle.sched_model.specs.NullScheduler.{earliest_unit, choice as choice_spec, null_decision};
+ghost use Rattle.sched_model.specs.State.{has_core_bit};
+ghost use Rattle.sched_model.specs.EligibleUnits.{is_allowed_by, is_unit_placed, eligible_units};
+ghost use Rattle.sched_model.specs.Policy.{has_better_waiting};
+ghost use Rattle.sched_model.specs.NullScheduler.{earliest_unit, null_choice, null_decision};
 ghost use Rattle.scheduler_records.specs.Parts.{scheduler_of};
 ghost use Rattle.sched_ops.specs.Seen.{Tells};
 
@@ -65,7 +65,7 @@ impl Model for Null {
 /// Whether the unit may have a core that is kept for it: the core is one of the pool's, and is allowed.
 fn may_have(units: &PoolUnits, home: Cores, core: ResId, u: UnitId) -> bool
     requires { core.0 < 64 }
-    ensures { result ≡ (has_core_spec home.0 core.0
+    ensures { result ≡ (has_core_bit home.0 core.0
         && is_allowed_by units.now.affinity home.0 core.0 u) }
 {
     has_core(home, core) && units.is_allowed(home, core, u)
@@ -74,7 +74,7 @@ fn may_have(units: &PoolUnits, home: Cores, core: ResId, u: UnitId) -> bool
 /// Whether the core is given to the unit: it is kept for it, is one of the pool's, and is allowed.
 fn is_placed(units: &PoolUnits, kept: &Kept, home: Cores, core: ResId, u: UnitId) -> bool
     requires { core.0 < 64 }
-    ensures { result ≡ is_placed_spec (scheduler_of units.now.queue units.now.affinity
+    ensures { result ≡ is_unit_placed (scheduler_of units.now.queue units.now.affinity
         (NullPool kept.now)) kept.now home.0 core.0 u }
 {
     is_there(kept.at(core), u) && may_have(units, home, core, u)
@@ -102,7 +102,7 @@ fn first_waiting(
 }
 
 fn if_waits(units: &PoolUnits, u: UnitId) -> Option<UnitId>
-    ensures { result ≡ (if has_unit units.now.queue u then Some u else None) }
+    ensures { result ≡ (if has_listed_unit units.now.queue u then Some u else None) }
 {
     if units.waits(u) { Some(u) } else { None }
 }
@@ -139,7 +139,7 @@ fn is_wanted(
 ) -> bool
     requires core { core.0 < 64 }
     requires waits { waits ≡ false → units.now.queue ≡ [] }
-    ensures { (since t : ℕ) → result ≡ better_waits cur since t core.0 home.0
+    ensures { (since t : ℕ) → result ≡ has_better_waiting cur since t core.0 home.0
         (scheduler_of units.now.queue units.now.affinity (NullPool kept.now)) }
 {
     match cur {
@@ -151,7 +151,7 @@ fn is_wanted(
 /// The core's own unit, where it was given the core and may go on, and else one that waits.
 fn choice(units: &PoolUnits, kept: &Kept, ask: &Ask) -> Option<UnitId>
     requires { ask.now.core.0 < 64 }
-    ensures { result ≡ choice_spec ask.now
+    ensures { result ≡ null_choice ask.now
         (scheduler_of units.now.queue units.now.affinity (NullPool kept.now)) kept.now }
 {
     let home = ask.home;

@@ -7,14 +7,14 @@ use Rattle.std.proofs.lemmas.List.{length-append}
 use Rattle.sched_base.specs.Numbers.{domain}
 use Rattle.sched_base.specs.declared.UnitId.{UnitId}
 use Rattle.sched_base.specs.declared.Cores.{Cores}
-use Rattle.sched_model.specs.Places.{at_place, put_at, clear_at, change_at, has_unit, same_unit}
+use Rattle.sched_model.specs.Places.{at_place, put_at, clear_at, change_at, has_listed_unit, same_unit}
 use Rattle.sched_base.proofs.Lists.{AllByRecursion-map}
 use Rattle.sched_ops.specs.Conditions.{IsApart}
 use Rattle.sched_laws.proofs.Choices.{same_unit_same}
 use Rattle.sched_laws.proofs.Counts.{times_none, same_unit_refl}
 use Rattle.sched_laws.specs.Counts.{one, times}
 use Rattle.sched_laws.proofs.Fewer.{no_longer, times-append}
-use Rattle.sched_ops.specs.Affinity.{count_at, count_all, is_member_among}
+use Rattle.sched_ops.specs.Affinity.{joined_unit_count, count_all, is_member_among}
 use Rattle.std.proofs.lemmas.Bool.{ltb-true}
 
 -- the number of units after a domain joined, parted, or had other sets of cores
@@ -25,7 +25,7 @@ count_all-put_at zero sets (Some x ∷ places) none = absurd (cc)
 count_all-put_at (suc d) sets (None ∷ places) none = count_all-put_at d sets places none
 count_all-put_at (suc d) sets (Some x ∷ places) none = (let r = count_all-put_at d sets places none in omega (arith, r))
 
-pub count_all-clear_at : (d : ℕ) (affinity : List (Option (List Cores))) → count_all (clear_at d affinity) + count_at affinity d ≡ count_all affinity
+pub count_all-clear_at : (d : ℕ) (affinity : List (Option (List Cores))) → count_all (clear_at d affinity) + joined_unit_count affinity d ≡ count_all affinity
 count_all-clear_at d [] = refl
 count_all-clear_at zero (None ∷ places) = omega arith
 count_all-clear_at zero (Some x ∷ places) = omega arith
@@ -39,7 +39,7 @@ count_all-change_at zero f (Some x ∷ places) same = (let r = same x in omega (
 count_all-change_at (suc d) f (None ∷ places) same = count_all-change_at d f places same
 count_all-change_at (suc d) f (Some x ∷ places) same = (let r = count_all-change_at d f places same in omega (arith, r))
 
-pub count_at-change_at : (d k : ℕ) (f : List Cores → List Cores) (affinity : List (Option (List Cores))) → ((sets : List Cores) → length (f sets) ≡ length sets) → count_at (change_at d f affinity) k ≡ count_at affinity k
+pub count_at-change_at : (d k : ℕ) (f : List Cores → List Cores) (affinity : List (Option (List Cores))) → ((sets : List Cores) → length (f sets) ≡ length sets) → joined_unit_count (change_at d f affinity) k ≡ joined_unit_count affinity k
 count_at-change_at d k f [] same = refl
 count_at-change_at zero zero f (None ∷ places) same = refl
 count_at-change_at zero zero f (Some x ∷ places) same = same x
@@ -51,7 +51,7 @@ pub count_all-empty : (domains : ℕ) → count_all (replicate domains None) ≡
 count_all-empty zero = refl
 count_all-empty (suc domains) = count_all-empty domains
 
-pub count_at-empty : (domains d : ℕ) → count_at (replicate domains None) d ≡ 0
+pub count_at-empty : (domains d : ℕ) → joined_unit_count (replicate domains None) d ≡ 0
 count_at-empty zero d = refl
 count_at-empty (suc domains) zero = refl
 count_at-empty (suc domains) (suc d) = count_at-empty domains d
@@ -90,7 +90,7 @@ times-first_units u (suc n) low =
     ]
 
 -- a unit that has joined is one of all
-times-all_units : (u : UnitId) (d k : ℕ) (affinity : List (Option (List Cores))) → u.dom.0 ≡ d + k → u.n < count_at affinity k → 1 ≤ times u (all_units d affinity)
+times-all_units : (u : UnitId) (d k : ℕ) (affinity : List (Option (List Cores))) → u.dom.0 ≡ d + k → u.n < joined_unit_count affinity k → 1 ≤ times u (all_units d affinity)
 times-all_units u d k [] at low = absurd (omega (arith, low))
 times-all_units u d zero (None ∷ places) at low = absurd (omega (arith, low))
 times-all_units u d zero (Some sets ∷ places) at low =
@@ -106,19 +106,19 @@ times-all_units u d (suc k) (Some sets ∷ places) at low =
     omega (arith, r, a)
 
 member_there : (u : UnitId) (affinity : List (Option (List Cores))) → is_member_among affinity u ≡ true → 1 ≤ times u (all_units 0 affinity)
-member_there u affinity member = times-all_units u 0 u.dom.0 affinity (omega arith) (ltb-true u.n (count_at affinity u.dom.0) member)
+member_there u affinity member = times-all_units u 0 u.dom.0 affinity (omega arith) (ltb-true u.n (joined_unit_count affinity u.dom.0) member)
 
 -- a unit that stands in no list twice
 times-apart : (u : UnitId) (units : List UnitId) → IsApart units → times u units ≤ 1
 times-apart u [] apart = omega arith
 times-apart u (w ∷ units) apart =
     elim (same_unit u w) as (λ b. same_unit u w ≡ b → cond b 1 0 + times u units ≤ 1) [
-      | true ↦ λ is. (let none = times_none u units (subst (λ (x : UnitId). has_unit units x ≡ false) (sym (same_unit_same u w is)) apart.0) in omega (arith, none))
+      | true ↦ λ is. (let none = times_none u units (subst (λ (x : UnitId). has_listed_unit units x ≡ false) (sym (same_unit_same u w is)) apart.0) in omega (arith, none))
       | false ↦ λ is. (let r = times-apart u units apart.1 in omega (arith, r))
     ] refl
 
 -- what holds of each unit of a list
-pub each_here : (P : UnitId → Type 0) (units : List UnitId) → ((u : UnitId) → has_unit units u ≡ true → P u) → AllByRecursion P units
+pub each_here : (P : UnitId → Type 0) (units : List UnitId) → ((u : UnitId) → has_listed_unit units u ≡ true → P u) → AllByRecursion P units
 each_here P [] each = tt
 each_here P (w ∷ units) each =
     (each w (let s = same_unit_refl w in rw s refl), each_here P units (λ u has. each u (let or_true : (b : Bool) → (b || true) ≡ true = elim [ true ↦ refl | false ↦ refl ] in rw has (or_true (same_unit u w)))))

@@ -5,8 +5,8 @@ use Rattle.sched_base.specs.declared.Cores.{Cores}
 use Rattle.sched_model.specs.Places.{at_place}
 
 -- how many units the domain has
-abbrev pub count_at : List (Option (List Cores)) → ℕ → ℕ
-count_at affinity d = elim (at_place affinity d) [ None ↦ 0 | Some sets ↦ length sets ]
+abbrev pub joined_unit_count : List (Option (List Cores)) → ℕ → ℕ
+joined_unit_count affinity d = elim (at_place affinity d) [ None ↦ 0 | Some sets ↦ length sets ]
 
 -- how many units all domains have
 abbrev pub count_all : List (Option (List Cores)) → ℕ
@@ -16,4 +16,4 @@ count_all (Some sets ∷ affinity) = length sets + count_all affinity
 
 -- the unit is one of a domain that has joined
 abbrev pub is_member_among : List (Option (List Cores)) → UnitId → Bool
-is_member_among affinity u = nat_lt u.n (count_at affinity u.dom.0)
+is_member_among affinity u = nat_lt u.n (joined_unit_count affinity u.dom.0)

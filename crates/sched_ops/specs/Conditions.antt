@@ -15,16 +15,16 @@ use Rattle.sched_model.specs.declared.state.Records.{Records}
 use Rattle.sched_model.specs.declared.state.Records.TheVariants.{Credit2Pool, RtdsPool, ArincPool, NullPool}
 use Rattle.sched_model.specs.declared.ask.Ask.{Ask}
 use Rattle.sched_model.specs.declared.state.Scheduler.{Scheduler}
-use Rattle.sched_model.specs.Places.{at_place, has_unit}
-use Rattle.sched_model.specs.EligibleUnits.{rtds_unit}
+use Rattle.sched_model.specs.Places.{at_place, has_listed_unit}
+use Rattle.sched_model.specs.EligibleUnits.{rtds_unit_at}
 use Rattle.sched_model.specs.CheckedMachine.{IsWithin}
 use Rattle.sched_laws.specs.RecordRanges.{IsFrom, IsFrame, IsWeight, IsCap}
 use Rattle.sched_ops.specs.Affinity.{is_member_among}
 use Rattle.sched_ops.specs.Seen.{Seen, units_of}
 
 -- the domain has joined
-abbrev pub has_joined : Scheduler → ℕ → Bool
-has_joined scheduler d = is_some (at_place scheduler.affinity d)
+abbrev pub has_joined_domain : Scheduler → ℕ → Bool
+has_joined_domain scheduler d = is_some (at_place scheduler.affinity d)
 
 -- the unit is one of a domain that has joined
 abbrev pub is_member : Scheduler → UnitId → Bool
@@ -38,22 +38,22 @@ is_vacant scheduler = not (list_any is_some scheduler.affinity)
 abbrev pub is_on : Records → UnitId → Bool
 is_on (Credit2Pool records) u =
     elim (at_place records.domains u.dom.0) [ None ↦ false | Some d ↦ elim (slice_get d.units u.n) [ None ↦ false | Some x ↦ is_some x.burned ] ]
-is_on (RtdsPool domains) u = elim (rtds_unit domains u) [ None ↦ false | Some x ↦ is_some x.burned ]
+is_on (RtdsPool domains) u = elim (rtds_unit_at domains u) [ None ↦ false | Some x ↦ is_some x.burned ]
 is_on (ArincPool records) u = false
 is_on (NullPool kept) u = false
 
 -- the unit may be on a core, as far as the records tell
-abbrev pub may_be_on : Records → UnitId → Bool
-may_be_on (Credit2Pool records) u = is_on (Credit2Pool records) u
-may_be_on (RtdsPool domains) u = is_on (RtdsPool domains) u
-may_be_on (ArincPool records) u = true
-may_be_on (NullPool kept) u = true
+abbrev pub may_unit_be_on : Records → UnitId → Bool
+may_unit_be_on (Credit2Pool records) u = is_on (Credit2Pool records) u
+may_unit_be_on (RtdsPool domains) u = is_on (RtdsPool domains) u
+may_unit_be_on (ArincPool records) u = true
+may_unit_be_on (NullPool kept) u = true
 
 -- a core's own unit: it has joined, does not wait, and is on
 pub record IsOwn (scheduler : Scheduler) (u : UnitId) : Type 0 where
   pub member : is_member scheduler u ≡ true
-  pub waits_not : has_unit scheduler.queue u ≡ false
-  pub on : may_be_on scheduler.records u ≡ true
+  pub waits_not : has_listed_unit scheduler.queue u ≡ false
+  pub on : may_unit_be_on scheduler.records u ≡ true
 
 -- the same of a core that may have none
 abbrev pub IsOwnOf : Scheduler → Option UnitId → Type 0
@@ -62,12 +62,12 @@ IsOwnOf scheduler cur = ForSome cur (IsOwn scheduler)
 -- a unit that is neither waiting nor on
 pub record IsAway (scheduler : Scheduler) (u : UnitId) : Type 0 where
   pub member : is_member scheduler u ≡ true
-  pub waits_not : has_unit scheduler.queue u ≡ false
+  pub waits_not : has_listed_unit scheduler.queue u ≡ false
   pub off : is_on scheduler.records u ≡ false
 
 -- none of the domain's units waits, and none is on
 pub record HasNoneBusy (scheduler : Scheduler) (d : ℕ) : Type 0 where
-  pub waiting : (u : UnitId) → u.dom.0 ≡ d → has_unit scheduler.queue u ≡ false
+  pub waiting : (u : UnitId) → u.dom.0 ≡ d → has_listed_unit scheduler.queue u ≡ false
   pub on : (u : UnitId) → u.dom.0 ≡ d → is_on scheduler.records u ≡ false
 
 -- a moment that is not before the latest one given, nor past a longest span
@@ -110,20 +110,20 @@ AreDomParams _ _ = ⊥
 
 -- the change is one that this scheduler has, of a domain that has joined and a unit of it, and its values are in range
 abbrev pub IsChange : SchedKind → Scheduler → ParamChange → Type 0
-IsChange kinds.Credit2 scheduler (changes.Dom d weight cap) = (has_joined scheduler d.0 ≡ true) × ForSome weight IsWeight × ForSome cap IsCap
+IsChange kinds.Credit2 scheduler (changes.Dom d weight cap) = (has_joined_domain scheduler d.0 ≡ true) × ForSome weight IsWeight × ForSome cap IsCap
 IsChange kinds.Credit2 scheduler (changes.Rate limit) = limit ≤ 500000
 IsChange kinds.Rtds scheduler (changes.«Unit» u period budget extra) = (is_member scheduler u ≡ true) × IsSetTerm period.0 budget.0
 IsChange kinds.Arinc653 scheduler (changes.Frame frame) = IsFrame frame
-IsChange _ scheduler (changes.Pin d unit cores) = (has_joined scheduler d.0 ≡ true) × ForSome unit (λ (n : ℕ). n < units_of scheduler d.0)
+IsChange _ scheduler (changes.Pin d unit cores) = (has_joined_domain scheduler d.0 ≡ true) × ForSome unit (λ (n : ℕ). n < units_of scheduler d.0)
 IsChange _ scheduler _ = ⊥
 
 -- no unit is in the list twice
 abbrev pub IsApart : List UnitId → Type 0
 IsApart [] = Unit {0}
-IsApart (u ∷ units) = (has_unit units u ≡ false) × IsApart units
+IsApart (u ∷ units) = (has_listed_unit units u ≡ false) × IsApart units
 
 -- what every scheduler keeps: no unit waits twice, and those that wait have joined and are not on
 pub record Keeps (seen : Seen) : Type 0 where
   pub apart : IsApart seen.scheduler.queue
-  pub members : (u : UnitId) → has_unit seen.scheduler.queue u ≡ true → is_member seen.scheduler u ≡ true
-  pub off : (u : UnitId) → has_unit seen.scheduler.queue u ≡ true → is_on seen.scheduler.records u ≡ false
+  pub members : (u : UnitId) → has_listed_unit seen.scheduler.queue u ≡ true → is_member seen.scheduler u ≡ true
+  pub off : (u : UnitId) → has_listed_unit seen.scheduler.queue u ≡ true → is_on seen.scheduler.records u ≡ false

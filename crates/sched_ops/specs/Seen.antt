@@ -8,8 +8,8 @@ use Rattle.sched_model.specs.declared.state.Records.TheVariants.{Credit2Pool, Rt
 use Rattle.sched_model.specs.declared.state.Scheduler.{Scheduler}
 use Rattle.sched_model.specs.Places.{without_unit}
 use Rattle.sched_model.specs.EligibleUnits.{Decision}
-use Rattle.sched_model.specs.Policy.{fresh_records, default_pool_params}
-use Rattle.sched_ops.specs.Affinity.{count_at}
+use Rattle.sched_model.specs.Policy.{empty_records, standard_pool_params}
+use Rattle.sched_ops.specs.Affinity.{joined_unit_count}
 use Rattle.sched_ops.specs.declared.choice.Choice.{Choice}
 
 -- the waiting units in order of arrival, the sets of cores and the records; how many units may still join; and the greatest moment that was given
@@ -20,11 +20,11 @@ pub record Seen : Type 0 where
 
 -- a scheduler with these parameters and no domain, on a machine of so many domains and cores
 abbrev pub vacant_scheduler : PoolParams → ℕ → ℕ → Scheduler
-vacant_scheduler params domains cores = record { queue = []; affinity = replicate domains None; records = fresh_records params domains cores }
+vacant_scheduler params domains cores = record { queue = []; affinity = replicate domains None; records = empty_records params domains cores }
 
 -- what is seen of a scheduler without memory: it has its default parameters, no domain and no place for one
 abbrev pub bare_seen : SchedKind → Seen
-bare_seen kind = record { scheduler = vacant_scheduler (default_pool_params kind) 0 0; spare = 0; latest = 0 }
+bare_seen kind = record { scheduler = vacant_scheduler (standard_pool_params kind) 0 0; spare = 0; latest = 0 }
 
 -- the places for cores of a scheduler that has some
 abbrev pub core_places : Records → ℕ
@@ -38,12 +38,12 @@ abbrev pub restarted_scheduler : PoolParams → Scheduler → Scheduler
 restarted_scheduler params scheduler = vacant_scheduler params (length scheduler.affinity) (core_places scheduler.records)
 
 -- the scheduler without the unit in its queue
-abbrev pub dequeue : UnitId → Scheduler → Scheduler
-dequeue u scheduler = record scheduler { queue = without_unit u scheduler.queue }
+abbrev pub scheduler_without_unit : UnitId → Scheduler → Scheduler
+scheduler_without_unit u scheduler = record scheduler { queue = without_unit u scheduler.queue }
 
 -- how many units the domain joined with
 abbrev pub units_of : Scheduler → ℕ → ℕ
-units_of scheduler d = count_at scheduler.affinity d
+units_of scheduler d = joined_unit_count scheduler.affinity d
 
 -- the same with another scheduler
 abbrev pub with_scheduler : Scheduler → Seen → Seen

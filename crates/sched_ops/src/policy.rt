@@ -24,16 +24,16 @@ pub struct Places {
 /// greatest one given before and at most 10^13. No call but `reserve` takes memory.
 pub trait Policy: Drop {
     ghost use Rattle.std.specs.Prelude.{◌≡◌, ℕ, ◌≤◌, ◌<◌, ◌-◌, ◌+◌, true, false, OnOk, OnErr, length, None, Some};
-    ghost use Rattle.sched_model.specs.Places.{at_place, has_unit};
-    ghost use Rattle.sched_model.specs.State.{has_core};
-    ghost use Rattle.sched_model.specs.Policy.{decision_of, after_decision, enqueue as enqueue_spec, join as join_spec, part as part_spec, set_params as set_params_spec, rate_of, kind_of, default_pool_params};
+    ghost use Rattle.sched_model.specs.Places.{at_place, has_listed_unit};
+    ghost use Rattle.sched_model.specs.State.{has_core_bit};
+    ghost use Rattle.sched_model.specs.Policy.{decision_of, after_decision, scheduler_with_queued, joined_scheduler, parted_scheduler, changed_scheduler, pool_rate_limit, records_kind, standard_pool_params};
     ghost use Rattle.sched_laws.specs.EachPlace.{EachPlace};
-    ghost use Rattle.sched_ops.specs.Seen.{Seen, Tells, vacant_scheduler, restarted_scheduler, dequeue as dequeue_spec, units_of, with_scheduler, seen_at};
-    ghost use Rattle.sched_ops.specs.Conditions.{IsNow, IsAsked, IsAway, HasNoneBusy, ArePoolParams, AreDomParams, IsChange, Keeps, is_member, is_vacant, has_joined};
-    ghost use Rattle.sched_ops.specs.Timers.{timer_at, is_due, timer_event, after_timer};
-    ghost use Rattle.sched_ops.specs.WantedCores.{MayAsk, is_wanted};
+    ghost use Rattle.sched_ops.specs.Seen.{Seen, Tells, vacant_scheduler, restarted_scheduler, scheduler_without_unit, units_of, with_scheduler, seen_at};
+    ghost use Rattle.sched_ops.specs.Conditions.{IsNow, IsAsked, IsAway, HasNoneBusy, ArePoolParams, AreDomParams, IsChange, Keeps, is_member, is_vacant, has_joined_domain};
+    ghost use Rattle.sched_ops.specs.Timers.{next_scheduler_timer, is_due, timer_event, after_timer};
+    ghost use Rattle.sched_ops.specs.WantedCores.{MayAsk, is_core_wanted};
     ghost use Rattle.sched_ops.specs.Told.{IsInRange};
-    ghost use Rattle.sched_model.specs.Policy.{stored_of};
+    ghost use Rattle.sched_model.specs.Policy.{unit_stored};
 
     /// What callers see.
     ghost seen: { Self → Seen };
@@ -46,7 +46,7 @@ pub trait Policy: Drop {
         requires units { units ≤ 256 }
         requires vacant { is_vacant (seen self.old).scheduler ≡ true }
         ensures scheduler { OnOk result ((seen self.new).scheduler
-            ≡ vacant_scheduler (default_pool_params (kind_of (seen self.old).scheduler.records))
+            ≡ vacant_scheduler (standard_pool_params (records_kind (seen self.old).scheduler.records))
             places.domains places.cores) }
         ensures room { OnOk result (units ≤ (seen self.new).spare) }
         ensures latest { OnOk result ((seen self.new).latest ≡ (seen self.old).latest) }
@@ -55,7 +55,7 @@ pub trait Policy: Drop {
     /// Begins anew with these parameters and fresh records: no reset yet, and a frame, where there is one, installed at 0.
     fn restart(&mut self, params: &PoolParams)
         requires vacant { is_vacant (seen self.old).scheduler ≡ true }
-        requires params { ArePoolParams (kind_of (seen self.old).scheduler.records) params.now }
+        requires params { ArePoolParams (records_kind (seen self.old).scheduler.records) params.now }
         ensures { seen self.new
             ≡ with_scheduler (restarted_scheduler params.now (seen self.old).scheduler)
             (seen self.old) };
@@ -67,18 +67,18 @@ pub trait Policy: Drop {
         requires some { 1 ≤ units }
         requires few { units ≤ 32 }
         requires room { units ≤ (seen self.old).spare }
-        requires params { AreDomParams (kind_of (seen self.old).scheduler.records) params.now }
+        requires params { AreDomParams (records_kind (seen self.old).scheduler.records) params.now }
         requires now { IsNow (seen self.old) t.0 }
         ensures scheduler { (seen self.new).scheduler
-            ≡ join_spec d.0 units params.now t.0 (seen self.old).scheduler }
+            ≡ joined_scheduler d.0 units params.now t.0 (seen self.old).scheduler }
         ensures spare { (seen self.new).spare ≡ (seen self.old).spare - units }
         ensures latest { (seen self.new).latest ≡ t.0 };
 
     /// The domain parts. None of its units waits or is on.
     fn part(&mut self, d: DomId)
-        requires joined { has_joined (seen self.old).scheduler d.0 ≡ true }
+        requires joined { has_joined_domain (seen self.old).scheduler d.0 ≡ true }
         requires idle { HasNoneBusy (seen self.old).scheduler d.0 }
-        ensures scheduler { (seen self.new).scheduler ≡ part_spec d.0 (seen self.old).scheduler }
+        ensures scheduler { (seen self.new).scheduler ≡ parted_scheduler d.0 (seen self.old).scheduler }
         ensures spare { (seen self.new).spare
             ≡ (seen self.old).spare + units_of (seen self.old).scheduler d.0 }
         ensures latest { (seen self.new).latest ≡ (seen self.old).latest };
@@ -87,13 +87,13 @@ pub trait Policy: Drop {
     fn enqueue(&mut self, u: UnitId)
         requires away { IsAway (seen self.old).scheduler u }
         ensures { seen self.new
-            ≡ with_scheduler (enqueue_spec u (seen self.old).scheduler) (seen self.old) };
+            ≡ with_scheduler (scheduler_with_queued u (seen self.old).scheduler) (seen self.old) };
 
     /// The unit, which waits, waits no more.
     fn dequeue(&mut self, u: UnitId)
-        requires waits { has_unit (seen self.old).scheduler.queue u ≡ true }
+        requires waits { has_listed_unit (seen self.old).scheduler.queue u ≡ true }
         ensures { seen self.new
-            ≡ with_scheduler (dequeue_spec u (seen self.old).scheduler) (seen self.old) };
+            ≡ with_scheduler (scheduler_without_unit u (seen self.old).scheduler) (seen self.old) };
 
     /// Decides for a core. The chosen unit is on then and waits no more; the core's own, where it is another, is not on.
     fn choose(&mut self, ask: &Ask) -> Choice
@@ -112,13 +112,13 @@ pub trait Policy: Drop {
         requires few { length cores.now ≤ 64 }
         requires asks { EachPlace (MayAsk t.0 (seen self.now).scheduler) cores.now }
         ensures { (r : ℕ)
-            → has_core result.0 r
-            ≡ is_wanted t.0 home.0 (seen self.now).scheduler r (at_place cores.now r) };
+            → has_core_bit result.0 r
+            ≡ is_core_wanted t.0 home.0 (seen self.now).scheduler r (at_place cores.now r) };
 
     /// The first timer, by domain and unit, whose moment has come at t; where there is none, the one of the least moment. `None`
     /// where no timer is armed. A replenishment is armed while its unit waits or is on.
     fn timer_due(&self, t: Moment) -> Option<(Moment, Timer)>
-        ensures { result ≡ timer_at t.0 (seen self.now).scheduler };
+        ensures { result ≡ next_scheduler_timer t.0 (seen self.now).scheduler };
 
     /// Carries out a timer whose moment has come at t, and answers its event.
     fn timer(&mut self, which: Timer, t: Moment) -> Event
@@ -131,21 +131,21 @@ pub trait Policy: Drop {
     /// Changes parameters at t. Those of an RTDS unit wait for its next replenishment.
     fn set_params(&mut self, change: &ParamChange, t: Moment)
         requires now { IsNow (seen self.old) t.0 }
-        requires change { IsChange (kind_of (seen self.old).scheduler.records)
+        requires change { IsChange (records_kind (seen self.old).scheduler.records)
             (seen self.old).scheduler change.now }
         ensures { seen self.new
-            ≡ seen_at t.0 (set_params_spec change.now t.0 (seen self.old).scheduler)
+            ≡ seen_at t.0 (changed_scheduler change.now t.0 (seen self.old).scheduler)
             (seen self.old) };
 
     /// The set values of a unit; for RTDS the newest ones.
     fn stored(&self, u: UnitId) -> Stored
         requires member { is_member (seen self.now).scheduler u ≡ true }
-        ensures value { stored_of (seen self.now).scheduler.records u ≡ Some result }
+        ensures value { unit_stored (seen self.now).scheduler.records u ≡ Some result }
         ensures range { IsInRange result };
 
     /// The rate limit in microseconds, 0 for a scheduler that has none.
     fn rate(&self) -> u32
-        ensures { result ≡ rate_of (seen self.now).scheduler.records };
+        ensures { result ≡ pool_rate_limit (seen self.now).scheduler.records };
 
     /// Does nothing, and tells what every scheduler keeps: no unit waits twice, and those that wait have joined and are not on.
     fn keeps(&self)

@@ -2,7 +2,7 @@
 
 ghost use Rattle.std.specs.Prelude.{◌≡◌, ◌≤◌, ℕ, length, true};
 ghost use Rattle.sched_base.specs.Numbers.{core};
-ghost use Rattle.sched_model.specs.State.{has_core};
+ghost use Rattle.sched_model.specs.State.{has_core_bit};
 ghost use Rattle.sched_model.specs.Places.{at_place};
 ghost use Rattle.sched_model.specs.declared.state.Resource.{Resource as ResourceRecord};
 ghost use Rattle.sched_ops.specs.WantedCores.{is_asked, IsAnswer};
@@ -37,7 +37,7 @@ pub fn wanted_where<F: Fn(ResId, Option<UnitId>, Moment) -> bool>(
     requires few { length cores.now ≤ 64 }
     requires asks { (r : ℕ) (c : ResourceRecord) → at_place cores.now r ≡ Some c → is_asked c
         ≡ true → F.pre asks (core r) c.cur c.since }
-    ensures { (r : ℕ) → IsAnswer (F.post asks) r (at_place cores.now r) (has_core result.0 r) }
+    ensures { (r : ℕ) → IsAnswer (F.post asks) r (at_place cores.now r) (has_core_bit result.0 r) }
 {
     let mut set = 0;
     for r in (0..cores.len()).rev() {

@@ -17,7 +17,7 @@ use Rattle.sched_model.specs.declared.state.Records.{Records}
 use Rattle.sched_model.specs.declared.state.Records.TheVariants.{Credit2Pool, RtdsPool, ArincPool, NullPool}
 use Rattle.sched_model.specs.Places.{at_place}
 use Rattle.sched_laws.specs.EachPlace.{AllPlaces, EachPlace}
-use Rattle.sched_model.specs.Opening.{core_count}
+use Rattle.sched_model.specs.Opening.{machine_core_count}
 use Rattle.sched_model.specs.CheckedMachine.{IsChecked, IsCheckedDomain, IsCheckedScript, IsWithin, IsGranularity, most_span}
 use Rattle.sched_laws.proofs.SiblingsLaw.{some_processor}
 use Rattle.sched_laws.proofs.Lists.{item_below}
@@ -59,7 +59,7 @@ machine-fits m checked = record {
   few_guests = few_guests m m.config.domains (recursion_from_All (IsCheckedDomain m.config) m.config.domains checked.config.domains);
 }
 
-pub few_cores : (m : Machine) → IsChecked m → core_count m.config ≤ 64
+pub few_cores : (m : Machine) → IsChecked m → machine_core_count m.config ≤ 64
 few_cores m checked = (let low = div-le_self m.config.processors m.config.granularity in let most = checked.config.processors.most in omega (arith, low, most))
 
 module _ (m : Machine) (checked : IsChecked m) (t : ℕ) (early : t ≤ most_span) where

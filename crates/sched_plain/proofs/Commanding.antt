@@ -11,8 +11,8 @@ use Rattle.sched_model.specs.declared.machine.Machine.{Machine}
 use Rattle.sched_model.specs.declared.plan.Plan.{Plan}
 use Rattle.sched_model.specs.declared.state.State.{State}
 use Rattle.sched_model.specs.declared.work.CommandLine.{CommandLine}
-use Rattle.sched_model.specs.Commands.{carried_out, pool_of_plan, reply_of}
-use Rattle.sched_model.specs.Machine.{after, after_command, answer_of, event_of, is_enabled, settled_at, verdict}
+use Rattle.sched_model.specs.Commands.{carried_out, plan_pool, plan_reply}
+use Rattle.sched_model.specs.Machine.{after, after_command, answer_of, event_of, is_action_enabled, settled_at, line_verdict}
 use Rattle.sched_model.specs.Places.{at_place}
 use Rattle.sched_model.specs.Pool.{settled_pool}
 use Rattle.sched_model.proofs.PlaceLemmas.{at_place-change_at, at_place-change_at_other}
@@ -45,62 +45,62 @@ unsettled t (Some i) s each = λ j pool at.
     ]
 
 -- the state after an accepted command
-pub command-state : (m : Machine) (s : State) (t : ℕ) (line : CommandLine) (p : Plan) → slice_get m.work.commands s.next_command ≡ Some line → verdict m s line ≡ Ok p
-    → settled_at t (pool_of_plan s p) (carried_out m t p (record s { next_command = suc s.next_command })) ≡ after m s t Xl
+pub command-state : (m : Machine) (s : State) (t : ℕ) (line : CommandLine) (p : Plan) → slice_get m.work.commands s.next_command ≡ Some line → line_verdict m s line ≡ Ok p
+    → settled_at t (plan_pool s p) (carried_out m t p (record s { next_command = suc s.next_command })) ≡ after m s t Xl
 command-state m s t line p is accepted =
     let next : State = record s { next_command = suc s.next_command } in
-    let done : State = settled_at t (pool_of_plan s p) (carried_out m t p next) in
-    let of_verdict : Result Plan Refusal → State = λ r. elim r as (λ _. State) [ Err fault ↦ next | Ok q ↦ settled_at t (pool_of_plan s q) (carried_out m t q next) ] in
+    let done : State = settled_at t (plan_pool s p) (carried_out m t p next) in
+    let of_verdict : Result Plan Refusal → State = λ r. elim r as (λ _. State) [ Err fault ↦ next | Ok q ↦ settled_at t (plan_pool s q) (carried_out m t q next) ] in
     let of_line : Option CommandLine → State = λ o. elim o as (λ _. State) [ None ↦ s | Some x ↦ after_command m t x s ] in
     sym (ap of_line is ∙ ap of_verdict accepted)
 
 -- what is printed of the next command, where it is refused
-pub refusal-told : (m : Machine) (s : State) (line : CommandLine) (fault : Refusal) (k : ℕ) → slice_get m.work.commands s.next_command ≡ Some line → verdict m s line ≡ Err fault → k ≡ suc s.next_command
+pub refusal-told : (m : Machine) (s : State) (line : CommandLine) (fault : Refusal) (k : ℕ) → slice_get m.work.commands s.next_command ≡ Some line → line_verdict m s line ≡ Err fault → k ≡ suc s.next_command
     → event.Xl k (Err fault) ≡ event_of m s s.now Xl
 refusal-told m s line fault k is refused next =
-    let of_verdict : Result Plan Refusal → Event = λ r. event.Xl (suc s.next_command) (elim r as (λ _. Result Reply Refusal) [ Err f ↦ Err f | Ok q ↦ Ok (reply_of q) ]) in
+    let of_verdict : Result Plan Refusal → Event = λ r. event.Xl (suc s.next_command) (elim r as (λ _. Result Reply Refusal) [ Err f ↦ Err f | Ok q ↦ Ok (plan_reply q) ]) in
     let of_line : Option CommandLine → Event = λ o. event.Xl (suc s.next_command) (elim o as (λ _. Result Reply Refusal) [ None ↦ Ok reply.Done | Some x ↦ answer_of m s x ]) in
     ap (λ n. event.Xl n (Err fault)) next ∙ sym (ap of_line is ∙ ap of_verdict refused)
 
 -- the same, where it is accepted
-pub reply-told : (m : Machine) (s : State) (line : CommandLine) (p : Plan) (k : ℕ) (answer : Reply) → slice_get m.work.commands s.next_command ≡ Some line → verdict m s line ≡ Ok p → k ≡ suc s.next_command
-    → answer ≡ reply_of p → event.Xl k (Ok answer) ≡ event_of m s s.now Xl
+pub reply-told : (m : Machine) (s : State) (line : CommandLine) (p : Plan) (k : ℕ) (answer : Reply) → slice_get m.work.commands s.next_command ≡ Some line → line_verdict m s line ≡ Ok p → k ≡ suc s.next_command
+    → answer ≡ plan_reply p → event.Xl k (Ok answer) ≡ event_of m s s.now Xl
 reply-told m s line p k answer is accepted next replied =
-    let of_verdict : Result Plan Refusal → Event = λ r. event.Xl (suc s.next_command) (elim r as (λ _. Result Reply Refusal) [ Err f ↦ Err f | Ok q ↦ Ok (reply_of q) ]) in
+    let of_verdict : Result Plan Refusal → Event = λ r. event.Xl (suc s.next_command) (elim r as (λ _. Result Reply Refusal) [ Err f ↦ Err f | Ok q ↦ Ok (plan_reply q) ]) in
     let of_line : Option CommandLine → Event = λ o. event.Xl (suc s.next_command) (elim o as (λ _. Result Reply Refusal) [ None ↦ Ok reply.Done | Some x ↦ answer_of m s x ]) in
     ap (λ n. event.Xl n (Ok answer)) next ∙ ap (λ a. event.Xl (suc s.next_command) (Ok a)) replied ∙ sym (ap of_line is ∙ ap of_verdict accepted)
 
 -- the state after a refused command
-pub refused-state : (m : Machine) (s : State) (line : CommandLine) (fault : Refusal) (k : ℕ) → slice_get m.work.commands s.next_command ≡ Some line → verdict m s line ≡ Err fault → k ≡ suc s.next_command
+pub refused-state : (m : Machine) (s : State) (line : CommandLine) (fault : Refusal) (k : ℕ) → slice_get m.work.commands s.next_command ≡ Some line → line_verdict m s line ≡ Err fault → k ≡ suc s.next_command
     → record s { next_command = k } ≡ after m s s.now Xl
 refused-state m s line fault k is refused next =
     let over : State = record s { next_command = suc s.next_command } in
-    let of_verdict : Result Plan Refusal → State = λ r. elim r as (λ _. State) [ Err f ↦ over | Ok q ↦ settled_at s.now (pool_of_plan s q) (carried_out m s.now q over) ] in
+    let of_verdict : Result Plan Refusal → State = λ r. elim r as (λ _. State) [ Err f ↦ over | Ok q ↦ settled_at s.now (plan_pool s q) (carried_out m s.now q over) ] in
     let of_line : Option CommandLine → State = λ o. elim o as (λ _. State) [ None ↦ s | Some x ↦ after_command m s.now x s ] in
     ap (λ (n : ℕ). record s { next_command = n }) next ∙ sym (ap of_line is ∙ ap of_verdict refused)
 
-pub carried-fits : (m : Machine) (s : State) (line : CommandLine) (p : Plan) → Stands m s → is_enabled m s s.now Xl ≡ true → slice_get m.work.commands s.next_command ≡ Some line → verdict m s line ≡ Ok p
+pub carried-fits : (m : Machine) (s : State) (line : CommandLine) (p : Plan) → Stands m s → is_action_enabled m s s.now Xl ≡ true → slice_get m.work.commands s.next_command ≡ Some line → line_verdict m s line ≡ Ok p
     → EachPlace (PoolFitsAt s.now) (carried_out m s.now p (record s { next_command = suc s.next_command })).pools
 carried-fits m s line p stands enabled is accepted =
     let next : State = carried_out m s.now p (record s { next_command = suc s.next_command }) in
-    let done : State = settled_at s.now (pool_of_plan s p) next in
+    let done : State = settled_at s.now (plan_pool s p) next in
     let there : Stands m done = subst (Stands m) (sym (command-state m s s.now line p is accepted)) (stands-after m s Xl stands enabled) in
-    let now : done.now ≡ s.now = (settled_clock s.now (pool_of_plan s p) next).0 ∙ (carried_clock m s.now p (record s { next_command = suc s.next_command })).0 in
-    unsettled s.now (pool_of_plan s p) next (subst (λ n. EachPlace (PoolFitsAt n) done.pools) now (stands-pool m done there))
+    let now : done.now ≡ s.now = (settled_clock s.now (plan_pool s p) next).0 ∙ (carried_clock m s.now p (record s { next_command = suc s.next_command })).0 in
+    unsettled s.now (plan_pool s p) next (subst (λ n. EachPlace (PoolFitsAt n) done.pools) now (stands-pool m done there))
 
 -- the command is over
-pub command-over : (m : Machine) (s : State) (t : ℕ) (line : CommandLine) (p : Plan) → slice_get m.work.commands s.next_command ≡ Some line → verdict m s line ≡ Ok p → (after m s t Xl).next_command ≡ suc s.next_command
+pub command-over : (m : Machine) (s : State) (t : ℕ) (line : CommandLine) (p : Plan) → slice_get m.work.commands s.next_command ≡ Some line → line_verdict m s line ≡ Ok p → (after m s t Xl).next_command ≡ suc s.next_command
 command-over m s t line p is accepted =
     let first : State = record s { next_command = suc s.next_command } in
     let next : State = carried_out m t p first in
-    ap (λ (x : State). x.next_command) (sym (command-state m s t line p is accepted)) ∙ (settled_clock t (pool_of_plan s p) next).2 ∙ (carried_clock m t p first).2
+    ap (λ (x : State). x.next_command) (sym (command-state m s t line p is accepted)) ∙ (settled_clock t (plan_pool s p) next).2 ∙ (carried_clock m t p first).2
 
 -- the state with one command more over
 abbrev pub one_over : State → State
 one_over s = record s { next_command = s.next_command + 1 }
 
 -- the same of an accepted command, in the words of the code
-module _ (m : Machine) (s : State) (p : Plan) (stands : Stands m s) (enabled : is_enabled m s s.now Xl ≡ true) (accepted : IsAccepted m s p) where
+module _ (m : Machine) (s : State) (p : Plan) (stands : Stands m s) (enabled : is_action_enabled m s s.now Xl ≡ true) (accepted : IsAccepted m s p) where
   more : s.next_command + 1 ≡ suc s.next_command
   more = omega arith
 
@@ -110,6 +110,6 @@ module _ (m : Machine) (s : State) (p : Plan) (stands : Stands m s) (enabled : i
   pub carried-fit : EachPlace (PoolFitsAt s.now) (carried_out m s.now p (one_over s)).pools
   carried-fit = subst (λ (x : State). EachPlace (PoolFitsAt s.now) (carried_out m s.now p x).pools) (sym next-same) (carried-fits m s accepted.line p stands enabled accepted.next accepted.accepted)
 
-  pub accepted-state : (done left : State) → done ≡ carried_out m s.now p (one_over s) → left ≡ settled_at s.now (pool_of_plan s p) done → left ≡ after m s s.now Xl
+  pub accepted-state : (done left : State) → done ≡ carried_out m s.now p (one_over s) → left ≡ settled_at s.now (plan_pool s p) done → left ≡ after m s s.now Xl
   accepted-state done left carried settles =
-      settles ∙ ap (settled_at s.now (pool_of_plan s p)) (carried ∙ ap (carried_out m s.now p) next-same) ∙ command-state m s s.now accepted.line p accepted.next accepted.accepted
+      settles ∙ ap (settled_at s.now (plan_pool s p)) (carried ∙ ap (carried_out m s.now p) next-same) ∙ command-state m s s.now accepted.line p accepted.next accepted.accepted

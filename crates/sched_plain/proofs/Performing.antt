@@ -7,11 +7,11 @@ use Rattle.sched_model.specs.declared.event.Event.{Event}
 use Rattle.sched_model.specs.declared.machine.Machine.{Machine}
 use Rattle.sched_model.specs.declared.state.Pool.{Pool}
 use Rattle.sched_model.specs.declared.state.State.{State}
-use Rattle.sched_model.specs.Opening.{no_pool}
+use Rattle.sched_model.specs.Opening.{absent_pool}
 use Rattle.sched_model.specs.Places.{at_place, test_at}
-use Rattle.sched_model.specs.Pool.{enabled_in, event_in, after_in, settled_pool, reconsidered_core, home_cores}
-use Rattle.sched_model.specs.Actions.{IsOfPool, home_of, change_pool}
-use Rattle.sched_model.specs.Machine.{is_enabled, enabled_at_home, event_of, after, after_at_home, home_pool}
+use Rattle.sched_model.specs.Pool.{enabled_in, event_in, after_in, settled_pool, reconsidered_core, pool_core_set}
+use Rattle.sched_model.specs.Actions.{IsOfPool, home_pool_of_action, change_pool}
+use Rattle.sched_model.specs.Machine.{is_action_enabled, enabled_at_home, event_of, after, after_at_home, home_pool}
 use Rattle.sched_laws.proofs.EachPlace.{at_place-put_at, length_change_each, place_below}
 use Rattle.sched_plain.specs.Fits.{PoolFitsAt}
 use Rattle.sched_plain.specs.ReachedStates.{Stands}
@@ -21,7 +21,7 @@ use Rattle.sched_plain.proofs.Bridges.{stands-pool}
 -- looking at the cores changes no number
 pub settled-back : (t : ℕ) (pool : Pool) → PoolFitsAt t (settled_pool t pool) → PoolFitsAt t pool
 settled-back t pool fits = record {
-  fits = record { cores = (let same = length_change_each 0 (reconsidered_core t (home_cores pool) pool.scheduler) pool.resources in let few = fits.fits.cores in omega (arith, same, few)); few_domains = fits.fits.few_domains; domains = fits.fits.domains };
+  fits = record { cores = (let same = length_change_each 0 (reconsidered_core t (pool_core_set pool) pool.scheduler) pool.resources in let few = fits.fits.cores in omega (arith, same, few)); few_domains = fits.fits.few_domains; domains = fits.fits.domains };
   records = fits.records;
   queue = fits.queue;
 }
@@ -31,7 +31,7 @@ pub test_at-there : {X : Type 0} (places : List (Option X)) (i : ℕ) (test : X 
 test_at-there places i test x passes is = subst (λ o. (elim o as (λ _. Bool) [ None ↦ false | Some y ↦ test y ]) ≡ true) is passes
 
 module _ (m : Machine) (s : State) (t : ℕ) where
-  pub enabled-home : (action : Action) → IsOfPool action → is_enabled m s t action ≡ enabled_at_home m s t action
+  pub enabled-home : (action : Action) → IsOfPool action → is_action_enabled m s t action ≡ enabled_at_home m s t action
   enabled-home Stall own = absurd own
   enabled-home Xl own = absurd own
   enabled-home (Moved r) own = absurd own
@@ -53,34 +53,34 @@ module _ (m : Machine) (s : State) (t : ℕ) where
   event-home action own = refl
 
   -- an event that may come has a home
-  pub no-home : (action : Action) → enabled_at_home m s t action ≡ true → home_of m.config.granularity s action ≡ None → ⊥
+  pub no-home : (action : Action) → enabled_at_home m s t action ≡ true → home_pool_of_action m.config.granularity s action ≡ None → ⊥
   no-home action home none =
       let empty : enabled_at_home m s t action ≡ false = ap (λ o. elim o as (λ _. Bool) [ None ↦ false | Some i ↦ test_at s.pools i (λ pool. enabled_in m.config.granularity t pool action) ]) none in
       cc
 
   -- at its home it may come
-  test-home : (action : Action) (i : ℕ) → enabled_at_home m s t action ≡ true → home_of m.config.granularity s action ≡ Some i → test_at s.pools i (λ pool. enabled_in m.config.granularity t pool action) ≡ true
+  test-home : (action : Action) (i : ℕ) → enabled_at_home m s t action ≡ true → home_pool_of_action m.config.granularity s action ≡ Some i → test_at s.pools i (λ pool. enabled_in m.config.granularity t pool action) ≡ true
   test-home action i home there = subst (λ o. (elim o as (λ _. Bool) [ None ↦ false | Some k ↦ test_at s.pools k (λ pool. enabled_in m.config.granularity t pool action) ]) ≡ true) there home
 
   -- so there is a pool
-  pub no-pool : (action : Action) (i : ℕ) → enabled_at_home m s t action ≡ true → home_of m.config.granularity s action ≡ Some i → at_place s.pools i ≡ None → ⊥
+  pub no-pool : (action : Action) (i : ℕ) → enabled_at_home m s t action ≡ true → home_pool_of_action m.config.granularity s action ≡ Some i → at_place s.pools i ≡ None → ⊥
   no-pool action i home there none =
       let test = test-home action i home there in
       let empty : test_at s.pools i (λ pool. enabled_in m.config.granularity t pool action) ≡ false = ap (λ o. elim o as (λ _. Bool) [ None ↦ false | Some pool ↦ enabled_in m.config.granularity t pool action ]) none in
       cc
 
   -- in which it may come
-  pub enabled-there : (action : Action) (i : ℕ) (pool : Pool) → enabled_at_home m s t action ≡ true → home_of m.config.granularity s action ≡ Some i → at_place s.pools i ≡ Some pool → enabled_in m.config.granularity t pool action ≡ true
+  pub enabled-there : (action : Action) (i : ℕ) (pool : Pool) → enabled_at_home m s t action ≡ true → home_pool_of_action m.config.granularity s action ≡ Some i → at_place s.pools i ≡ Some pool → enabled_in m.config.granularity t pool action ≡ true
   enabled-there action i pool home there is = test_at-there s.pools i (λ pool. enabled_in m.config.granularity t pool action) pool (test-home action i home there) is
 
   -- the pool of its subject
-  pub home_pool-there : (action : Action) (i : ℕ) (pool : Pool) → home_of m.config.granularity s action ≡ Some i → at_place s.pools i ≡ Some pool → home_pool m s action ≡ pool
+  pub home_pool-there : (action : Action) (i : ℕ) (pool : Pool) → home_pool_of_action m.config.granularity s action ≡ Some i → at_place s.pools i ≡ Some pool → home_pool m s action ≡ pool
   home_pool-there action i pool there is =
-      ap (λ o. elim o as (λ _. Pool) [ None ↦ no_pool m.config | Some k ↦ unwrap_or (at_place s.pools k) (no_pool m.config) ]) there
-      ∙ ap (λ o. unwrap_or o (no_pool m.config)) is
+      ap (λ o. elim o as (λ _. Pool) [ None ↦ absent_pool m.config | Some k ↦ unwrap_or (at_place s.pools k) (absent_pool m.config) ]) there
+      ∙ ap (λ o. unwrap_or o (absent_pool m.config)) is
 
   -- what it leaves
-  performed-state : (action : Action) (i : ℕ) (pool : Pool) → IsOfPool action → home_of m.config.granularity s action ≡ Some i → at_place s.pools i ≡ Some pool
+  performed-state : (action : Action) (i : ℕ) (pool : Pool) → IsOfPool action → home_pool_of_action m.config.granularity s action ≡ Some i → at_place s.pools i ≡ Some pool
       → after m s t action ≡ record s { pools = slice_set s.pools i (Some (settled_pool t (after_in m.config.granularity t pool action))) }
   performed-state action i pool own there is =
       let f : Pool → Pool = λ x. settled_pool t (after_in m.config.granularity t x action) in
@@ -89,7 +89,7 @@ module _ (m : Machine) (s : State) (t : ℕ) where
       ∙ ap with (ap (option_map f) is)
 
 -- the same of what the code has at hand, where t is the state's moment
-module _ (m : Machine) (s : State) (t : ℕ) (action : Action) (i : ℕ) (stands : Stands m s) (now : t ≡ s.now) (own : IsOfPool action) (enabled : is_enabled m s s.now action ≡ true) (home : home_of m.config.granularity s action ≡ Some i) where
+module _ (m : Machine) (s : State) (t : ℕ) (action : Action) (i : ℕ) (stands : Stands m s) (now : t ≡ s.now) (own : IsOfPool action) (enabled : is_action_enabled m s s.now action ≡ true) (home : home_pool_of_action m.config.granularity s action ≡ Some i) where
   at_home : enabled_at_home m s s.now action ≡ true
   at_home = sym (enabled-home m s s.now action own) ∙ enabled
 

@@ -5,7 +5,7 @@ use Rattle.sched_model.specs.declared.plan.Plan.{Plan}
 use Rattle.sched_model.specs.declared.state.Pool.{Pool}
 use Rattle.sched_model.specs.declared.state.State.{State}
 use Rattle.sched_model.specs.declared.work.CommandLine.{CommandLine}
-use Rattle.sched_model.specs.Machine.{verdict}
+use Rattle.sched_model.specs.Machine.{line_verdict}
 use Rattle.sched_model.specs.Places.{at_place}
 use Rattle.plain_opening.specs.OpeningPool.{spares_of}
 
@@ -17,4 +17,4 @@ HasSpares m n spares = (k : ℕ) → n ≤ k → at_place spares k ≡ at_place 
 pub record IsAccepted (m : Machine) (s : State) (plan : Plan) : Type 0 where
   pub line : CommandLine
   pub next : slice_get m.work.commands s.next_command ≡ Some line
-  pub accepted : verdict m s line ≡ Ok plan
+  pub accepted : line_verdict m s line ≡ Ok plan

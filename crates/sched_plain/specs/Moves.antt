@@ -15,8 +15,8 @@ abbrev pub is_anything_moving : Pool → Bool
 is_anything_moving pool = list_any (λ c. c.1.leaving) (numbered_items 0 pool.resources) || list_any (λ d. is_some d.1.moving) (numbered_items 0 pool.domains)
 
 -- the pool to which the core of no pool is leaving
-abbrev pub target_at : List (Option FreeCore) → ℕ → Option ℕ
-target_at free r = elim (at_place free r) [ None ↦ None | Some c ↦ c.target ]
+abbrev pub free_core_target : List (Option FreeCore) → ℕ → Option ℕ
+free_core_target free r = elim (at_place free r) [ None ↦ None | Some c ↦ c.target ]
 
 -- the pool without the core, where it has that
 abbrev pub without_its_core : ℕ → ℕ → Pool → Pool
@@ -31,5 +31,5 @@ abbrev pub domain_in : ℕ → ℕ → List (Option Pool) → Option Domain
 domain_in d i pools = elim (at_place pools i) [ None ↦ None | Some pool ↦ at_place pool.domains d ]
 
 -- the pool to which it is moving
-abbrev pub target_in : ℕ → ℕ → List (Option Pool) → Option PoolId
-target_in d i pools = elim (domain_in d i pools) [ None ↦ None | Some domain ↦ domain.moving ]
+abbrev pub domain_target : ℕ → ℕ → List (Option Pool) → Option PoolId
+domain_target d i pools = elim (domain_in d i pools) [ None ↦ None | Some domain ↦ domain.moving ]

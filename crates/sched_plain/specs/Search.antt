@@ -6,7 +6,7 @@ use Rattle.sched_model.specs.declared.action.Action.TheVariants as action
 use Rattle.sched_model.specs.declared.config.Config.{Config}
 use Rattle.sched_model.specs.declared.machine.Machine.{Machine}
 use Rattle.sched_model.specs.Places.{numbers_from}
-use Rattle.sched_model.specs.Opening.{core_count}
+use Rattle.sched_model.specs.Opening.{machine_core_count}
 use Rattle.sched_model.specs.Actions.{vcpus_from, units_from}
 use Rattle.sched_model.specs.declared.state.State.{State}
 use Rattle.sched_plain.specs.declared.scan.Numbered.{Numbered}
@@ -25,16 +25,16 @@ action_at kind.Leave n = action.Leave (processor n)
 action_at kind.Save n = action.Save (core n)
 
 -- whether the next stall has come
-abbrev pub stall_due : Machine → State → ℕ → Bool
-stall_due m s t = elim (slice_get m.work.stalls s.next_stall) [ None ↦ false | Some line ↦ nat_le line.at.0 t ]
+abbrev pub has_stall_come : Machine → State → ℕ → Bool
+has_stall_come m s t = elim (slice_get m.work.stalls s.next_stall) [ None ↦ false | Some line ↦ nat_le line.at.0 t ]
 
 -- whether the next command has come
-abbrev pub command_due : Machine → State → ℕ → Bool
-command_due m s t = elim (slice_get m.work.commands s.next_command) [ None ↦ false | Some line ↦ nat_le line.at.0 t ]
+abbrev pub has_command_come : Machine → State → ℕ → Bool
+has_command_come m s t = elim (slice_get m.work.commands s.next_command) [ None ↦ false | Some line ↦ nat_le line.at.0 t ]
 
 -- the candidate actions up to the moves of cores
 unfoldable pub moved_actions : Config → List Action
-moved_actions config = action.Stall ∷ action.Xl ∷ map (λ n. action.Moved (core n)) (numbers_from 0 (core_count config))
+moved_actions config = action.Stall ∷ action.Xl ∷ map (λ n. action.Moved (core n)) (numbers_from 0 (machine_core_count config))
 
 -- those up to the moves of domains
 unfoldable pub dom_moved_actions : Config → List Action
@@ -50,7 +50,7 @@ block_actions config = wake_actions config ++ map (λ n. action.Block (processor
 
 -- those up to the slices
 unfoldable pub slice_actions : Config → List Action
-slice_actions config = block_actions config ++ map (λ n. action.Slice (core n)) (numbers_from 0 (core_count config))
+slice_actions config = block_actions config ++ map (λ n. action.Slice (core n)) (numbers_from 0 (machine_core_count config))
 
 -- those up to the replenishments
 unfoldable pub repl_actions : Config → List Action
@@ -66,7 +66,7 @@ arrive_actions config = refill_actions config ++ map (λ n. action.Arrive (proce
 
 -- those up to the decisions
 unfoldable pub decide_actions : Config → List Action
-decide_actions config = arrive_actions config ++ map (λ n. action.Decide (core n)) (numbers_from 0 (core_count config))
+decide_actions config = arrive_actions config ++ map (λ n. action.Decide (core n)) (numbers_from 0 (machine_core_count config))
 
 -- those up to the leaves
 unfoldable pub leave_actions : Config → List Action
@@ -74,4 +74,4 @@ leave_actions config = decide_actions config ++ map (λ n. action.Leave (process
 
 -- all of them, up to the saves
 unfoldable pub save_actions : Config → List Action
-save_actions config = leave_actions config ++ map (λ n. action.Save (core n)) (numbers_from 0 (core_count config))
+save_actions config = leave_actions config ++ map (λ n. action.Save (core n)) (numbers_from 0 (machine_core_count config))

@@ -5,24 +5,24 @@ use Rattle.sched_base.specs.declared.Moment.{Moment}
 use Rattle.sched_model.specs.declared.state.FreeCore.{FreeCore}
 use Rattle.sched_model.specs.declared.state.Pool.{Pool}
 use Rattle.sched_model.specs.Places.{at_place, change_at, change_item}
-use Rattle.sched_model.specs.Pool.{processor_of}
+use Rattle.sched_model.specs.Pool.{pool_processor}
 
 -- the later of the end and that of the processor's stall, where the pool has the processor
-abbrev pub end_in_pool : ℕ → Pool → ℕ → ℕ → ℕ
-end_in_pool g pool p end = elim (processor_of g pool p) [ None ↦ end | Some q ↦ max q.stall_end.0 end ]
+abbrev pub later_end_in_pool : ℕ → Pool → ℕ → ℕ → ℕ
+later_end_in_pool g pool p end = elim (pool_processor g pool p) [ None ↦ end | Some q ↦ max q.stall_end.0 end ]
 
 -- the same of a pool that may not be there
-abbrev pub end_at_home : ℕ → Option Pool → ℕ → ℕ → ℕ
-end_at_home g None p end = end
-end_at_home g (Some pool) p end = end_in_pool g pool p end
+abbrev pub later_end_at_home : ℕ → Option Pool → ℕ → ℕ → ℕ
+later_end_at_home g None p end = end
+later_end_at_home g (Some pool) p end = later_end_in_pool g pool p end
 
 -- the later of the end and that at this place
-abbrev pub end_among : List Moment → ℕ → ℕ → ℕ
-end_among ends i end = elim (slice_get ends i) [ None ↦ end | Some old ↦ max old.0 end ]
+abbrev pub later_end_among : List Moment → ℕ → ℕ → ℕ
+later_end_among ends i end = elim (slice_get ends i) [ None ↦ end | Some old ↦ max old.0 end ]
 
 -- the same of a processor of a core of no pool
-abbrev pub end_in_free : ℕ → List (Option FreeCore) → ℕ → ℕ → ℕ
-end_in_free g free p end = elim (at_place free (p / g)) [ None ↦ end | Some c ↦ end_among c.stall_ends (p % g) end ]
+abbrev pub later_end_in_free : ℕ → List (Option FreeCore) → ℕ → ℕ → ℕ
+later_end_in_free g free p end = elim (at_place free (p / g)) [ None ↦ end | Some c ↦ later_end_among c.stall_ends (p % g) end ]
 
 -- the end at this place set
 abbrev pub ends_to : ℕ → ℕ → List Moment → List Moment

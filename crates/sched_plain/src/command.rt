@@ -4,8 +4,8 @@ ghost use Rattle.std.specs.Prelude.{◌≡◌, ◌≤◌, ℕ, Some, Ok, true, l
 ghost use Rattle.sched_laws.specs.EachPlace.{EachPlace};
 ghost use Rattle.sched_model.specs.declared.action.Action.TheVariants as actions;
 ghost use Rattle.sched_model.specs.CheckedMachine.{IsCheckedCommand, most_span};
-ghost use Rattle.sched_model.specs.Commands.{judge, pool_of_plan as pool_of_plan_spec};
-ghost use Rattle.sched_model.specs.Machine.{is_enabled, event_of, after, settled_at, verdict as verdict_spec};
+ghost use Rattle.sched_model.specs.Commands.{judged_command, plan_pool};
+ghost use Rattle.sched_model.specs.Machine.{is_action_enabled, event_of, after, settled_at, line_verdict};
 ghost use Rattle.sched_model.specs.Places.{change_at};
 ghost use Rattle.sched_model.specs.Pool.{settled_pool};
 ghost use Rattle.cpupool.specs.Tool.{KnowsMachine};
@@ -31,7 +31,7 @@ use sched_model::work::CommandLine;
 /// The pool whose cores are looked at after the command: the one that it names, or the home of the domain that it names.
 fn pool_of_plan(s: &State, plan: &Plan) -> Option<usize>
     requires { length s.now.pools ≤ 16 }
-    ensures { result ≡ pool_of_plan_spec s.entry.now plan.now }
+    ensures { result ≡ plan_pool s.entry.now plan.now }
 {
     match plan {
         Plan::PoolList { pool: None, .. } => None,
@@ -57,7 +57,7 @@ fn judged(m: &Machine, s: &State, c: &Command, tool: &mut ToolState) -> Result<P
     requires stands { Stands m.now s.now }
     requires command { IsCheckedCommand c.now }
     requires tool { KnowsMachine m.now tool.old }
-    ensures verdict { result ≡ judge m.now s.entry.now c.now }
+    ensures verdict { result ≡ judged_command m.now s.entry.now c.now }
     ensures tool { KnowsMachine m.now tool.new }
 {
     tool.read(s);
@@ -76,7 +76,7 @@ pub(crate) fn verdict(
     requires stands { Stands m.now s.now }
     requires next { slice_get m.now.work.commands s.now.next_command ≡ Some line.now }
     requires tool { KnowsMachine m.now tool.old }
-    ensures verdict { result ≡ verdict_spec m.now s.entry.now line.now }
+    ensures verdict { result ≡ line_verdict m.now s.entry.now line.now }
     ensures tool { KnowsMachine m.now tool.new }
 {
     match &line.command {
@@ -114,7 +114,7 @@ fn settle_at(t: Moment, home: Option<usize>, s: &mut State)
 /// The next command, which is accepted with this plan, is over and carried out, and the cores of its pool are looked at.
 fn accept(m: &Machine, plan: Plan, s: &mut State, spares: &mut Row<Option<Pool>>)
     requires stands { Stands m.now s.old }
-    requires enabled { is_enabled m.now s.old s.old.now actions.Xl ≡ true }
+    requires enabled { is_action_enabled m.now s.old s.old.now actions.Xl ≡ true }
     requires accepted { IsAccepted m.now s.old plan }
     requires spares { HasSpares m.now s.old.next_command spares.old }
     ensures state { s.new ≡ after m.now s.old s.old.now actions.Xl }
@@ -136,7 +136,7 @@ pub fn command(
     spares: &mut Row<Option<Pool>>,
 ) -> Event
     requires stands { Stands m.now s.old }
-    requires enabled { is_enabled m.now s.old s.old.now actions.Xl ≡ true }
+    requires enabled { is_action_enabled m.now s.old s.old.now actions.Xl ≡ true }
     requires tool { KnowsMachine m.now tool.old }
     requires spares { HasSpares m.now s.old.next_command spares.old }
     ensures event { result ≡ event_of m.now s.old s.old.now actions.Xl }

@@ -3,11 +3,11 @@
 ghost use Rattle.sched_model.specs.CheckedMachine.{most_span};
 ghost use Rattle.std.specs.Prelude.{◌≡◌, ◌<◌, ◌≤◌, length, true};
 ghost use Rattle.sched_model.specs.declared.action.Action.TheVariants as actions;
-ghost use Rattle.sched_model.specs.Machine.{is_enabled, event_of, after, left_by, joined_by};
+ghost use Rattle.sched_model.specs.Machine.{is_action_enabled, event_of, after, left_by, joined_by};
 ghost use Rattle.sched_model.specs.Places.{at_place, change_at};
 ghost use Rattle.sched_laws.specs.EachPlace.{EachPlace};
 ghost use Rattle.sched_plain.specs.Fits.{PoolFitsAt};
-ghost use Rattle.sched_plain.specs.Moves.{domain_in, target_in as target_in_spec};
+ghost use Rattle.sched_plain.specs.Moves.{domain_in, domain_target};
 ghost use Rattle.sched_plain.specs.ReachedStates.{Stands};
 
 use crate::homes::{home_of_domain, pool_at};
@@ -24,7 +24,7 @@ use sched_model::state::{Domain, Pool, State};
 
 /// The pool to which the domain is moving, where the pool with this number has it.
 pub(crate) fn target_in(s: &State, i: usize, d: DomId) -> Option<PoolId>
-    ensures { result ≡ target_in_spec d.0 i s.entry.now.pools }
+    ensures { result ≡ domain_target d.0 i s.entry.now.pools }
 {
     let pool = pool_at(s, i)?;
     item_at(pool.domains.as_slice(), d.0 as usize)?.moving
@@ -102,7 +102,7 @@ fn join_at(g: u8, t: Moment, d: DomId, joining: Domain, i: usize, pools: &mut Ro
 /// The domain leaves its pool and joins the one to which it is moving.
 pub fn move_domain(m: &Machine, d: DomId, s: &mut State) -> Event
     requires stands { Stands m.now s.old }
-    requires enabled { is_enabled m.now s.old s.old.now (actions.DomMoved d) ≡ true }
+    requires enabled { is_action_enabled m.now s.old s.old.now (actions.DomMoved d) ≡ true }
     ensures event { result ≡ event_of m.now s.old s.old.now (actions.DomMoved d) }
     ensures state { s.new ≡ after m.now s.old s.old.now (actions.DomMoved d) }
 {

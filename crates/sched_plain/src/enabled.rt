@@ -2,10 +2,10 @@
 
 ghost use Rattle.std.specs.Prelude.{◌≡◌, ◌<◌};
 ghost use Rattle.sched_model.specs.Places.{test_at};
-ghost use Rattle.sched_model.specs.Machine.{is_enabled as is_enabled_spec, enabled_at_home, free_ready as free_ready_spec};
+ghost use Rattle.sched_model.specs.Machine.{is_action_enabled, enabled_at_home, is_free_core_ready};
 ghost use Rattle.sched_model.specs.Pool.{enabled_in};
 ghost use Rattle.sched_plain.specs.Fits.{MachineFits, StateFits};
-ghost use Rattle.sched_plain.specs.Search.{stall_due as stall_due_spec, command_due as command_due_spec};
+ghost use Rattle.sched_plain.specs.Search.{has_stall_come, has_command_come};
 
 use crate::homes::{home_of, is_move_under_way, pool_at};
 use plain_pool::pool::is_enabled_in;
@@ -17,7 +17,7 @@ use sched_model::state::{FreeCore, State};
 
 /// Whether the next stall has come.
 fn stall_due(m: &Machine, s: &State, t: Moment) -> bool
-    ensures { result ≡ stall_due_spec m.now s.entry.now t.0 }
+    ensures { result ≡ has_stall_come m.now s.entry.now t.0 }
 {
     match m.work.stalls.as_slice().get(s.next_stall as usize) {
         None => false,
@@ -27,7 +27,7 @@ fn stall_due(m: &Machine, s: &State, t: Moment) -> bool
 
 /// Whether the next command has come.
 fn command_due(m: &Machine, s: &State, t: Moment) -> bool
-    ensures { result ≡ command_due_spec m.now s.entry.now t.0 }
+    ensures { result ≡ has_command_come m.now s.entry.now t.0 }
 {
     match m.work.commands.as_slice().get(s.next_command as usize) {
         None => false,
@@ -37,7 +37,7 @@ fn command_due(m: &Machine, s: &State, t: Moment) -> bool
 
 /// Whether a core of no pool is leaving, and its first processor is up.
 fn free_ready(t: Moment, c: &FreeCore) -> bool
-    ensures { result ≡ free_ready_spec t.0 c.now }
+    ensures { result ≡ is_free_core_ready t.0 c.now }
 {
     c.target.is_some()
         && match c.stall_ends.as_slice() {
@@ -48,7 +48,7 @@ fn free_ready(t: Moment, c: &FreeCore) -> bool
 
 /// The same of the core with this number.
 fn is_free_ready(s: &State, t: Moment, r: ResId) -> bool
-    ensures { result ≡ test_at s.entry.now.free r.0 (free_ready_spec t.0) }
+    ensures { result ≡ test_at s.entry.now.free r.0 (is_free_core_ready t.0) }
 {
     match item_at(s.free.as_slice(), r.0 as usize) {
         None => false,
@@ -84,7 +84,7 @@ fn is_enabled_at(g: u8, s: &State, t: Moment, action: Action, i: usize) -> bool
 pub fn is_enabled(m: &Machine, s: &State, t: Moment, action: Action) -> bool
     requires machine { MachineFits m.now }
     requires state { StateFits s.now }
-    ensures { result ≡ is_enabled_spec m.now s.entry.now t.0 action }
+    ensures { result ≡ is_action_enabled m.now s.entry.now t.0 action }
 {
     match action {
         Action::Stall => stall_due(m, s, t),

@@ -9,8 +9,8 @@ ghost use Rattle.sched_model.specs.declared.state.Pool.{Pool as PoolRecord};
 ghost use Rattle.sched_model.specs.declared.state.FreeCore.{FreeCore as FreeCoreRecord};
 ghost use Rattle.sched_model.specs.Places.{at_place, first_place, numbered_items};
 ghost use Rattle.sched_laws.specs.EachPlace.{AllPlaces};
-ghost use Rattle.sched_model.specs.Actions.{home_of_core as home_of_core_spec, home_of_domain as home_of_domain_spec, home_of as home_of_spec};
-ghost use Rattle.sched_model.specs.Machine.{is_move_under_way as is_move_under_way_spec};
+ghost use Rattle.sched_model.specs.Actions.{home_pool_of_core, home_pool_of_domain, home_pool_of_action};
+ghost use Rattle.sched_model.specs.Machine.{has_move_under_way};
 ghost use Rattle.sched_plain.specs.Moves.{is_anything_moving};
 ghost use Rattle.pool_records.specs.Fits.{PoolFits};
 
@@ -60,7 +60,7 @@ fn domain_home(i: usize, pools: &[Option<Pool>], d: DomId) -> Option<usize>
 /// The pool that has the core.
 pub fn home_of_core(s: &State, r: ResId) -> Option<usize>
     requires { length s.now.pools ≤ 16 }
-    ensures { result ≡ home_of_core_spec s.entry.now r.0 }
+    ensures { result ≡ home_pool_of_core s.entry.now r.0 }
 {
     core_home(0, s.pools.as_slice(), r)
 }
@@ -68,7 +68,7 @@ pub fn home_of_core(s: &State, r: ResId) -> Option<usize>
 /// The pool that has the domain.
 pub fn home_of_domain(s: &State, d: DomId) -> Option<usize>
     requires { length s.now.pools ≤ 16 }
-    ensures { result ≡ home_of_domain_spec s.entry.now d.0 }
+    ensures { result ≡ home_pool_of_domain s.entry.now d.0 }
 {
     domain_home(0, s.pools.as_slice(), d)
 }
@@ -84,7 +84,7 @@ pub fn pool_at(s: &State, i: usize) -> Option<&Pool>
 pub fn home_of(g: u8, s: &State, action: Action) -> Option<usize>
     requires some { 0 < g }
     requires few { length s.now.pools ≤ 16 }
-    ensures { result ≡ home_of_spec g s.entry.now action }
+    ensures { result ≡ home_pool_of_action g s.entry.now action }
 {
     match action {
         Action::Stall => None,
@@ -169,7 +169,7 @@ pub fn is_move_under_way(s: &State) -> bool
     requires pools { length s.now.pools ≤ 16 }
     requires free { length s.now.free ≤ 64 }
     requires fits { AllPlaces PoolFits s.now.pools }
-    ensures { result ≡ is_move_under_way_spec s.entry.now }
+    ensures { result ≡ has_move_under_way s.entry.now }
 {
     any_in_pools(0, s.pools.as_slice()) || any_free_leaving(0, s.free.as_slice())
 }

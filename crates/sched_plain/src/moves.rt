@@ -3,12 +3,12 @@
 ghost use Rattle.sched_model.specs.CheckedMachine.{most_span};
 ghost use Rattle.std.specs.Prelude.{◌≡◌, ◌<◌, ◌≤◌, length, Some, None, option_map};
 ghost use Rattle.sched_model.specs.declared.action.Action.TheVariants as actions;
-ghost use Rattle.sched_model.specs.Machine.{event_of, after, after_moved as after_moved_spec};
+ghost use Rattle.sched_model.specs.Machine.{event_of, after, state_after_moved};
 ghost use Rattle.sched_model.specs.Places.{at_place, change_at};
 ghost use Rattle.pool_records.specs.Cores.{ends_of};
 ghost use Rattle.sched_plain.specs.Fits.{PoolFitsAt};
-ghost use Rattle.sched_model.specs.Machine.{with_core};
-ghost use Rattle.sched_plain.specs.Moves.{target_at as target_at_spec, without_its_core, ends_at};
+ghost use Rattle.sched_model.specs.Machine.{pool_with_core};
+ghost use Rattle.sched_plain.specs.Moves.{free_core_target, without_its_core, ends_at};
 ghost use Rattle.sched_plain.specs.ReachedStates.{Stands};
 ghost use Rattle.sched_laws.specs.EachPlace.{EachPlace};
 
@@ -25,7 +25,7 @@ use sched_model::state::{FreeCore, Pool, State};
 
 /// The pool to which the core of no pool is leaving.
 pub(crate) fn target_at(free: &[Option<FreeCore>], r: ResId) -> Option<u8>
-    ensures { result ≡ target_at_spec free.now r.0 }
+    ensures { result ≡ free_core_target free.now r.0 }
 {
     item_at(free, r.0 as usize)?.target
 }
@@ -34,7 +34,7 @@ pub(crate) fn target_at(free: &[Option<FreeCore>], r: ResId) -> Option<u8>
 fn join_core(t: Moment, r: ResId, stall_ends: &StallEnds, pool: &mut Pool)
     requires early { t.0 ≤ most_span }
     requires fits { PoolFitsAt t.0 pool.old }
-    ensures { pool.new ≡ with_core t.0 r.0 stall_ends.now pool.old }
+    ensures { pool.new ≡ pool_with_core t.0 r.0 stall_ends.now pool.old }
 {
     put_core(r, stall_ends, pool);
     settle(t, pool);
@@ -50,7 +50,7 @@ fn join_core_at(
 )
     requires early { t.0 ≤ most_span }
     requires fits { EachPlace (PoolFitsAt t.0) pools.old }
-    ensures { pools.new ≡ change_at i (with_core t.0 r.0 stall_ends.now) pools.old }
+    ensures { pools.new ≡ change_at i (pool_with_core t.0 r.0 stall_ends.now) pools.old }
 {
     if let Some(place) = pools.get_mut(i)
         && let Some(pool) = place
@@ -91,8 +91,8 @@ fn part_core_at(t: Moment, r: ResId, i: usize, pools: &mut Row<Option<Pool>>) ->
 fn attach(t: Moment, r: ResId, i: u8, s: &mut State)
     requires early { t.0 ≤ most_span }
     requires fits { EachPlace (PoolFitsAt t.0) s.old.pools }
-    requires target { target_at_spec s.old.free r.0 ≡ Some i }
-    ensures { s.new ≡ after_moved_spec t.0 r.0 s.old }
+    requires target { free_core_target s.old.free r.0 ≡ Some i }
+    ensures { s.new ≡ state_after_moved t.0 r.0 s.old }
 {
     let Some(c) = take_item(&mut s.free, r.0 as usize) else {
         unreachable!();
@@ -106,7 +106,7 @@ fn detach(t: Moment, r: ResId, s: &mut State)
     requires few { length s.old.pools ≤ 16 }
     requires fits { EachPlace (PoolFitsAt t.0) s.old.pools }
     requires owned { at_place s.old.free r.0 ≡ None }
-    ensures { s.new ≡ after_moved_spec t.0 r.0 s.old }
+    ensures { s.new ≡ state_after_moved t.0 r.0 s.old }
 {
     if let Some(i) = home_of_core(s, r) {
         if let Some(ends) = part_core_at(t, r, i, &mut s.pools) {

@@ -3,8 +3,8 @@
 ghost use Rattle.sched_model.specs.CheckedMachine.{most_span};
 ghost use Rattle.std.specs.Prelude.{◌≡◌, ◌<◌, ◌≤◌, true, Some};
 ghost use Rattle.sched_model.specs.Pool.{enabled_in, event_in, after_in, settled_pool};
-ghost use Rattle.sched_model.specs.Actions.{IsOfPool, home_of as home_of_spec};
-ghost use Rattle.sched_model.specs.Machine.{is_enabled, event_of, after};
+ghost use Rattle.sched_model.specs.Actions.{IsOfPool, home_pool_of_action};
+ghost use Rattle.sched_model.specs.Machine.{is_action_enabled, event_of, after};
 ghost use Rattle.cpupool.specs.Tool.{KnowsMachine};
 ghost use Rattle.sched_plain.specs.CommandList.{HasSpares};
 ghost use Rattle.sched_plain.specs.Fits.{PoolFitsAt};
@@ -47,8 +47,8 @@ fn perform_at(m: &Machine, t: Moment, action: Action, i: usize, s: &mut State) -
     requires stands { Stands m.now s.old }
     requires now { t.0 ≡ s.old.now }
     requires own { IsOfPool action }
-    requires enabled { is_enabled m.now s.old s.old.now action ≡ true }
-    requires home { home_of_spec m.now.config.granularity s.old action ≡ Some i }
+    requires enabled { is_action_enabled m.now s.old s.old.now action ≡ true }
+    requires home { home_pool_of_action m.now.config.granularity s.old action ≡ Some i }
     ensures event { result ≡ event_of m.now s.old s.old.now action }
     ensures state { s.new ≡ after m.now s.old s.old.now action }
 {
@@ -65,7 +65,7 @@ fn perform_at(m: &Machine, t: Moment, action: Action, i: usize, s: &mut State) -
 fn perform_at_home(m: &Machine, s: &mut State, action: Action) -> Event
     requires stands { Stands m.now s.old }
     requires own { IsOfPool action }
-    requires enabled { is_enabled m.now s.old s.old.now action ≡ true }
+    requires enabled { is_action_enabled m.now s.old s.old.now action ≡ true }
     ensures event { result ≡ event_of m.now s.old s.old.now action }
     ensures state { s.new ≡ after m.now s.old s.old.now action }
 {
@@ -85,7 +85,7 @@ pub fn perform(
     action: Action,
 ) -> Event
     requires stands { Stands m.now s.old }
-    requires enabled { is_enabled m.now s.old s.old.now action ≡ true }
+    requires enabled { is_action_enabled m.now s.old s.old.now action ≡ true }
     requires tool { KnowsMachine m.now tool.old }
     requires spares { HasSpares m.now s.old.next_command spares.old }
     ensures event { result ≡ event_of m.now s.old s.old.now action }

@@ -92,7 +92,7 @@ impl Plain {
     ghost use Rattle.sched_base.specs.Numbers.{moment};
     ghost use Rattle.sched_model.specs.Opening.{opening};
     ghost use Rattle.sched_model.specs.CheckedMachine.{IsChecked};
-    ghost use Rattle.sched_model.specs.Machine.{is_enabled as is_enabled_spec, first_enabled as first_enabled_spec, next_in_horizon, event_of, after};
+    ghost use Rattle.sched_model.specs.Machine.{is_action_enabled, first_enabled_action, next_in_horizon, event_of, after};
     ghost use Rattle.sched_plain.specs.Soonest.{IsTurn};
 
     /// The machine at its opening. Its values have passed the checks of the domain file and of the work file.
@@ -123,7 +123,7 @@ impl Plain {
 
     /// Whether the action may come now.
     pub fn is_enabled(&self, action: Action) -> bool
-        ensures { result ≡ is_enabled_spec self.now.machine self.now.state self.now.state.now
+        ensures { result ≡ is_action_enabled self.now.machine self.now.state self.now.state.now
             action }
     {
         is_enabled(&self.machine, &self.state, Moment(self.state.now), action)
@@ -131,7 +131,7 @@ impl Plain {
 
     /// The first action that may come now, or none exactly where none may.
     pub fn first_enabled(&self) -> Option<Action>
-        ensures { result ≡ first_enabled_spec self.now.machine self.now.state self.now.state.now }
+        ensures { result ≡ first_enabled_action self.now.machine self.now.state self.now.state.now }
     {
         first_enabled(&self.machine, &self.state, Moment(self.state.now))
     }
@@ -156,7 +156,7 @@ impl Plain {
 
     /// Does the event of an action that may come now, and answers it with the fields that its line prints.
     pub fn perform(&mut self, action: Action) -> Event
-        requires { is_enabled_spec self.old.machine self.old.state self.old.state.now action
+        requires { is_action_enabled self.old.machine self.old.state self.old.state.now action
             ≡ true }
         ensures event { result ≡ event_of self.old.machine self.old.state self.old.state.now
             action }
@@ -182,7 +182,7 @@ impl Plain {
 
     /// Goes on to the next moment, where nothing may come now.
     pub fn pass_to(&mut self, next: Moment)
-        requires nothing { first_enabled_spec self.old.machine self.old.state self.old.state.now
+        requires nothing { first_enabled_action self.old.machine self.old.state self.old.state.now
             ≡ None }
         requires next { next_in_horizon self.old.machine self.old.state ≡ Some next.0 }
         ensures { self.new ≡ record self.old { state = record self.old.state { now = next.0 } } }

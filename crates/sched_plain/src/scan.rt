@@ -5,9 +5,9 @@ ghost use Rattle.sched_base.specs.declared.VcpuId.{VcpuId as VcpuRecord};
 ghost use Rattle.sched_base.specs.declared.UnitId.{UnitId as UnitRecord};
 ghost use Rattle.sched_base.specs.Numbers.{domain};
 ghost use Rattle.sched_model.specs.Places.{numbers_from};
-ghost use Rattle.sched_model.specs.Opening.{core_count as core_count_spec};
+ghost use Rattle.sched_model.specs.Opening.{machine_core_count};
 ghost use Rattle.sched_model.specs.Actions.{vcpus_from, units_from};
-ghost use Rattle.sched_model.specs.Machine.{is_enabled as is_enabled_spec, first_enabled as first_enabled_spec};
+ghost use Rattle.sched_model.specs.Machine.{is_action_enabled, first_enabled_action};
 ghost use Rattle.sched_model.specs.declared.action.Action.TheVariants as action_of;
 ghost use Rattle.sched_plain.specs.Fits.{FewGuests, MachineFits, StateFits};
 ghost use Rattle.sched_plain.specs.Search.{action_at, moved_actions, dom_moved_actions, wake_actions, block_actions, slice_actions, repl_actions, refill_actions, arrive_actions, decide_actions, leave_actions, save_actions};
@@ -64,7 +64,7 @@ fn first_numbered(
     requires machine { MachineFits m.now }
     requires state { StateFits s.now }
     requires few { n + count < 2 ^ 8 }
-    ensures { result ≡ find (is_enabled_spec m.now s.entry.now t.0)
+    ensures { result ≡ find (is_action_enabled m.now s.entry.now t.0)
         (map (action_at kind) (numbers_from n count)) }
 {
     if count == 0 {
@@ -82,7 +82,7 @@ fn first_wake_in(m: &Machine, s: &State, t: Moment, d: DomId, n: u8, count: u8) 
     requires machine { MachineFits m.now }
     requires state { StateFits s.now }
     requires few { n + count < 2 ^ 8 }
-    ensures { result ≡ find (is_enabled_spec m.now s.entry.now t.0)
+    ensures { result ≡ find (is_action_enabled m.now s.entry.now t.0)
         (map action_of.Wake (map (λ k. let v : VcpuRecord = record { dom = d; n = k } in v)
         (numbers_from n count))) }
 {
@@ -101,7 +101,7 @@ fn first_repl_in(m: &Machine, s: &State, t: Moment, d: DomId, n: u8, count: u8) 
     requires machine { MachineFits m.now }
     requires state { StateFits s.now }
     requires few { n + count < 2 ^ 8 }
-    ensures { result ≡ find (is_enabled_spec m.now s.entry.now t.0)
+    ensures { result ≡ find (is_action_enabled m.now s.entry.now t.0)
         (map action_of.Repl (map (λ k. let u : UnitRecord = record { dom = d; n = k } in u)
         (numbers_from n count))) }
 {
@@ -122,7 +122,7 @@ fn first_wake(m: &Machine, s: &State, t: Moment, d: DomId, domains: &[DomConfig]
     requires state { StateFits s.now }
     requires guests { FewGuests domains.now }
     requires few { d.0 + length domains.now ≤ 64 }
-    ensures { result ≡ find (is_enabled_spec m.now s.entry.now t.0)
+    ensures { result ≡ find (is_action_enabled m.now s.entry.now t.0)
         (map action_of.Wake (vcpus_from d.0 domains.now)) }
 {
     match domains {
@@ -143,7 +143,7 @@ fn first_repl(m: &Machine, s: &State, t: Moment, d: DomId, domains: &[DomConfig]
     requires state { StateFits s.now }
     requires guests { FewGuests domains.now }
     requires few { d.0 + length domains.now ≤ 64 }
-    ensures { result ≡ find (is_enabled_spec m.now s.entry.now t.0)
+    ensures { result ≡ find (is_action_enabled m.now s.entry.now t.0)
         (map action_of.Repl (units_from m.now.config.granularity d.0 domains.now)) }
 {
     match domains {
@@ -162,7 +162,7 @@ fn first_repl(m: &Machine, s: &State, t: Moment, d: DomId, domains: &[DomConfig]
 /// How many cores the machine has.
 fn core_count(config: &Config) -> u8
     requires { 0 < config.now.granularity }
-    ensures { result ≡ core_count_spec config.now }
+    ensures { result ≡ machine_core_count config.now }
 {
     config.processors / config.granularity
 }
@@ -172,7 +172,7 @@ fn core_count(config: &Config) -> u8
 fn first_up_to_moved(m: &Machine, s: &State, t: Moment) -> Option<Action>
     requires machine { MachineFits m.now }
     requires state { StateFits s.now }
-    ensures { result ≡ find (is_enabled_spec m.now s.entry.now t.0) (moved_actions m.now.config) }
+    ensures { result ≡ find (is_action_enabled m.now s.entry.now t.0) (moved_actions m.now.config) }
 {
     if is_enabled(m, s, t, Action::Stall) {
         return Some(Action::Stall);
@@ -188,7 +188,7 @@ fn first_up_to_moved(m: &Machine, s: &State, t: Moment) -> Option<Action>
 fn first_up_to_dom_moved(m: &Machine, s: &State, t: Moment) -> Option<Action>
     requires machine { MachineFits m.now }
     requires state { StateFits s.now }
-    ensures { result ≡ find (is_enabled_spec m.now s.entry.now t.0)
+    ensures { result ≡ find (is_action_enabled m.now s.entry.now t.0)
         (dom_moved_actions m.now.config) }
 {
     match first_up_to_moved(m, s, t) {
@@ -202,7 +202,7 @@ fn first_up_to_dom_moved(m: &Machine, s: &State, t: Moment) -> Option<Action>
 fn first_up_to_wake(m: &Machine, s: &State, t: Moment) -> Option<Action>
     requires machine { MachineFits m.now }
     requires state { StateFits s.now }
-    ensures { result ≡ find (is_enabled_spec m.now s.entry.now t.0) (wake_actions m.now.config) }
+    ensures { result ≡ find (is_action_enabled m.now s.entry.now t.0) (wake_actions m.now.config) }
 {
     match first_up_to_dom_moved(m, s, t) {
         Some(action) => Some(action),
@@ -215,7 +215,7 @@ fn first_up_to_wake(m: &Machine, s: &State, t: Moment) -> Option<Action>
 fn first_up_to_block(m: &Machine, s: &State, t: Moment) -> Option<Action>
     requires machine { MachineFits m.now }
     requires state { StateFits s.now }
-    ensures { result ≡ find (is_enabled_spec m.now s.entry.now t.0) (block_actions m.now.config) }
+    ensures { result ≡ find (is_action_enabled m.now s.entry.now t.0) (block_actions m.now.config) }
 {
     match first_up_to_wake(m, s, t) {
         Some(action) => Some(action),
@@ -228,7 +228,7 @@ fn first_up_to_block(m: &Machine, s: &State, t: Moment) -> Option<Action>
 fn first_up_to_slice(m: &Machine, s: &State, t: Moment) -> Option<Action>
     requires machine { MachineFits m.now }
     requires state { StateFits s.now }
-    ensures { result ≡ find (is_enabled_spec m.now s.entry.now t.0) (slice_actions m.now.config) }
+    ensures { result ≡ find (is_action_enabled m.now s.entry.now t.0) (slice_actions m.now.config) }
 {
     match first_up_to_block(m, s, t) {
         Some(action) => Some(action),
@@ -241,7 +241,7 @@ fn first_up_to_slice(m: &Machine, s: &State, t: Moment) -> Option<Action>
 fn first_up_to_repl(m: &Machine, s: &State, t: Moment) -> Option<Action>
     requires machine { MachineFits m.now }
     requires state { StateFits s.now }
-    ensures { result ≡ find (is_enabled_spec m.now s.entry.now t.0) (repl_actions m.now.config) }
+    ensures { result ≡ find (is_action_enabled m.now s.entry.now t.0) (repl_actions m.now.config) }
 {
     match first_up_to_slice(m, s, t) {
         Some(action) => Some(action),
@@ -254,7 +254,7 @@ fn first_up_to_repl(m: &Machine, s: &State, t: Moment) -> Option<Action>
 fn first_up_to_refill(m: &Machine, s: &State, t: Moment) -> Option<Action>
     requires machine { MachineFits m.now }
     requires state { StateFits s.now }
-    ensures { result ≡ find (is_enabled_spec m.now s.entry.now t.0) (refill_actions m.now.config) }
+    ensures { result ≡ find (is_action_enabled m.now s.entry.now t.0) (refill_actions m.now.config) }
 {
     match first_up_to_repl(m, s, t) {
         Some(action) => Some(action),
@@ -267,7 +267,7 @@ fn first_up_to_refill(m: &Machine, s: &State, t: Moment) -> Option<Action>
 fn first_up_to_arrive(m: &Machine, s: &State, t: Moment) -> Option<Action>
     requires machine { MachineFits m.now }
     requires state { StateFits s.now }
-    ensures { result ≡ find (is_enabled_spec m.now s.entry.now t.0) (arrive_actions m.now.config) }
+    ensures { result ≡ find (is_action_enabled m.now s.entry.now t.0) (arrive_actions m.now.config) }
 {
     match first_up_to_refill(m, s, t) {
         Some(action) => Some(action),
@@ -280,7 +280,7 @@ fn first_up_to_arrive(m: &Machine, s: &State, t: Moment) -> Option<Action>
 fn first_up_to_decide(m: &Machine, s: &State, t: Moment) -> Option<Action>
     requires machine { MachineFits m.now }
     requires state { StateFits s.now }
-    ensures { result ≡ find (is_enabled_spec m.now s.entry.now t.0) (decide_actions m.now.config) }
+    ensures { result ≡ find (is_action_enabled m.now s.entry.now t.0) (decide_actions m.now.config) }
 {
     match first_up_to_arrive(m, s, t) {
         Some(action) => Some(action),
@@ -293,7 +293,7 @@ fn first_up_to_decide(m: &Machine, s: &State, t: Moment) -> Option<Action>
 fn first_up_to_leave(m: &Machine, s: &State, t: Moment) -> Option<Action>
     requires machine { MachineFits m.now }
     requires state { StateFits s.now }
-    ensures { result ≡ find (is_enabled_spec m.now s.entry.now t.0) (leave_actions m.now.config) }
+    ensures { result ≡ find (is_action_enabled m.now s.entry.now t.0) (leave_actions m.now.config) }
 {
     match first_up_to_decide(m, s, t) {
         Some(action) => Some(action),
@@ -306,7 +306,7 @@ fn first_up_to_leave(m: &Machine, s: &State, t: Moment) -> Option<Action>
 fn first_up_to_save(m: &Machine, s: &State, t: Moment) -> Option<Action>
     requires machine { MachineFits m.now }
     requires state { StateFits s.now }
-    ensures { result ≡ find (is_enabled_spec m.now s.entry.now t.0) (save_actions m.now.config) }
+    ensures { result ≡ find (is_action_enabled m.now s.entry.now t.0) (save_actions m.now.config) }
 {
     match first_up_to_leave(m, s, t) {
         Some(action) => Some(action),
@@ -318,7 +318,7 @@ fn first_up_to_save(m: &Machine, s: &State, t: Moment) -> Option<Action>
 pub fn first_enabled(m: &Machine, s: &State, t: Moment) -> Option<Action>
     requires machine { MachineFits m.now }
     requires state { StateFits s.now }
-    ensures { result ≡ first_enabled_spec m.now s.entry.now t.0 }
+    ensures { result ≡ first_enabled_action m.now s.entry.now t.0 }
 {
     first_up_to_save(m, s, t)
 }

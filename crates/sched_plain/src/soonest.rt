@@ -4,10 +4,10 @@ ghost use Rattle.std.specs.Prelude.{◌≡◌, ℕ, ◌+◌, ◌<◌, ◌≤◌,
 ghost use Rattle.std.specs.Option.{ForSome};
 ghost use Rattle.sched_model.specs.Places.{numbered_items};
 ghost use Rattle.sched_laws.specs.EachPlace.{EachPlace};
-ghost use Rattle.plain_pool.specs.Ready.{AreWhole, IsLeastWith, ScanFits, lesser as lesser_spec};
+ghost use Rattle.plain_pool.specs.Ready.{AreWhole, IsLeastWith, ScanFits, lesser_moment};
 ghost use Rattle.sched_plain.specs.Fits.{StateFits};
 ghost use Rattle.sched_plain.specs.ReachedStates.{Stands};
-ghost use Rattle.sched_plain.specs.Soonest.{IsReadyAmong, IsReadyAt, IsSoonest, IsTurn, command_ready, first_of, free_end as free_end_spec, least_of_free, stall_ready as stall_ready_spec};
+ghost use Rattle.sched_plain.specs.Soonest.{IsReadyAmong, IsReadyAt, IsSoonest, IsTurn, command_ready, first_of, free_core_moment, least_of_free, next_stall_moment};
 
 use crate::homes::is_move_under_way;
 use plain_pool::ready::{end_if, least_ready, lesser};
@@ -18,7 +18,7 @@ use sched_model::state::{FreeCore, Pool, State};
 
 /// From when on the next stall may come.
 fn stall_ready(m: &Machine, s: &State) -> Option<Moment>
-    ensures { result ≡ stall_ready_spec m.now s.entry.now }
+    ensures { result ≡ next_stall_moment m.now s.entry.now }
 {
     match m.work.stalls.as_slice().get(s.next_stall as usize) {
         None => None,
@@ -30,7 +30,7 @@ fn stall_ready(m: &Machine, s: &State) -> Option<Moment>
 /// comes before the least so far.
 fn of_command(best: u64, m: &Machine, s: &State) -> u64
     requires { StateFits s.now }
-    ensures { result ≡ lesser_spec best (command_ready m.now s.entry.now) }
+    ensures { result ≡ lesser_moment best (command_ready m.now s.entry.now) }
 {
     match m.work.commands.as_slice().get(s.next_command as usize) {
         None => best,
@@ -56,7 +56,7 @@ fn first_end(ends: &[Moment]) -> Option<Moment>
 
 /// From when on the core of no pool may move to the pool to which it is leaving.
 fn free_end(c: &FreeCore) -> Option<Moment>
-    ensures { result ≡ free_end_spec c.now }
+    ensures { result ≡ free_core_moment c.now }
 {
     end_if(c.target.is_some(), first_end(c.stall_ends.as_slice()))
 }

@@ -3,12 +3,12 @@
 ghost use Rattle.std.specs.Prelude.{◌≡◌, ◌<◌, ◌≤◌, length, true};
 ghost use Rattle.sched_base.specs.Numbers.{moment};
 ghost use Rattle.sched_model.specs.declared.action.Action.TheVariants as actions;
-ghost use Rattle.sched_model.specs.Machine.{is_enabled, event_of, after, stall_end_of as stall_end_of_spec, with_stall_end as stalled_spec};
+ghost use Rattle.sched_model.specs.Machine.{is_action_enabled, event_of, after, later_stall_end, state_with_stall};
 ghost use Rattle.sched_model.specs.Places.{at_place, change_at};
 ghost use Rattle.sched_model.specs.Pool.{change_processor};
 ghost use Rattle.pool_records.specs.Cores.{stalled_to};
 ghost use Rattle.sched_plain.specs.ReachedStates.{Stands};
-ghost use Rattle.sched_plain.specs.Stalls.{end_in_pool as end_in_pool_spec, end_at_home as end_at_home_spec, end_among as end_among_spec, end_in_free as end_in_free_spec, ends_to, free_to};
+ghost use Rattle.sched_plain.specs.Stalls.{later_end_in_pool, later_end_at_home, later_end_among, later_end_in_free, ends_to, free_to};
 
 use crate::homes::{home_of_core, pool_at};
 use plain_pool::pool::processor_of;
@@ -23,7 +23,7 @@ use sched_model::state::{FreeCore, Pool, State};
 /// The later of the end and that of the processor's stall, where the pool has the processor.
 fn end_in_pool(g: u8, pool: &Pool, p: ProcId, end: u64) -> u64
     requires { 0 < g }
-    ensures { result ≡ end_in_pool_spec g pool.now p.0 end }
+    ensures { result ≡ later_end_in_pool g pool.now p.0 end }
 {
     match processor_of(g, pool, p) {
         None => end,
@@ -34,7 +34,7 @@ fn end_in_pool(g: u8, pool: &Pool, p: ProcId, end: u64) -> u64
 /// The same of the pool with this number.
 fn end_at_home(g: u8, s: &State, i: usize, p: ProcId, end: u64) -> u64
     requires { 0 < g }
-    ensures { result ≡ end_at_home_spec g (at_place s.entry.now.pools i) p.0 end }
+    ensures { result ≡ later_end_at_home g (at_place s.entry.now.pools i) p.0 end }
 {
     match pool_at(s, i) {
         None => end,
@@ -44,7 +44,7 @@ fn end_at_home(g: u8, s: &State, i: usize, p: ProcId, end: u64) -> u64
 
 /// The later of the end and that at this place.
 fn end_among(ends: &[Moment], i: usize, end: u64) -> u64
-    ensures { result ≡ end_among_spec ends.now i end }
+    ensures { result ≡ later_end_among ends.now i end }
 {
     match ends.get(i) {
         None => end,
@@ -55,7 +55,7 @@ fn end_among(ends: &[Moment], i: usize, end: u64) -> u64
 /// The same of a processor of a core of no pool.
 fn end_in_free(g: u8, free: &[Option<FreeCore>], p: ProcId, end: u64) -> u64
     requires { 0 < g }
-    ensures { result ≡ end_in_free_spec g free.now p.0 end }
+    ensures { result ≡ later_end_in_free g free.now p.0 end }
 {
     match item_at(free, (p.0 / g) as usize) {
         None => end,
@@ -67,7 +67,7 @@ fn end_in_free(g: u8, free: &[Option<FreeCore>], p: ProcId, end: u64) -> u64
 pub(crate) fn stall_end_of(g: u8, s: &State, p: ProcId, end: u64) -> u64
     requires some { 0 < g }
     requires few { length s.now.pools ≤ 16 }
-    ensures { result ≡ stall_end_of_spec g s.entry.now p.0 end }
+    ensures { result ≡ later_stall_end g s.entry.now p.0 end }
 {
     match home_of_core(s, ResId(p.0 / g)) {
         None => end_in_free(g, s.free.as_slice(), p, end),
@@ -113,7 +113,7 @@ fn set_end_at_home(g: u8, p: ProcId, end: u64, i: usize, pools: &mut Row<Option<
 fn stalled(g: u8, p: ProcId, end: u64, s: &mut State)
     requires some { 0 < g }
     requires few { length s.old.pools ≤ 16 }
-    ensures { s.new ≡ stalled_spec g p.0 end s.old }
+    ensures { s.new ≡ state_with_stall g p.0 end s.old }
 {
     match home_of_core(s, ResId(p.0 / g)) {
         None => set_end_in_free(g, p, end, &mut s.free),
@@ -124,7 +124,7 @@ fn stalled(g: u8, p: ProcId, end: u64, s: &mut State)
 /// The next stall of the workload, whose moment has come.
 pub fn stall(m: &Machine, s: &mut State) -> Event
     requires stands { Stands m.now s.old }
-    requires enabled { is_enabled m.now s.old s.old.now actions.Stall ≡ true }
+    requires enabled { is_action_enabled m.now s.old s.old.now actions.Stall ≡ true }
     ensures event { result ≡ event_of m.now s.old s.old.now actions.Stall }
     ensures state { s.new ≡ after m.now s.old s.old.now actions.Stall }
 {

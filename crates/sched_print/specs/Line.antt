@@ -18,21 +18,21 @@ use Rattle.sched_model.specs.declared.event.Param.TheVariants as param
 use Rattle.sched_model.specs.declared.event.Entry.{Entry}
 
 -- the name of a scheduler
-abbrev pub kind_word : SchedKind → List ℕ
-kind_word kind.Credit2 = codes "credit2"
-kind_word kind.Rtds = codes "rtds"
-kind_word kind.Arinc653 = codes "arinc653"
-kind_word kind.Null = codes "null"
+abbrev pub kind_text : SchedKind → List ℕ
+kind_text kind.Credit2 = codes "credit2"
+kind_text kind.Rtds = codes "rtds"
+kind_text kind.Arinc653 = codes "arinc653"
+kind_text kind.Null = codes "null"
 
 -- the name of a parameter
-abbrev pub param_word : Param → List ℕ
-param_word param.Weight = codes "weight"
-param_word param.Cap = codes "cap"
-param_word param.Ratelimit = codes "ratelimit"
-param_word param.Period = codes "period"
-param_word param.Budget = codes "budget"
-param_word param.Major = codes "major"
-param_word param.Run = codes "run"
+abbrev pub param_text : Param → List ℕ
+param_text param.Weight = codes "weight"
+param_text param.Cap = codes "cap"
+param_text param.Ratelimit = codes "ratelimit"
+param_text param.Period = codes "period"
+param_text param.Budget = codes "budget"
+param_text param.Major = codes "major"
+param_text param.Run = codes "run"
 
 -- a flag is printed 0 or 1
 abbrev pub flag : Bool → List ℕ
@@ -43,7 +43,7 @@ flag true = codes "1"
 abbrev pub with_reply : List ℕ → Reply → List ℕ
 with_reply front reply.Done = front ++ codes " ok"
 with_reply front (reply.Pools pools free) = front ++ codes " ok pools " ++ decimal pools ++ codes " free " ++ decimal free
-with_reply front (reply.Pool pool kind cpus domains) = front ++ codes " ok pool " ++ decimal pool.0 ++ codes " " ++ kind_word kind ++ codes " cpus " ++ decimal cpus ++ codes " domains " ++ decimal domains
+with_reply front (reply.Pool pool kind cpus domains) = front ++ codes " ok pool " ++ decimal pool.0 ++ codes " " ++ kind_text kind ++ codes " cpus " ++ decimal cpus ++ codes " domains " ++ decimal domains
 with_reply front (reply.Weight weight cap) = front ++ codes " ok weight " ++ decimal weight ++ codes " cap " ++ decimal cap
 with_reply front (reply.Rate limit) = front ++ codes " ok ratelimit " ++ decimal limit
 with_reply front (reply.Rtds period budget extra) = front ++ codes " ok period " ++ decimal period ++ codes " budget " ++ decimal budget ++ codes " extratime " ++ flag extra
@@ -60,8 +60,8 @@ with_refusal front (refusal.CpuElsewhere cpu) = front ++ codes " refused 7 CpuEl
 with_refusal front (refusal.LastCpu pool dom) = front ++ codes " refused 8 LastCpu pool " ++ decimal pool.0 ++ codes " domain " ++ decimal dom.0
 with_refusal front (refusal.PoolHolds pool cpus domains) = front ++ codes " refused 9 PoolHolds pool " ++ decimal pool.0 ++ codes " cpus " ++ decimal cpus ++ codes " domains " ++ decimal domains
 with_refusal front refusal.PoolZero = front ++ codes " refused 10 PoolZero"
-with_refusal front (refusal.WrongSched pool kind) = front ++ codes " refused 11 WrongSched pool " ++ decimal pool.0 ++ codes " " ++ kind_word kind
-with_refusal front (refusal.Range param n) = front ++ codes " refused 12 Range " ++ param_word param ++ codes " " ++ decimal n
+with_refusal front (refusal.WrongSched pool kind) = front ++ codes " refused 11 WrongSched pool " ++ decimal pool.0 ++ codes " " ++ kind_text kind
+with_refusal front (refusal.Range param n) = front ++ codes " refused 12 Range " ++ param_text param ++ codes " " ++ decimal n
 with_refusal front (refusal.PoolEmpty pool) = front ++ codes " refused 13 PoolEmpty pool " ++ decimal pool.0
 with_refusal front (refusal.ArincOne pool) = front ++ codes " refused 14 ArincOne pool " ++ decimal pool.0
 with_refusal front refusal.PoolsFull = front ++ codes " refused 15 PoolsFull"

@@ -2,7 +2,7 @@
 
 ghost use Rattle.std.specs.Prelude.{◌≡◌, Ok, Err};
 ghost use Rattle.sched_print.specs.Readers.{Word, read};
-ghost use Rattle.sched_print.specs.Line.{kind_word as kind_spelling, param_word as param_spelling};
+ghost use Rattle.sched_print.specs.Line.{kind_text, param_text};
 ghost use Rattle.sched_print.specs.Forms as form;
 
 use crate::scan::{Left, any_number, better, closing, end, small_number, word};
@@ -56,7 +56,7 @@ fn pool_counts(
     kind: SchedKind,
     bytes: &[u8],
 ) -> Result<Entry, Left>
-    ensures { result ≡ read (Word (kind_spelling kind)
+    ensures { result ≡ read (Word (kind_text kind)
         (form.pool_counts pool kind (form.answered_form at.0 k))) bytes.now }
 {
     let rest = word(bytes, kind_word(kind))?;
@@ -252,7 +252,7 @@ fn wrong_kind(
     kind: SchedKind,
     bytes: &[u8],
 ) -> Result<Entry, Left>
-    ensures { result ≡ read (Word (kind_spelling kind)
+    ensures { result ≡ read (Word (kind_text kind)
         (form.refused_form at.0 k (Refusal.WrongSched pool kind))) bytes.now }
 {
     let refusal = Refusal::WrongSched { pool, kind };
@@ -273,7 +273,7 @@ fn wrong_sched(at: Moment, k: u32, bytes: &[u8]) -> Result<Entry, Left>
 }
 
 fn range_of(at: Moment, k: u32, param: Param, bytes: &[u8]) -> Result<Entry, Left>
-    ensures { result ≡ read (Word (param_spelling param)
+    ensures { result ≡ read (Word (param_text param)
         (form.range_of param (form.refused_form at.0 k))) bytes.now }
 {
     let rest = word(bytes, param_word(param))?;

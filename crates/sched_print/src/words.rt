@@ -1,7 +1,7 @@
 //! The words of a line that stand for a scheduler, a parameter or a flag.
 
 ghost use Rattle.std.specs.Prelude.{◌≡◌, length, ◌+◌, ◌≤◌, ◌++◌};
-ghost use Rattle.sched_print.specs.Line.{kind_word as kind_spelling, param_word as param_spelling, flag};
+ghost use Rattle.sched_print.specs.Line.{kind_text, param_text, flag};
 
 use crate::line_buf::LineBuf;
 use sched_model::config::SchedKind;
@@ -9,7 +9,7 @@ use sched_model::event::Param;
 
 /// The name of a scheduler.
 pub fn kind_word(kind: SchedKind) -> &'static [u8]
-    ensures word { result.now ≡ kind_spelling kind }
+    ensures word { result.now ≡ kind_text kind }
     ensures length { length result.now ≤ 9 }
 {
     match kind {
@@ -22,7 +22,7 @@ pub fn kind_word(kind: SchedKind) -> &'static [u8]
 
 /// The name of a parameter that a command sets.
 pub fn param_word(param: Param) -> &'static [u8]
-    ensures word { result.now ≡ param_spelling param }
+    ensures word { result.now ≡ param_text param }
     ensures length { length result.now ≤ 9 }
 {
     match param {

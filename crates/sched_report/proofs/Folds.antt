@@ -10,10 +10,10 @@ use Rattle.sched_base.specs.declared.Span.{Span}
 use Rattle.sched_base.specs.declared.ResId.{ResId}
 use Rattle.sched_base.specs.declared.UnitId.{UnitId}
 use Rattle.sched_model.specs.Places.{same_unit}
-use Rattle.sched_report.specs.declared.choice.Choice.{Choice}
+use Rattle.sched_report.specs.declared.choice.CoreChoice.{CoreChoice}
 use Rattle.sched_report.specs.declared.tally.CoreTally.{CoreTally}
 use Rattle.sched_report.specs.Stays.{Decision, Stay, decisions_from, stays_from, end_of_stay, span}
-use Rattle.sched_report.specs.Tallies.{core_after, open_time, ended_time}
+use Rattle.sched_report.specs.Tallies.{core_tally_after, open_stay_time, ended_time}
 
 -- two units are the same, or the tests tell them apart in either order
 abbrev pub Told : UnitId → UnitId → Type 0
@@ -42,15 +42,15 @@ no_time true = refl
 no_time false = refl
 
 -- what is under way and what begins is what ends and what goes on
-abbrev pub EndsAll : (UnitId → Bool) → ℕ → CoreTally → List Choice → Type 0
+abbrev pub EndsAll : (UnitId → Bool) → ℕ → CoreTally → List CoreChoice → Type 0
 EndsAll p last k cs =
-    front p last k.since.0 k.cur (decisions_from k.cur cs) + sum_by (weigh p) (stays_from last (decisions_from k.cur cs)) ≡ ended_time p k cs + open_time p last (fold core_after k cs)
+    front p last k.since.0 k.cur (decisions_from k.cur cs) + sum_by (weigh p) (stays_from last (decisions_from k.cur cs)) ≡ ended_time p k cs + open_stay_time p last (fold core_tally_after k cs)
 
-module _ (p : UnitId → Bool) (last : ℕ) (since : Moment) (run decides : ℕ) (core : ResId) (at : Moment) (late : Span) (cs : List Choice) (rest : (k : CoreTally) → EndsAll p last k cs) where
+module _ (p : UnitId → Bool) (last : ℕ) (since : Moment) (run decides : ℕ) (core : ResId) (at : Moment) (late : Span) (cs : List CoreChoice) (rest : (k : CoreTally) → EndsAll p last k cs) where
   abbrev from : Option UnitId → CoreTally
   from cur = record { cur = cur; since = since; run = run; decides = decides }
 
-  abbrev by : Option UnitId → Choice
+  abbrev by : Option UnitId → CoreChoice
   by unit = record { core = core; at = at; unit = unit; late = late }
 
   abbrev behind : UnitId → List Decision
@@ -72,10 +72,10 @@ module _ (p : UnitId → Bool) (last : ℕ) (since : Moment) (run decides : ℕ)
       simp same (omega (arith, begun, rest (record { cur = Some u; since = since; run = run + 0; decides = decides + 1 }), no_time (p u)))
 
   ends_more : (cur unit : Option UnitId) → EndsAll p last (from cur) (by unit ∷ cs)
-  ends_more None None = omega (arith, rest (core_after (from None) (by None)))
+  ends_more None None = omega (arith, rest (core_tally_after (from None) (by None)))
   ends_more None (Some w) =
-      omega (arith, rest (core_after (from None) (by (Some w))), sum_by-cons (weigh p) (stay w) (stays_from last (behind w)))
-  ends_more (Some u) None = omega (arith, rest (core_after (from (Some u)) (by None)))
+      omega (arith, rest (core_tally_after (from None) (by (Some w))), sum_by-cons (weigh p) (stay w) (stays_from last (behind w)))
+  ends_more (Some u) None = omega (arith, rest (core_tally_after (from (Some u)) (by None)))
   ends_more (Some u) (Some w) = elim (told u w) [
     | inl same ↦ subst (λ (x : UnitId). EndsAll p last (from (Some u)) (by (Some x) ∷ cs)) same.0 (ends_same u (subst (λ (x : UnitId). same_unit u x ≡ true) (sym same.0) same.1))
     | inr apart ↦
@@ -88,6 +88,6 @@ ends_nothing : (p : UnitId → Bool) (last since : ℕ) (cur : Option UnitId) �
 ends_nothing p last since None = refl
 ends_nothing p last since (Some u) = omega arith
 
-pub ended-stays : (p : UnitId → Bool) (last : ℕ) (k : CoreTally) (cs : List Choice) → EndsAll p last k cs
+pub ended-stays : (p : UnitId → Bool) (last : ℕ) (k : CoreTally) (cs : List CoreChoice) → EndsAll p last k cs
 ended-stays p last k [] = ends_nothing p last k.since.0 k.cur
 ended-stays p last k (c ∷ cs) = ends_more p last k.since k.run k.decides c.core c.at c.late cs (λ k'. ended-stays p last k' cs) k.cur c.unit

@@ -8,7 +8,7 @@ use Rattle.sched_model.specs.declared.config.DomConfig.{DomConfig}
 use Rattle.sched_model.specs.CheckedMachine.{IsGranularity}
 use Rattle.sched_model.specs.declared.event.Entry.{Entry}
 use Rattle.sched_model.specs.Places.{numbers_from, is_unit, same_unit}
-use Rattle.sched_model.specs.Opening.{core_count}
+use Rattle.sched_model.specs.Opening.{machine_core_count}
 use Rattle.sched_model.specs.Actions.{units_from}
 use Rattle.sched_report.specs.declared.line.UnitLine.{UnitLine}
 use Rattle.sched_report.specs.declared.line.CoreLine.{CoreLine}
@@ -16,7 +16,7 @@ use Rattle.sched_report.specs.Stays.{Stay, Decision, stays, decisions, choices, 
 
 -- the numbers of the cores
 abbrev pub cores : Config → List ℕ
-cores config = numbers_from 0 (core_count config)
+cores config = numbers_from 0 (machine_core_count config)
 
 -- the units, in order of domain and index
 abbrev pub units : Config → List UnitId
@@ -31,8 +31,8 @@ abbrev pub decisions_on : Config → List Entry → UnitId → List Decision
 decisions_on config entries u = filter (λ (d : Decision). is_unit d.before u) (flat_map (λ r. decisions r entries) (cores config))
 
 -- a unit: the time of its stays and their number, how often it was replenished, and how late the decisions were that found it
-abbrev pub unit_line : Config → List Entry → UnitId → UnitLine
-unit_line config entries u =
+abbrev pub line_of_unit : Config → List Entry → UnitId → UnitLine
+line_of_unit config entries u =
     record {
       unit = u;
       run = sum_by span (stays_of config entries u);
@@ -42,8 +42,8 @@ unit_line config entries u =
     }
 
 -- a core: the time of the stays on it, the rest of the time up to the last moment, and the number of its decisions
-abbrev pub core_line : List Entry → ℕ → CoreLine
-core_line entries r =
+abbrev pub line_of_core : List Entry → ℕ → CoreLine
+line_of_core entries r =
     record {
       core = core_number r;
       run = sum_by span (stays r entries);
@@ -62,8 +62,8 @@ pub record Figures : Type 0 where
 abbrev pub report_of : Config → List Entry → Figures
 report_of config entries =
     record {
-      units = map (unit_line config entries) (units config);
-      cores = map (core_line entries) (cores config);
+      units = map (line_of_unit config entries) (units config);
+      cores = map (line_of_core entries) (cores config);
       entries = length entries;
       end = last_moment entries;
     }

@@ -6,28 +6,28 @@ use Rattle.sched_model.specs.declared.event.Event.{Event}
 use Rattle.sched_model.specs.declared.event.Event.TheVariants as event
 use Rattle.sched_model.specs.declared.event.Entry.{Entry}
 use Rattle.sched_model.specs.Places.{is_unit}
-use Rattle.sched_report.specs.declared.choice.Choice.{Choice}
+use Rattle.sched_report.specs.declared.choice.CoreChoice.{CoreChoice}
 
 -- what an event at the moment chooses, where it is a decision
-abbrev pub choice_at : Moment → Event → Option Choice
+abbrev pub choice_at : Moment → Event → Option CoreChoice
 choice_at at (event.Decide r unit due late reset) = Some (record { core = r; at = at; unit = unit; late = late })
 choice_at at _ = None
 
 -- what the entry chooses, where it is a decision
-abbrev pub choice_in : Entry → Option Choice
-choice_in entry = choice_at entry.at entry.event
+abbrev pub entry_choice : Entry → Option CoreChoice
+entry_choice entry = choice_at entry.at entry.event
 
 -- the choices of the core r, in order
-abbrev pub choices : ℕ → List Entry → List Choice
-choices r entries = filter (λ (c : Choice). c.core.0 == r) (filter_map choice_in entries)
+abbrev pub choices : ℕ → List Entry → List CoreChoice
+choices r entries = filter (λ (c : CoreChoice). c.core.0 == r) (filter_map entry_choice entries)
 
 -- a decision: the unit that was on the core before it, where there was one, and what it chose
 pub record Decision : Type 0 where
   pub before : Option UnitId
-  pub choice : Choice
+  pub choice : CoreChoice
 
 -- the decisions that make these choices; the first finds the unit before, and each other one what was chosen last
-abbrev pub decisions_from : Option UnitId → List Choice → List Decision
+abbrev pub decisions_from : Option UnitId → List CoreChoice → List Decision
 decisions_from before [] = []
 decisions_from before (c ∷ cs) = record { before = before; choice = c } ∷ decisions_from c.unit cs
 
@@ -76,10 +76,10 @@ abbrev pub stays : ℕ → List Entry → List Stay
 stays r entries = stays_from (last_moment entries) (decisions r entries)
 
 -- the unit that an event replenishes, where it is a replenishment
-abbrev pub renewed_by : Event → Option UnitId
-renewed_by (event.Repl u start deadline budget extra) = Some u
-renewed_by _ = None
+abbrev pub replenished_by : Event → Option UnitId
+replenished_by (event.Repl u start deadline budget extra) = Some u
+replenished_by _ = None
 
 -- the units that are replenished, in order
 abbrev pub renewals : List Entry → List UnitId
-renewals entries = filter_map (λ (entry : Entry). renewed_by entry.event) entries
+renewals entries = filter_map (λ (entry : Entry). replenished_by entry.event) entries

@@ -9,7 +9,7 @@ use sched_model::event::{Entry, Event};
 
 /// What a decision chooses: the unit that is on the core from this moment on, or none.
 #[derive(Clone, Copy)]
-pub struct Choice {
+pub struct CoreChoice {
     pub core: ResId,
     pub at: Moment,
     pub unit: Option<UnitId>,
@@ -18,11 +18,11 @@ pub struct Choice {
 }
 
 /// The choice with these values.
-fn make_choice(core: ResId, at: Moment, unit: Option<UnitId>, late: Span) -> Choice
+fn make_choice(core: ResId, at: Moment, unit: Option<UnitId>, late: Span) -> CoreChoice
     ensures values { result ≡ record { core = core; at = at; unit = unit; late = late } }
     ensures short { IsShort result }
 {
-    Choice {
+    CoreChoice {
         core,
         at,
         unit,
@@ -31,8 +31,8 @@ fn make_choice(core: ResId, at: Moment, unit: Option<UnitId>, late: Span) -> Cho
 }
 
 /// What the entry chooses, where it is a decision.
-pub fn choice_in(e: &Entry) -> Option<Choice>
-    ensures choice { result ≡ stays.choice_in e.now }
+pub fn choice_in(e: &Entry) -> Option<CoreChoice>
+    ensures choice { result ≡ stays.entry_choice e.now }
     ensures short { IfSome result IsShort }
 {
     match e.event {
@@ -43,7 +43,7 @@ pub fn choice_in(e: &Entry) -> Option<Choice>
 
 /// The unit that the entry replenishes, where it is a replenishment.
 pub fn renewed_by(e: &Entry) -> Option<UnitId>
-    ensures { result ≡ stays.renewed_by e.now.event }
+    ensures { result ≡ stays.replenished_by e.now.event }
 {
     match e.event {
         Event::Repl { u, .. } => Some(u),

@@ -2,11 +2,11 @@
 
 ghost use Rattle.std.specs.Prelude.{◌≡◌, ◌+◌, ◌*◌, ◌^◌, ◌<◌, ◌≤◌, IfSome, length, sum_by, true, Some, None};
 ghost use Rattle.sched_model.specs.Places.{same_unit};
-ghost use Rattle.sched_report.specs.Stays.{choice_in, renewed_by};
+ghost use Rattle.sched_report.specs.Stays.{entry_choice, replenished_by};
 ghost use Rattle.sched_report.specs.Tallies.{UnitsWithin, CoresWithin, IsShort};
 ghost use Rattle.sched_report.specs.Tallies as tallies;
 
-use crate::choice::{Choice, choice_in, renewed_by};
+use crate::choice::{CoreChoice, choice_in, renewed_by};
 use sched_base::{Moment, UnitId};
 use sched_model::event::Entry;
 use sched_model::units::{is_same, is_same_choice};
@@ -51,7 +51,7 @@ impl CoreTally {
 }
 
 /// How long the stay was that the choice ends, 0 where it ends none.
-fn ended(core: &CoreTally, c: &Choice) -> u64
+fn ended(core: &CoreTally, c: &CoreChoice) -> u64
     ensures { result ≡ tallies.ended_span core.now c.now }
 {
     if core.cur.is_none() || is_same_choice(core.cur, c.unit) {
@@ -61,10 +61,10 @@ fn ended(core: &CoreTally, c: &Choice) -> u64
     }
 }
 
-fn core_after(core: &CoreTally, c: &Choice) -> CoreTally
+fn core_after(core: &CoreTally, c: &CoreChoice) -> CoreTally
     requires run { core.now.run + 2 ^ 64 ≤ 2 ^ 128 }
     requires decides { core.now.decides + 1 < 2 ^ 32 }
-    ensures { result ≡ tallies.core_after core.now c.now }
+    ensures { result ≡ tallies.core_tally_after core.now c.now }
 {
     let run = core.run + u128::from(ended(core, c));
     let decides = core.decides + 1;
@@ -85,7 +85,7 @@ fn core_after(core: &CoreTally, c: &Choice) -> CoreTally
 }
 
 /// Tells the unit that the choice finds on the core how much time ended, and how late the choice was.
-fn count_found(units: &mut [UnitTally], core: &CoreTally, c: &Choice)
+fn count_found(units: &mut [UnitTally], core: &CoreTally, c: &CoreChoice)
     requires places { length units.old ≡ 2048 }
     requires within { UnitsWithin 4294967294 4294967294 4294967294 units.old }
     ensures { units.new ≡ tallies.after_found core.now c.now units.old }
@@ -100,7 +100,7 @@ fn count_found(units: &mut [UnitTally], core: &CoreTally, c: &Choice)
 }
 
 /// Tells the unit whose stay begins with the choice that one begins.
-fn count_picked(units: &mut [UnitTally], core: &CoreTally, c: &Choice)
+fn count_picked(units: &mut [UnitTally], core: &CoreTally, c: &CoreChoice)
     requires places { length units.old ≡ 2048 }
     requires within { UnitsWithin 4294967295 4294967294 4294967294 units.old }
     ensures { units.new ≡ tallies.after_picked core.now c.now units.old }
@@ -114,7 +114,7 @@ fn count_picked(units: &mut [UnitTally], core: &CoreTally, c: &Choice)
 }
 
 /// Tells the units what a choice of the core means for them.
-fn count_units(units: &mut [UnitTally], core: &CoreTally, c: &Choice)
+fn count_units(units: &mut [UnitTally], core: &CoreTally, c: &CoreChoice)
     requires places { length units.old ≡ 2048 }
     requires within { UnitsWithin 4294967294 4294967294 4294967294 units.old }
     requires short { IsShort c.now }
@@ -125,7 +125,7 @@ fn count_units(units: &mut [UnitTally], core: &CoreTally, c: &Choice)
 }
 
 /// Counts a choice of a core. A core that is not there changes nothing.
-fn count_choice(cores: &mut [CoreTally], units: &mut [UnitTally], c: &Choice)
+fn count_choice(cores: &mut [CoreTally], units: &mut [UnitTally], c: &CoreChoice)
     requires places { length units.old ≡ 2048 }
     requires units { UnitsWithin 4294967294 4294967294 4294967294 units.old }
     requires cores { CoresWithin 4294967294 cores.old }
@@ -157,10 +157,10 @@ pub fn count_entry(cores: &mut [CoreTally], units: &mut [UnitTally], e: &Entry)
     requires places { length units.old ≡ 2048 }
     requires units { UnitsWithin 4294967294 4294967294 4294967294 units.old }
     requires cores { CoresWithin 4294967294 cores.old }
-    ensures cores { cores.new ≡ tallies.cores_with (choice_in e.now) cores.old }
-    ensures units { units.new ≡ tallies.units_renewed (renewed_by e.now.event)
-        (tallies.units_with (choice_in e.now) cores.old units.old) }
-    ensures short { IfSome (choice_in e.now) IsShort }
+    ensures cores { cores.new ≡ tallies.cores_with (entry_choice e.now) cores.old }
+    ensures units { units.new ≡ tallies.units_renewed (replenished_by e.now.event)
+        (tallies.units_with (entry_choice e.now) cores.old units.old) }
+    ensures short { IfSome (entry_choice e.now) IsShort }
 {
     if let Some(c) = choice_in(e) {
         count_choice(cores, units, &c);
@@ -172,7 +172,7 @@ pub fn count_entry(cores: &mut [CoreTally], units: &mut [UnitTally], e: &Entry)
 
 /// The time of the core's stay that goes on, up to the last moment.
 pub fn open_time(core: &CoreTally, last: Moment) -> u64
-    ensures { result ≡ tallies.open_time (λ u. true) last.0 core.now }
+    ensures { result ≡ tallies.open_stay_time (λ u. true) last.0 core.now }
 {
     match core.cur {
         None => 0,
@@ -182,7 +182,7 @@ pub fn open_time(core: &CoreTally, last: Moment) -> u64
 
 /// The time of the core's stay that goes on, up to the last moment, where it is one of the unit.
 fn open_time_of(core: &CoreTally, u: UnitId, last: Moment) -> u64
-    ensures { result ≡ tallies.open_time (λ w. same_unit w u) last.0 core.now }
+    ensures { result ≡ tallies.open_stay_time (λ w. same_unit w u) last.0 core.now }
 {
     match core.cur {
         Some(w) if is_same(w, u) => last.0.saturating_sub(core.since.0),
@@ -193,7 +193,7 @@ fn open_time_of(core: &CoreTally, u: UnitId, last: Moment) -> u64
 /// The time of the unit's stays that go on, up to the last moment.
 pub fn open_times_of(cores: &[CoreTally], u: UnitId, last: Moment) -> u128
     requires { length cores.now ≤ 64 }
-    ensures time { result ≡ sum_by (tallies.open_time (λ w. same_unit w u) last.0) cores.now }
+    ensures time { result ≡ sum_by (tallies.open_stay_time (λ w. same_unit w u) last.0) cores.now }
     ensures small { result ≤ 64 * 2 ^ 64 }
 {
     let mut time = 0;
@@ -206,7 +206,7 @@ pub fn open_times_of(cores: &[CoreTally], u: UnitId, last: Moment) -> u128
 /// The tally of the unit.
 pub fn tally_of(units: &[UnitTally], u: UnitId) -> UnitTally
     requires { length units.now ≡ 2048 }
-    ensures { result ≡ tallies.tally_at units.now (tallies.place_of u) }
+    ensures { result ≡ tallies.tally_at units.now (tallies.unit_place_number u) }
 {
     match place_of(u) {
         Some(i) => units[i],

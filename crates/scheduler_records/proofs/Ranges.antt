@@ -7,12 +7,12 @@ use Rattle.std.proofs.lemmas.List.{length-map}
 use Rattle.std.proofs.lemmas.List.Elements.{All-map}
 use Rattle.std.proofs.lemmas.List.Sums.{sum_by-cons}
 use Rattle.std.proofs.Math.Nat.{mod-lt, div-le_self, max-le}
-use Rattle.sched_base.specs.Credit2Numbers.{above_zero, charge, burned_credit, burned_residual}
+use Rattle.sched_base.specs.Credit2Numbers.{positive_part, undivided_charge, burned_credit, burned_residual}
 use Rattle.sched_model.specs.declared.state.Credit2Unit.{Credit2Unit}
 use Rattle.sched_model.specs.declared.state.Credit2Domain.{Credit2Domain}
 use Rattle.sched_model.specs.declared.state.Credit2Records.{Credit2Records}
 use Rattle.sched_model.specs.Places.{at_place, numbered_items}
-use Rattle.sched_model.specs.Credit2.{burn_unit, burn_units, held_by_running}
+use Rattle.sched_model.specs.Credit2.{burned_unit, burned_domain, running_budget}
 use Rattle.sched_model.specs.CheckedMachine.{IsWithin, most_span}
 use Rattle.sched_laws.specs.EachPlace.{EachPlace}
 use Rattle.sched_laws.specs.RecordRanges.{Credit2InRange, Credit2UnitInRange}
@@ -23,9 +23,9 @@ times-small : (e k : ℕ) → k ≤ 65535 → e * k ≤ 65535 * e
 times-small e k low = (let split : 65535 ≡ k + (65535 - k) = omega (arith, low) in subst (λ (z : ℕ). e * k ≤ z * e) (sym split) (let r : (k + (65535 - k)) * e ≡ e * k + (65535 - k) * e = grind arith in omega (arith, r)))
 
 -- what a unit of a domain is charged for a span
-charge-small : (residual weight most elapsed : ℕ) → residual < 65536 → most ≤ 65535 → elapsed ≤ most_span → charge residual most elapsed / weight ≤ 655350000000065535
+charge-small : (residual weight most elapsed : ℕ) → residual < 65536 → most ≤ 65535 → elapsed ≤ most_span → undivided_charge residual most elapsed / weight ≤ 655350000000065535
 charge-small residual weight most elapsed low small short =
-    let d = div-le_self (charge residual most elapsed) weight in
+    let d = div-le_self (undivided_charge residual most elapsed) weight in
     let e = times-small elapsed most small in
     omega (arith, d, e, low, short)
 
@@ -41,7 +41,7 @@ unit_in_range t x early range = record {
 }
 
 -- so does one that was charged
-pub unit_burned : (most t : ℕ) (d : Credit2Domain) (x : Credit2Unit) → t ≤ most_span → ParamsFit most d → Credit2UnitInRange t x → UnitFits t (burn_unit most t d x)
+pub unit_burned : (most t : ℕ) (d : Credit2Domain) (x : Credit2Unit) → t ≤ most_span → ParamsFit most d → Credit2UnitInRange t x → UnitFits t (burned_unit most t d x)
 unit_burned most t d x early params range = by_burned x.burned refl
   where
     held_least : (free : Bool) (e : ℕ) → e ≤ most_span → neg_ℤ (pos 20000000000000) ≤ℤ (if free then x.held else (x.held -ℤ pos e))
@@ -70,7 +70,7 @@ unit_burned most t d x early params range = by_burned x.burned refl
         let weight = params.some_weight in
         let no_more = params.no_more in
         let small = params.small in
-        let part : charge x.residual most (t - from) % d.weight < d.weight = mod-lt (charge x.residual most (t - from)) (omega (arith, weight)) in
+        let part : undivided_charge x.residual most (t - from) % d.weight < d.weight = mod-lt (undivided_charge x.residual most (t - from)) (omega (arith, weight)) in
         record {
           residual = omega (arith, part, no_more, small);
           burned = omega arith;
@@ -81,10 +81,10 @@ unit_burned most t d x early params range = by_burned x.burned refl
         }
 
 -- no unit that was charged holds more than before
-pub held_burned : (most t : ℕ) (d : Credit2Domain) (x : Credit2Unit) → UnitFits t x → amount_held (burn_unit most t d x) ≤ 640000000
+pub held_burned : (most t : ℕ) (d : Credit2Domain) (x : Credit2Unit) → UnitFits t x → amount_held (burned_unit most t d x) ≤ 640000000
 held_burned most t d x fits = by_burned x.burned refl
   where
-    small : (z : ℤ) → z ≤ℤ pos 640000000 → above_zero z ≤ 640000000
+    small : (z : ℤ) → z ≤ℤ pos 640000000 → positive_part z ≤ 640000000
     small (pos n) low = omega (arith, ints, low)
     small (negsuc n) low = omega arith
 
@@ -114,10 +114,10 @@ sum_small (x ∷ xs) all =
     omega (arith, e, a, r)
 
 -- what the running units of a domain hold once they are charged
-pub running_small : (most t : ℕ) (d : Credit2Domain) → DomainFits most t d → length d.units ≤ 32 → held_by_running (burn_units most t d) < 2 ^ 63
+pub running_small : (most t : ℕ) (d : Credit2Domain) → DomainFits most t d → length d.units ≤ 32 → running_budget (burned_domain most t d) < 2 ^ 63
 running_small most t d fits few =
-    let s = sum_small (map (burn_unit most t d) d.units) (All-map (λ (x : Credit2Unit). amount_held x ≤ 640000000) (burn_unit most t d) d.units (λ k u h. held_burned most t d (slice_index_or d.units k u) (fits.units k u h))) in
-    let l = length-map d.units (burn_unit most t d) in
+    let s = sum_small (map (burned_unit most t d) d.units) (All-map (λ (x : Credit2Unit). amount_held x ≤ 640000000) (burned_unit most t d) d.units (λ k u h. held_burned most t d (slice_index_or d.units k u) (fits.units k u h))) in
+    let l = length-map d.units (burned_unit most t d) in
     omega (arith, s, l, few)
 
 -- the budget of a domain and what a unit of it holds after a charge fit a signed 64-bit number

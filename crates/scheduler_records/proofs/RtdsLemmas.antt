@@ -7,8 +7,8 @@ use Rattle.sched_base.specs.declared.UnitId.{UnitId}
 use Rattle.sched_base.proofs.Lists.{each_get}
 use Rattle.sched_model.specs.declared.state.RtdsUnit.{RtdsUnit}
 use Rattle.sched_model.specs.Places.{at_place, change_item}
-use Rattle.sched_model.specs.EligibleUnits.{rtds_unit}
-use Rattle.sched_model.specs.Rtds.{change_unit, burn_to, burn_cur, budget_left}
+use Rattle.sched_model.specs.EligibleUnits.{rtds_unit_at}
+use Rattle.sched_model.specs.Rtds.{change_unit, unit_burned_to, own_burned_domains, unit_left_budget}
 use Rattle.sched_laws.specs.EachPlace.{EachPlace}
 use Rattle.sched_laws.proofs.EachPlace.{EachPlace-change_at, by_option, by_cond}
 use Rattle.sched_laws.specs.RecordRanges.{RtdsInRange}
@@ -30,7 +30,7 @@ slice_set-same (x ∷ xs) (suc i) d = ap (λ ys. x ∷ ys) (slice_set-same xs i 
 
 module _ (domains : List (Option (List RtdsUnit))) (u : UnitId) (f : RtdsUnit → RtdsUnit) where
   -- the record that is there is changed as it is
-  pub change_unit-there : (x : RtdsUnit) → rtds_unit domains u ≡ Some x → change_unit u (λ y. f x) domains ≡ change_unit u f domains
+  pub change_unit-there : (x : RtdsUnit) → rtds_unit_at domains u ≡ Some x → change_unit u (λ y. f x) domains ≡ change_unit u f domains
   change_unit-there x there =
       elim (at_place domains u.dom.0) as (λ (o : Option (List RtdsUnit)). (elim o as (λ _. Option RtdsUnit) [ None ↦ None | Some units ↦ slice_get units u.n ]) ≡ Some x → slice_set domains u.dom.0 (option_map (change_item u.n (λ y. f x)) o) ≡ slice_set domains u.dom.0 (option_map (change_item u.n f) o)) [
         | None ↦ λ is. refl
@@ -38,7 +38,7 @@ module _ (domains : List (Option (List RtdsUnit))) (u : UnitId) (f : RtdsUnit �
       ] there
 
   -- where there is no record, nothing is changed
-  pub change_unit-none : rtds_unit domains u ≡ None → change_unit u f domains ≡ domains
+  pub change_unit-none : rtds_unit_at domains u ≡ None → change_unit u f domains ≡ domains
   change_unit-none none =
       elim (at_place domains u.dom.0) as (λ (o : Option (List RtdsUnit)). at_place domains u.dom.0 ≡ o → (elim o as (λ _. Option RtdsUnit) [ None ↦ None | Some units ↦ slice_get units u.n ]) ≡ None → slice_set domains u.dom.0 (option_map (change_item u.n f) o) ≡ domains) [
         | None ↦ λ at is. ap (slice_set domains u.dom.0) (sym at) ∙ slice_set-same domains u.dom.0 None
@@ -53,7 +53,7 @@ record IsLow (x : RtdsUnit) : Type 0 where
 low_in_range : (t : ℕ) (x : RtdsUnit) → RtdsInRange t x → IsLow x
 low_in_range t x fits = let b = fits.budget.most in let l = fits.left in record { left = omega (arith, b, l); budget = b }
 
-low_burned : (t : ℕ) (x : RtdsUnit) → IsLow x → IsLow (burn_to t x)
+low_burned : (t : ℕ) (x : RtdsUnit) → IsLow x → IsLow (unit_burned_to t x)
 low_burned t x low = by_option IsLow x.burned _ _ (λ is. low) (λ from is. record { left = charged (t - from); budget = low.budget })
   where
     charged : (elapsed : ℕ) → cond (nat_lt elapsed x.left) (x.left - elapsed) (cond x.extra x.budget 0) ≤ 1000000000000
@@ -69,18 +69,18 @@ all_low t (x ∷ xs) each = (low_in_range t x each.0, all_low t xs each.1)
 each_low : (t : ℕ) (domains : List (Option (List RtdsUnit))) → RtdsFits t domains → EachPlace (AllByRecursion IsLow) domains
 each_low t domains fits i units at = all_low t units (recursion_from_All (RtdsInRange t) units (fits.domains i units at))
 
-low_left : (domains : List (Option (List RtdsUnit))) (u : UnitId) → EachPlace (AllByRecursion IsLow) domains → budget_left domains u ≤ 1000000000000
+low_left : (domains : List (Option (List RtdsUnit))) (u : UnitId) → EachPlace (AllByRecursion IsLow) domains → unit_left_budget domains u ≤ 1000000000000
 low_left domains u each =
-    by_option (λ (k : ℕ). k ≤ 1000000000000) (rtds_unit domains u) _ _ (λ none. omega arith) (λ x there. (unit_low x there).left)
+    by_option (λ (k : ℕ). k ≤ 1000000000000) (rtds_unit_at domains u) _ _ (λ none. omega arith) (λ x there. (unit_low x there).left)
   where
-    unit_low : (x : RtdsUnit) → rtds_unit domains u ≡ Some x → IsLow x
+    unit_low : (x : RtdsUnit) → rtds_unit_at domains u ≡ Some x → IsLow x
     unit_low x there =
         by_option (λ (o : Option RtdsUnit). o ≡ Some x → IsLow x) (at_place domains u.dom.0) _ _ (λ none e. absurd (cc)) (λ units at e. each_get IsLow units u.n x (each u.dom.0 units at) e) there
 
 -- no unit has more left than the longest budget, also after the core's own is charged
-pub left_low : (cur : Option UnitId) (t : ℕ) (domains : List (Option (List RtdsUnit))) (u : UnitId) → RtdsFits t domains → budget_left (burn_cur cur t domains) u ≤ 1000000000000
+pub left_low : (cur : Option UnitId) (t : ℕ) (domains : List (Option (List RtdsUnit))) (u : UnitId) → RtdsFits t domains → unit_left_budget (own_burned_domains cur t domains) u ≤ 1000000000000
 left_low None t domains u fits = low_left domains u (each_low t domains fits)
 left_low (Some own) t domains u fits =
-    low_left (burn_cur (Some own) t domains) u
-    (EachPlace-change_at (AllByRecursion IsLow) own.dom.0 (change_item own.n (burn_to t)) domains (each_low t domains fits)
-    (λ units at each. AllByRecursion-change_item IsLow own.n (burn_to t) units (λ x there low. low_burned t x low) each))
+    low_left (own_burned_domains (Some own) t domains) u
+    (EachPlace-change_at (AllByRecursion IsLow) own.dom.0 (change_item own.n (unit_burned_to t)) domains (each_low t domains fits)
+    (λ units at each. AllByRecursion-change_item IsLow own.n (unit_burned_to t) units (λ x there low. low_burned t x low) each))

@@ -6,8 +6,8 @@ use Rattle.sched_model.specs.declared.state.Credit2Unit.{Credit2Unit}
 use Rattle.sched_model.specs.declared.state.Credit2Domain.{Credit2Domain}
 use Rattle.sched_model.specs.declared.state.Credit2Records.{Credit2Records}
 use Rattle.sched_model.specs.Places.{change_item}
-use Rattle.sched_model.specs.Credit2.{max_weight, burn_unit, burn_units, give_back}
-use Rattle.sched_base.specs.Credit2Numbers.{above_zero, raise}
+use Rattle.sched_model.specs.Credit2.{most_weight, burned_unit, burned_domain, domain_after_return}
+use Rattle.sched_base.specs.Credit2Numbers.{positive_part, raised_credit}
 use Rattle.sched_laws.specs.EachPlace.{EachPlace}
 
 -- a unit that may be charged at t: it is in range, or was charged once since it was
@@ -33,36 +33,36 @@ pub record DomainFits (most t : ℕ) (d : Credit2Domain) : Type 0 where
 
 -- a pool whose units may be charged at t
 abbrev pub PoolFits : ℕ → Credit2Records → Type 0
-PoolFits t records = EachPlace (DomainFits (max_weight records) t) records.domains
+PoolFits t records = EachPlace (DomainFits (most_weight records) t) records.domains
 
 -- the weights and caps of a pool
 abbrev pub PoolParamsFit : Credit2Records → Type 0
-PoolParamsFit records = EachPlace (ParamsFit (max_weight records)) records.domains
+PoolParamsFit records = EachPlace (ParamsFit (most_weight records)) records.domains
 
 -- the unit with this index charged up to t, and the budget that it holds given back under a cap
 abbrev pub own_charged : ℕ → ℕ → ℕ → Credit2Domain → Credit2Domain
 own_charged most t n d =
-    let charged : Credit2Domain = record d { units = change_item n (burn_unit most t d) d.units } in
-    (if charged.cap == 0 then charged else give_back n charged)
+    let charged : Credit2Domain = record d { units = change_item n (burned_unit most t d) d.units } in
+    (if charged.cap == 0 then charged else domain_after_return n charged)
 
 -- what a unit holds while it runs
 abbrev pub amount_held : Credit2Unit → ℕ
-amount_held x = (if is_some x.burned then above_zero x.held else 0)
+amount_held x = (if is_some x.burned then positive_part x.held else 0)
 
 -- the domain after m resets at t: its running units are charged, and then each unit's credit is raised
 abbrev pub reset_by : ℕ → ℕ → ℕ → Credit2Domain → Credit2Domain
 reset_by most t m d =
-    let burned : Credit2Domain = burn_units most t d in
-    record burned { units = map (λ (x : Credit2Unit). record x { credit = raise x.credit m }) burned.units }
+    let burned : Credit2Domain = burned_domain most t d in
+    record burned { units = map (λ (x : Credit2Unit). record x { credit = raised_credit x.credit m }) burned.units }
 
 -- the credit of the unit with this index of the domain, and 0 where there is none
 abbrev pub credit_at : Credit2Domain → ℕ → ℤ
 credit_at d n = elim (slice_get d.units n) [ None ↦ pos 0 | Some x ↦ x.credit ]
 
 -- what is left of the unit's charge, cut to a new weight
-abbrev pub cut_unit : ℕ → Credit2Unit → Credit2Unit
-cut_unit weight x = record x { residual = x.residual % weight }
+abbrev pub unit_cut_to : ℕ → Credit2Unit → Credit2Unit
+unit_cut_to weight x = record x { residual = x.residual % weight }
 
 -- a unit that holds nothing where it runs
-abbrev pub emptied_unit : Credit2Unit → Credit2Unit
-emptied_unit x = record x { held = (if is_some x.burned then pos 0 else x.held) }
+abbrev pub unit_without_held : Credit2Unit → Credit2Unit
+unit_without_held x = record x { held = (if is_some x.burned then pos 0 else x.held) }

@@ -3,7 +3,7 @@
 ghost use Rattle.sched_model.specs.CheckedMachine.{most_span};
 ghost use Rattle.std.specs.Prelude.{◌≡◌, ◌+◌, ◌<◌, ◌≤◌, ◌^◌, sum_by, option_map};
 ghost use Rattle.std.specs.Option.{ForSome};
-ghost use Rattle.sched_model.specs.Arinc.{window_from as window_from_spec, window_at as window_at_spec, present_window as present_window_spec};
+ghost use Rattle.sched_model.specs.Arinc.{window_among, frame_window, current_window};
 ghost use Rattle.scheduler_records.specs.Fits.{IsFrame};
 ghost use Rattle.scheduler_records.specs.Frames.{window_of};
 
@@ -22,7 +22,7 @@ pub struct Window {
 /// and the frame ends at the moment last.
 fn window_from(start: u64, ahead: u64, last: u64, entries: &[FrameEntry]) -> Window
     requires { start + sum_by (λ e. e.run.0) entries.now < 2 ^ 64 }
-    ensures { window_of result ≡ window_from_spec start ahead last entries.now }
+    ensures { window_of result ≡ window_among start ahead last entries.now }
 {
     match entries {
         [] => Window {
@@ -51,7 +51,7 @@ fn window_from(start: u64, ahead: u64, last: u64, entries: &[FrameEntry]) -> Win
 fn window_at(installed: u64, frame: &Frame, t: Moment) -> Window
     requires frame { IsFrame frame.now }
     requires early { t.0 ≤ most_span }
-    ensures { window_of result ≡ window_at_spec installed frame.now t.0 }
+    ensures { window_of result ≡ frame_window installed frame.now t.0 }
 {
     let major = frame.major.0;
     let ahead = t.0.saturating_sub(installed) % major;
@@ -67,7 +67,7 @@ fn window_at(installed: u64, frame: &Frame, t: Moment) -> Window
 pub fn present_window(records: &ArincRecords, t: Moment) -> Option<Window>
     requires frame { ForSome records.now.frame IsFrame }
     requires early { t.0 ≤ most_span }
-    ensures { option_map window_of result ≡ present_window_spec records.now t.0 }
+    ensures { option_map window_of result ≡ current_window records.now t.0 }
 {
     match &records.frame {
         None => None,

@@ -2,12 +2,12 @@
 
 ghost use Rattle.sched_model.specs.CheckedMachine.{most_span};
 ghost use Rattle.std.specs.Prelude.{◌≡◌, ◌≤◌, ◌<◌, ◌+◌, ◌^◌, map, length, sum_by, Some, slice_get, FitsSigned, ◌+ℤ◌};
-ghost use Rattle.sched_base.specs.Credit2Numbers.{raise as raise_spec, take as take_spec, quota as quota_spec, total as total_spec, refill as refill_spec};
+ghost use Rattle.sched_base.specs.Credit2Numbers.{raised_credit, taken_budget, budget_quota, cap_budget, budget_after_refill};
 ghost use Rattle.sched_model.specs.declared.state.Credit2Unit.{Credit2Unit as UnitRecord};
 ghost use Rattle.std.specs.Int.{w64};
 ghost use Rattle.std.specs.Option.{IfSome};
 ghost use Rattle.sched_model.specs.Places.{change_item};
-ghost use Rattle.sched_model.specs.Credit2.{burn_unit as burn_unit_spec, give_back as give_back_spec, burn_units as burn_units_spec, take_budget as take_budget_spec, periods as periods_spec, held_by_running as held_by_running_spec, refill_domain as refill_domain_spec};
+ghost use Rattle.sched_model.specs.Credit2.{burned_unit, domain_after_return, burned_domain, domain_after_take, passed_periods, running_budget, domain_after_refill};
 ghost use Rattle.sched_laws.specs.RecordRanges.{Credit2InRange};
 ghost use Rattle.scheduler_records.specs.Bounds.{DomainFits, amount_held, own_charged, reset_by};
 
@@ -24,7 +24,7 @@ pub const REFILL_SPAN: u64 = 10_000_000;
 pub fn burn_units(most: u32, t: Moment, d: &mut Credit2Domain)
     requires early { t.0 ≤ most_span }
     requires fits { DomainFits most t.0 d.old }
-    ensures { d.new ≡ burn_units_spec most t.0 d.old }
+    ensures { d.new ≡ burned_domain most t.0 d.old }
 {
     let mut burned = Short::new();
     for u in d.units.as_slice() {
@@ -38,7 +38,7 @@ fn raise_units(m: u64, d: &mut Credit2Domain)
     requires { m ≤ 1000000000000 }
     ensures { d.new ≡ record d.old {
       units = map
-          (λ (x : UnitRecord). record x { credit = raise_spec x.credit m }) d.old.units;
+          (λ (x : UnitRecord). record x { credit = raised_credit x.credit m }) d.old.units;
     } }
 {
     let mut raised = Short::new();
@@ -64,7 +64,7 @@ fn burn_at(most: u32, t: Moment, n: u8, d: &mut Credit2Domain)
     requires early { t.0 ≤ most_span }
     requires fits { DomainFits most t.0 d.old }
     ensures { d.new ≡ record d.old {
-      units = change_item n (burn_unit_spec most t.0 d.old)
+      units = change_item n (burned_unit most t.0 d.old)
           d.old.units;
     } }
 {
@@ -78,7 +78,7 @@ fn burn_at(most: u32, t: Moment, n: u8, d: &mut Credit2Domain)
 fn give_back(n: u8, d: &mut Credit2Domain)
     requires room { (u : UnitRecord) → slice_get d.old.units n ≡ Some u →
         FitsSigned w64 (d.old.budget +ℤ u.held) }
-    ensures { d.new ≡ give_back_spec n d.old }
+    ensures { d.new ≡ domain_after_return n d.old }
 {
     if let Some(u) = unit_at(d.units.as_slice(), n) {
         d.budget += u.held;
@@ -102,8 +102,8 @@ pub fn burn_own(most: u32, t: Moment, n: u8, d: &mut Credit2Domain)
 /// What a chosen unit takes of the domain's budget.
 fn share(d: &Credit2Domain) -> i64
     requires { d.now.cap ≤ 6400 }
-    ensures { result ≡ take_spec d.now.budget
-        (quota_spec (total_spec d.now.cap) (length d.now.units)) }
+    ensures { result ≡ taken_budget d.now.budget
+        (budget_quota (cap_budget d.now.cap) (length d.now.units)) }
 {
     let most = if d.units.is_empty() {
         LEAST_QUOTA
@@ -116,7 +116,7 @@ fn share(d: &Credit2Domain) -> i64
 /// The chosen unit takes its budget from a capped domain.
 pub fn take_budget(n: u8, d: &mut Credit2Domain)
     requires { d.old.cap ≤ 6400 }
-    ensures { d.new ≡ take_budget_spec n d.old }
+    ensures { d.new ≡ domain_after_take n d.old }
 {
     if d.cap == 0 {
         return;
@@ -128,7 +128,7 @@ pub fn take_budget(n: u8, d: &mut Credit2Domain)
 
 /// The periods that have come at t since the refill was due, and 0 where none is due.
 pub fn periods(d: &Credit2Domain, t: Moment) -> u64
-    ensures exact { result ≡ periods_spec d.now t.0 }
+    ensures exact { result ≡ passed_periods d.now t.0 }
     ensures few { t.0 ≤ most_span → result ≤ 1000001 }
 {
     match d.refill {
@@ -160,8 +160,8 @@ fn held_by_running(units: &[Credit2Unit]) -> u64
 fn refilled_budget(n: u64, d: &Credit2Domain) -> i64
     requires few { n ≤ 1000001 }
     requires cap { d.now.cap ≤ 6400 }
-    requires held { held_by_running_spec d.now < 2 ^ 63 }
-    ensures { result ≡ refill_spec d.now.budget (held_by_running_spec d.now) (total_spec d.now.cap)
+    requires held { running_budget d.now < 2 ^ 63 }
+    ensures { result ≡ budget_after_refill d.now.budget (running_budget d.now) (cap_budget d.now.cap)
         n }
 {
     let held = held_by_running(d.units.as_slice()) as i64;
@@ -174,7 +174,7 @@ pub fn refill_domain(most: u32, t: Moment, d: &mut Credit2Domain)
     requires fits { DomainFits most t.0 d.old }
     requires few { length d.old.units ≤ 32 }
     requires near { IfSome d.old.refill (λ r. r ≤ t.0 + 10000000) }
-    ensures { d.new ≡ refill_domain_spec most t.0 d.old }
+    ensures { d.new ≡ domain_after_refill most t.0 d.old }
 {
     let n = periods(d, t);
     burn_units(most, t, d);

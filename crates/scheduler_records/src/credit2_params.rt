@@ -2,11 +2,11 @@
 
 ghost use Rattle.std.specs.Prelude.{◌≡◌, ◌≤◌, map};
 ghost use Rattle.std.specs.Option.{ForSome};
-ghost use Rattle.sched_model.specs.Credit2.{set_weight as set_weight_spec, set_cap as set_cap_spec, first_refill as first_refill_spec, fresh_domain as fresh_domain_spec, set_domain as set_domain_spec, change_domain};
+ghost use Rattle.sched_model.specs.Credit2.{domain_with_weight, domain_with_cap, first_refill_moment, fresh_credit2_domain, records_with_terms, change_domain};
 ghost use Rattle.sched_model.specs.CheckedMachine.{IsWithin, most_span};
 ghost use Rattle.sched_laws.specs.EachPlace.{EachPlace};
 ghost use Rattle.scheduler_records.specs.Fits.{Credit2Fits};
-ghost use Rattle.scheduler_records.specs.Bounds.{DomainFits, cut_unit, emptied_unit};
+ghost use Rattle.scheduler_records.specs.Bounds.{DomainFits, unit_cut_to, unit_without_held};
 
 use crate::credit2_domain::{REFILL_SPAN, burn_units};
 use crate::credit2_running::max_weight;
@@ -21,7 +21,7 @@ const START_CREDIT: i64 = 10_000_000;
 /// What is left of the unit's charge, cut to a new weight.
 fn cut_unit(weight: u32, u: Credit2Unit) -> Credit2Unit
     requires { 1 ≤ weight }
-    ensures { result ≡ cut_unit weight u }
+    ensures { result ≡ unit_cut_to weight u }
 {
     Credit2Unit {
         residual: u.residual % weight,
@@ -32,7 +32,7 @@ fn cut_unit(weight: u32, u: Credit2Unit) -> Credit2Unit
 /// What is left of each unit's charge, cut to a new weight.
 fn cut_units(weight: u32, d: &mut Credit2Domain)
     requires { 1 ≤ weight }
-    ensures { d.new ≡ record d.old { units = map (cut_unit weight) d.old.units } }
+    ensures { d.new ≡ record d.old { units = map (unit_cut_to weight) d.old.units } }
 {
     let mut cut = Short::new();
     for u in d.units.as_slice() {
@@ -44,7 +44,7 @@ fn cut_units(weight: u32, d: &mut Credit2Domain)
 /// The domain with a new weight, if one is given.
 fn set_weight(weight: Option<u32>, d: &mut Credit2Domain)
     requires { ForSome weight (λ w. 1 ≤ w) }
-    ensures { d.new ≡ set_weight_spec weight d.old }
+    ensures { d.new ≡ domain_with_weight weight d.old }
 {
     if let Some(weight) = weight {
         d.weight = weight;
@@ -54,7 +54,7 @@ fn set_weight(weight: Option<u32>, d: &mut Credit2Domain)
 
 /// A unit that holds nothing where it runs.
 fn emptied_unit(u: Credit2Unit) -> Credit2Unit
-    ensures { result ≡ emptied_unit u }
+    ensures { result ≡ unit_without_held u }
 {
     Credit2Unit {
         held: if u.burned.is_some() { 0 } else { u.held },
@@ -64,7 +64,7 @@ fn emptied_unit(u: Credit2Unit) -> Credit2Unit
 
 /// The running units hold nothing.
 fn empty_units(d: &mut Credit2Domain)
-    ensures { d.new ≡ record d.old { units = map emptied_unit d.old.units } }
+    ensures { d.new ≡ record d.old { units = map unit_without_held d.old.units } }
 {
     let mut left = Short::new();
     for u in d.units.as_slice() {
@@ -76,7 +76,7 @@ fn empty_units(d: &mut Credit2Domain)
 /// The first refill after t, where the domain is capped.
 fn first_refill(cap: u32, t: Moment) -> Option<u64>
     requires { t.0 ≤ most_span }
-    ensures { result ≡ first_refill_spec cap t.0 }
+    ensures { result ≡ first_refill_moment cap t.0 }
 {
     if cap == 0 {
         None
@@ -90,7 +90,7 @@ fn set_cap(most: u32, t: Moment, cap: Option<u32>, d: &mut Credit2Domain)
     requires early { t.0 ≤ most_span }
     requires fits { DomainFits most t.0 d.old }
     requires cap { ForSome cap (λ c. c ≤ 6400) }
-    ensures { d.new ≡ set_cap_spec most t.0 cap d.old }
+    ensures { d.new ≡ domain_with_cap most t.0 cap d.old }
 {
     if let Some(cap) = cap {
         burn_units(most, t, d);
@@ -104,7 +104,7 @@ fn set_cap(most: u32, t: Moment, cap: Option<u32>, d: &mut Credit2Domain)
 /// The pool after the domain's weight is set, if one is given.
 fn set_weight_of(d: DomId, weight: Option<u32>, records: &mut Credit2Records)
     requires { ForSome weight (λ w. 1 ≤ w) }
-    ensures { records.new ≡ change_domain d.0 (set_weight_spec weight) records.old }
+    ensures { records.new ≡ change_domain d.0 (domain_with_weight weight) records.old }
 {
     if let Some(place) = records.domains.get_mut(d.0 as usize)
         && let Some(domain) = place
@@ -118,7 +118,7 @@ fn set_cap_of(most: u32, t: Moment, d: DomId, cap: Option<u32>, records: &mut Cr
     requires early { t.0 ≤ most_span }
     requires fits { EachPlace (DomainFits most t.0) records.old.domains }
     requires cap { ForSome cap (λ c. c ≤ 6400) }
-    ensures { records.new ≡ change_domain d.0 (set_cap_spec most t.0 cap) records.old }
+    ensures { records.new ≡ change_domain d.0 (domain_with_cap most t.0 cap) records.old }
 {
     if let Some(place) = records.domains.get_mut(d.0 as usize)
         && let Some(domain) = place
@@ -140,7 +140,7 @@ pub fn set_domain(
     requires fits { Credit2Fits t.0 records.old }
     requires weight { ForSome weight (IsWithin 1 65535) }
     requires cap { ForSome cap (λ c. c ≤ 6400) }
-    ensures { records.new ≡ set_domain_spec t.0 d.0 weight cap records.old }
+    ensures { records.new ≡ records_with_terms t.0 d.0 weight cap records.old }
 {
     set_weight_of(d, weight, records);
     let most = max_weight(records);
@@ -152,7 +152,7 @@ pub fn fresh_domain(weight: u32, cap: u32, count: u8, t: Moment) -> Credit2Domai
     requires early { t.0 ≤ most_span }
     requires cap { cap ≤ 6400 }
     requires few { count ≤ 32 }
-    ensures { result ≡ fresh_domain_spec weight cap count t.0 }
+    ensures { result ≡ fresh_credit2_domain weight cap count t.0 }
 {
     let mut units = Short::new();
     for _ in 0..count {

@@ -4,7 +4,7 @@ ghost use Rattle.sched_model.specs.CheckedMachine.{most_span};
 ghost use Rattle.std.specs.Prelude.{◌≡◌, ◌≤◌, ℕ, map, fold, max, Some};
 ghost use Rattle.sched_model.specs.declared.state.Credit2Domain.{Credit2Domain as DomainRecord};
 ghost use Rattle.sched_model.specs.Places.{change_each, change_item, numbered_items};
-ghost use Rattle.sched_model.specs.Credit2.{max_weight as max_weight_spec, burn_unit as burn_unit_spec, change_unit, burn_cur as burn_cur_spec, reset as reset_spec, take_budget as take_budget_spec, change_domain, set_running as set_running_spec, switch_off as switch_off_spec, credit_of as credit_of_spec, refilled_pool};
+ghost use Rattle.sched_model.specs.Credit2.{most_weight, burned_unit, change_unit, own_burned_records, reset_records, domain_after_take, change_domain, running_records, off_records, unit_credit, refilled_pool};
 ghost use Rattle.scheduler_records.specs.Fits.{Credit2Fits};
 ghost use Rattle.scheduler_records.specs.Bounds.{PoolFits, PoolParamsFit, DomainFits, reset_by, credit_at};
 ghost use Rattle.sched_laws.specs.EachPlace.{EachPlace};
@@ -30,14 +30,14 @@ fn greatest_weight(most: u32, domains: &[Option<Credit2Domain>]) -> u32
 
 /// The greatest weight of the pool's domains.
 pub fn max_weight(records: &Credit2Records) -> u32
-    ensures { result ≡ max_weight_spec records.now }
+    ensures { result ≡ most_weight records.now }
 {
     greatest_weight(0, records.domains.as_slice())
 }
 
 /// The unit's credit, and 0 where there is no such unit.
 pub fn credit_of(records: &Credit2Records, u: UnitId) -> i64
-    ensures { result ≡ credit_of_spec records.now u }
+    ensures { result ≡ unit_credit records.now u }
 {
     match item_at(records.domains.as_slice(), u.dom.0 as usize) {
         None => 0,
@@ -60,7 +60,7 @@ fn burned_credit_in(most: u32, t: Moment, d: &Credit2Domain, n: u8) -> i64
     requires early { t.0 ≤ most_span }
     requires fits { DomainFits most t.0 d.now }
     ensures { result ≡ credit_at (record d.now
-        { units = change_item n (burn_unit_spec most t.0 d.now) d.now.units }) n }
+        { units = change_item n (burned_unit most t.0 d.now) d.now.units }) n }
 {
     match unit_at(d.units.as_slice(), n) {
         None => 0,
@@ -72,19 +72,19 @@ fn burned_credit_in(most: u32, t: Moment, d: &Credit2Domain, n: u8) -> i64
 pub fn burned_credit_of(records: &Credit2Records, t: Moment, u: UnitId) -> i64
     requires early { t.0 ≤ most_span }
     requires fits { PoolFits t.0 records.now }
-    ensures { result ≡ credit_of_spec (change_unit u
-        (burn_unit_spec (max_weight_spec records.now) t.0) records.now) u }
+    ensures { result ≡ unit_credit (change_unit u
+        (burned_unit (most_weight records.now) t.0) records.now) u }
 {
     burned_credit_by(max_weight(records), records, t, u)
 }
 
 /// As `burned_credit_of`, where the greatest weight of the pool is known.
 pub fn burned_credit_by(most: u32, records: &Credit2Records, t: Moment, u: UnitId) -> i64
-    requires most { most ≡ max_weight_spec records.now }
+    requires most { most ≡ most_weight records.now }
     requires early { t.0 ≤ most_span }
     requires fits { PoolFits t.0 records.now }
-    ensures { result ≡ credit_of_spec (change_unit u
-        (burn_unit_spec (max_weight_spec records.now) t.0) records.now) u }
+    ensures { result ≡ unit_credit (change_unit u
+        (burned_unit (most_weight records.now) t.0) records.now) u }
 {
     match item_at(records.domains.as_slice(), u.dom.0 as usize) {
         None => 0,
@@ -96,7 +96,7 @@ pub fn burned_credit_by(most: u32, records: &Credit2Records, t: Moment, u: UnitI
 pub fn burn_cur(cur: Option<UnitId>, t: Moment, records: &mut Credit2Records)
     requires early { t.0 ≤ most_span }
     requires fits { Credit2Fits t.0 records.old }
-    ensures { records.new ≡ burn_cur_spec cur t.0 records.old }
+    ensures { records.new ≡ own_burned_records cur t.0 records.old }
 {
     if let Some(u) = cur {
         let most = max_weight(records);
@@ -106,10 +106,10 @@ pub fn burn_cur(cur: Option<UnitId>, t: Moment, records: &mut Credit2Records)
 
 /// The unit charged up to t, and its budget given back. The greatest weight of the pool is most.
 pub fn charge(most: u32, u: UnitId, t: Moment, records: &mut Credit2Records)
-    requires most { most ≡ max_weight_spec records.old }
+    requires most { most ≡ most_weight records.old }
     requires early { t.0 ≤ most_span }
     requires fits { Credit2Fits t.0 records.old }
-    ensures { records.new ≡ burn_cur_spec (Some u) t.0 records.old }
+    ensures { records.new ≡ own_burned_records (Some u) t.0 records.old }
 {
     if let Some(place) = records.domains.get_mut(u.dom.0 as usize)
         && let Some(d) = place
@@ -123,7 +123,7 @@ pub fn reset(t: Moment, m: u64, records: &mut Credit2Records)
     requires early { t.0 ≤ most_span }
     requires few { m ≤ 1000000000000 }
     requires fits { PoolFits t.0 records.old }
-    ensures { records.new ≡ reset_spec t.0 m records.old }
+    ensures { records.new ≡ reset_records t.0 m records.old }
 {
     if m == 0 {
         return;
@@ -150,7 +150,7 @@ fn reset_all(most: u32, t: Moment, m: u64, domains: &mut Row<Option<Credit2Domai
 /// The chosen unit takes its budget from a capped domain.
 pub fn take_at(u: UnitId, records: &mut Credit2Records)
     requires { PoolParamsFit records.old }
-    ensures { records.new ≡ change_domain u.dom.0 (take_budget_spec u.n) records.old }
+    ensures { records.new ≡ change_domain u.dom.0 (domain_after_take u.n) records.old }
 {
     if let Some(place) = records.domains.get_mut(u.dom.0 as usize)
         && let Some(d) = place
@@ -161,7 +161,7 @@ pub fn take_at(u: UnitId, records: &mut Credit2Records)
 
 /// The unit runs from a moment, or runs no more.
 pub fn set_running(from: Option<u64>, u: UnitId, records: &mut Credit2Records)
-    ensures { records.new ≡ set_running_spec from u records.old }
+    ensures { records.new ≡ running_records from u records.old }
 {
     if let Some(place) = records.domains.get_mut(u.dom.0 as usize)
         && let Some(d) = place
@@ -172,7 +172,7 @@ pub fn set_running(from: Option<u64>, u: UnitId, records: &mut Credit2Records)
 
 /// The core's own unit runs no more.
 pub fn switch_off(cur: Option<UnitId>, records: &mut Credit2Records)
-    ensures { records.new ≡ switch_off_spec cur records.old }
+    ensures { records.new ≡ off_records cur records.old }
 {
     if let Some(u) = cur {
         set_running(None, u, records);

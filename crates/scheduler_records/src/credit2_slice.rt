@@ -1,11 +1,11 @@
 //! Credit2: whether cap and rate limit let a unit run, the resets that its choice calls for, and how long it runs. Moments and spans are in nanoseconds.
 
 ghost use Rattle.std.specs.Prelude.{◌≡◌, ◌≤◌, ◌-ℤ◌};
-ghost use Rattle.sched_base.specs.Credit2Numbers.{slice as slice_spec, above_zero as above_zero_spec};
-ghost use Rattle.sched_model.specs.EligibleUnits.{has_budget as has_budget_spec};
-ghost use Rattle.sched_model.specs.Credit2.{domain_has_budget as domain_has_budget_spec, is_within_limit as is_within_limit_spec, resets_for as resets_for_spec};
+ghost use Rattle.sched_base.specs.Credit2Numbers.{slice_length, positive_part};
+ghost use Rattle.sched_model.specs.EligibleUnits.{has_cap_budget};
+ghost use Rattle.sched_model.specs.Credit2.{has_domain_budget, is_rate_limited, reset_count};
 ghost use Rattle.scheduler_records.specs.Bounds.{ParamsFit};
-ghost use Rattle.scheduler_records.specs.Slices.{slice_in as slice_in_spec};
+ghost use Rattle.scheduler_records.specs.Slices.{capped_slice};
 
 use crate::credit2_running::credit_of;
 use crate::credit2_units::{above_zero, unit_at};
@@ -16,14 +16,14 @@ use sched_model::state::{Credit2Domain, Credit2Records};
 
 /// Whether the cap lets the domain run.
 pub fn has_budget(d: &Credit2Domain) -> bool
-    ensures { result ≡ has_budget_spec d.now }
+    ensures { result ≡ has_cap_budget d.now }
 {
     d.cap == 0 || d.budget > 0
 }
 
 /// Whether the cap lets the unit's domain run.
 pub fn domain_has_budget(records: &Credit2Records, u: UnitId) -> bool
-    ensures { result ≡ domain_has_budget_spec records.now u }
+    ensures { result ≡ has_domain_budget records.now u }
 {
     match item_at(records.domains.as_slice(), u.dom.0 as usize) {
         None => false,
@@ -33,14 +33,14 @@ pub fn domain_has_budget(records: &Credit2Records, u: UnitId) -> bool
 
 /// Whether a unit that runs since a moment has run for less than the rate limit at t.
 pub fn is_within_limit(records: &Credit2Records, since: Moment, t: Moment) -> bool
-    ensures { result ≡ is_within_limit_spec records.now since.0 t.0 }
+    ensures { result ≡ is_rate_limited records.now since.0 t.0 }
 {
     t.0.saturating_sub(since.0) < records.limit as u64 * 1000
 }
 
 /// How many resets the choice calls for: none where its credit is above 0, or the pool had a reset at this moment.
 pub fn resets_for(t: Moment, u: UnitId, records: &Credit2Records) -> u64
-    ensures exact { result ≡ resets_for_spec t.0 u records.now }
+    ensures exact { result ≡ reset_count t.0 u records.now }
     ensures few { result ≤ 1000000000000 }
 {
     let credit = credit_of(records, u);
@@ -53,7 +53,7 @@ pub fn resets_for(t: Moment, u: UnitId, records: &Credit2Records) -> u64
 
 /// How far a credit is above another, and 0 where it is not.
 fn ahead(credit: i64, other: i64) -> u64
-    ensures { result ≡ above_zero_spec (credit -ℤ other) }
+    ensures { result ≡ positive_part (credit -ℤ other) }
 {
     if credit > other {
         (credit as i128 - other as i128) as u64
@@ -66,7 +66,7 @@ fn ahead(credit: i64, other: i64) -> u64
 fn slice(credit: i64, other: i64, weight: u32, most: u32, limit: u64) -> u64
     requires some_weight { 1 ≤ most }
     requires short { limit ≤ 500000000 }
-    ensures exact { result ≡ slice_spec credit other weight most limit }
+    ensures exact { result ≡ slice_length credit other weight most limit }
     ensures few { result ≤ 500000000 }
 {
     let long = ahead(credit, other) as u128 * weight as u128 / most as u128;
@@ -79,7 +79,7 @@ fn slice(credit: i64, other: i64, weight: u32, most: u32, limit: u64) -> u64
 pub fn slice_in(d: &Credit2Domain, n: u8, other: i64, most: u32, limit: u64) -> u64
     requires params { ParamsFit most d.now }
     requires short { limit ≤ 500000000 }
-    ensures exact { result ≡ slice_in_spec d.now n other most limit }
+    ensures exact { result ≡ capped_slice d.now n other most limit }
     ensures few { result ≤ 500000000 }
 {
     match unit_at(d.units.as_slice(), n) {

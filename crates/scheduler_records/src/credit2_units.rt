@@ -2,10 +2,10 @@
 
 ghost use Rattle.sched_model.specs.CheckedMachine.{most_span};
 ghost use Rattle.std.specs.Prelude.{◌≡◌, ◌≤◌, ◌==◌, if◌then◌else◌, slice_get, slice_set, pos, neg_ℤ, ◌-ℤ◌, ◌≤ℤ◌};
-ghost use Rattle.sched_base.specs.Credit2Numbers.{raise as raise_spec, above_zero as above_zero_spec};
+ghost use Rattle.sched_base.specs.Credit2Numbers.{raised_credit, positive_part};
 ghost use Rattle.sched_model.specs.declared.state.Credit2Unit.{Credit2Unit as UnitRecord};
 ghost use Rattle.sched_model.specs.Places.{change_item};
-ghost use Rattle.sched_model.specs.Credit2.{burn_unit as burn_unit_spec};
+ghost use Rattle.sched_model.specs.Credit2.{burned_unit};
 ghost use Rattle.scheduler_records.specs.Bounds.{UnitFits, ParamsFit};
 
 use credit2_burn::{Credit, burn};
@@ -68,7 +68,7 @@ pub fn burn_unit(most: u32, t: Moment, d: &Credit2Domain, u: Credit2Unit) -> Cre
     requires early { t.0 ≤ most_span }
     requires params { ParamsFit most d.now }
     requires unit { UnitFits t.0 u }
-    ensures { result ≡ burn_unit_spec most t.0 d.now u }
+    ensures { result ≡ burned_unit most t.0 d.now u }
 {
     let Some(from) = u.burned else {
         return u;
@@ -90,7 +90,7 @@ pub fn burn_unit(most: u32, t: Moment, d: &Credit2Domain, u: Credit2Unit) -> Cre
 /// A unit after m resets.
 pub fn raise_unit(m: u64, u: Credit2Unit) -> Credit2Unit
     requires { m ≤ 1000000000000 }
-    ensures { result ≡ (λ (x : UnitRecord). record x { credit = raise_spec x.credit m }) u }
+    ensures { result ≡ (λ (x : UnitRecord). record x { credit = raised_credit x.credit m }) u }
 {
     Credit2Unit {
         credit: raise(u.credit, m),
@@ -100,7 +100,7 @@ pub fn raise_unit(m: u64, u: Credit2Unit) -> Credit2Unit
 
 /// What of a number is above 0.
 pub fn above_zero(n: i64) -> u64
-    ensures { result ≡ above_zero_spec n }
+    ensures { result ≡ positive_part n }
 {
     if n < 0 { 0 } else { n as u64 }
 }

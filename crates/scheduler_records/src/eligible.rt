@@ -2,7 +2,7 @@
 
 ghost use Rattle.std.specs.Prelude.{◌≡◌, ◌<◌, slice_index_or};
 ghost use Rattle.sched_base.specs.Numbers.{core_set};
-ghost use Rattle.sched_model.specs.EligibleUnits.{cores_of as cores_of_spec, is_allowed_by};
+ghost use Rattle.sched_model.specs.EligibleUnits.{unit_cores, is_allowed_by};
 
 use sched_base::{Cores, ResId, UnitId};
 use sched_model::config::Pins;
@@ -10,7 +10,7 @@ use sched_model::places::item_at;
 
 /// The unit's set of cores, where these are the sets of each domain's units.
 fn cores_of(affinity: &[Option<Pins>], u: UnitId) -> u64
-    ensures { result ≡ cores_of_spec affinity.now u }
+    ensures { result ≡ unit_cores affinity.now u }
 {
     match item_at(affinity, u.dom.0 as usize) {
         None => 0,

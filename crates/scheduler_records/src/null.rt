@@ -4,9 +4,9 @@ ghost use Rattle.std.specs.Prelude.{◌≡◌, ℕ, ◌+◌, ◌<◌, ◌≤◌,
 ghost use Rattle.std.specs.List.{list_any};
 ghost use Rattle.sched_base.specs.declared.UnitId.{UnitId as UnitName};
 ghost use Rattle.sched_model.specs.declared.state.Records.TheVariants.{NullPool};
-ghost use Rattle.sched_model.specs.EligibleUnits.{is_placed as is_placed_spec, is_taken as is_taken_spec, passes as passes_spec};
+ghost use Rattle.sched_model.specs.EligibleUnits.{is_unit_placed, is_core_given, may_have_core};
 ghost use Rattle.sched_model.specs.Places.{at_place, numbered_items, same_unit};
-ghost use Rattle.sched_model.specs.State.{has_core as has_core_spec};
+ghost use Rattle.sched_model.specs.State.{has_core_bit};
 ghost use Rattle.sched_model.specs.NullScheduler.{kept_without};
 ghost use Rattle.scheduler_records.specs.Parts.{scheduler_of};
 
@@ -27,7 +27,7 @@ fn kept_at(kept: &[Option<UnitId>], core: ResId) -> Option<UnitId>
 /// Whether the set has the core.
 fn has_core(home: Cores, core: ResId) -> bool
     requires { core.0 < 64 }
-    ensures { result ≡ has_core_spec home.0 core.0 }
+    ensures { result ≡ has_core_bit home.0 core.0 }
 {
     home.0 / (1u64 << core.0) % 2 == 1
 }
@@ -41,7 +41,7 @@ pub fn is_placed(
     u: UnitId,
 ) -> bool
     requires { core.0 < 64 }
-    ensures { result ≡ is_placed_spec (scheduler_of [] affinity.now (NullPool kept.now)) kept.now
+    ensures { result ≡ is_unit_placed (scheduler_of [] affinity.now (NullPool kept.now)) kept.now
         home.0 core.0 u }
 {
     is_there(kept_at(kept, core), u) && has_core(home, core) && is_allowed(affinity, home, core, u)
@@ -50,7 +50,7 @@ pub fn is_placed(
 /// Whether some unit is given the core.
 fn is_taken(kept: &[Option<UnitId>], affinity: &[Option<Pins>], home: Cores, core: ResId) -> bool
     requires { core.0 < 64 }
-    ensures { result ≡ is_taken_spec (scheduler_of [] affinity.now (NullPool kept.now)) kept.now
+    ensures { result ≡ is_core_given (scheduler_of [] affinity.now (NullPool kept.now)) kept.now
         home.0 core.0 }
 {
     match kept_at(kept, core) {
@@ -70,7 +70,7 @@ fn has_place_from(
 ) -> bool
     requires { core.0 + length places.now ≤ 64 }
     ensures { result ≡ list_any (λ (e : ℕ × UnitName).
-        is_placed_spec (scheduler_of [] affinity.now (NullPool kept.now)) kept.now home.0 e.0 u)
+        is_unit_placed (scheduler_of [] affinity.now (NullPool kept.now)) kept.now home.0 e.0 u)
         (numbered_items core.0 places.now) }
 {
     match places {
@@ -93,7 +93,7 @@ pub fn passes(
 ) -> bool
     requires core { core.0 < 64 }
     requires few { length kept.now ≤ 64 }
-    ensures { result ≡ passes_spec (NullPool kept.now)
+    ensures { result ≡ may_have_core (NullPool kept.now)
         (scheduler_of [] affinity.now (NullPool kept.now)) home.0 core.0 0 u }
 {
     is_placed(kept, affinity, home, core, u)

@@ -1,13 +1,13 @@
 //! The parameters of a pool where none are given.
 
 ghost use Rattle.std.specs.Prelude.{◌≡◌};
-ghost use Rattle.sched_model.specs.Policy.{default_pool_params as default_pool_params_spec};
+ghost use Rattle.sched_model.specs.Policy.{standard_pool_params};
 
 use sched_model::config::{PoolParams, SchedKind};
 
 /// The parameters of a pool where none are given.
 pub fn default_pool_params(kind: SchedKind) -> PoolParams
-    ensures { result ≡ default_pool_params_spec kind }
+    ensures { result ≡ standard_pool_params kind }
 {
     match kind {
         SchedKind::Credit2 => PoolParams::Credit2 { limit: 1000 },

@@ -7,8 +7,8 @@ ghost use Rattle.sched_base.specs.declared.UnitId.{UnitId as UnitName};
 ghost use Rattle.sched_model.specs.declared.state.RtdsUnit.{RtdsUnit as RtdsRecord};
 ghost use Rattle.sched_model.specs.declared.state.Records.TheVariants.{RtdsPool};
 ghost use Rattle.sched_model.specs.Places.{change_item};
-ghost use Rattle.sched_model.specs.EligibleUnits.{rtds_unit as rtds_unit_spec};
-ghost use Rattle.sched_model.specs.Rtds.{burn as burn_spec, burn_to as burn_to_spec, replenish as replenish_spec, change_unit, is_before as is_before_spec, unit_before as unit_before_spec, budget_left as budget_left_spec, own_candidate as own_candidate_spec, burn_cur as burn_cur_spec, set_running as set_running_spec, fresh_units as fresh_units_spec};
+ghost use Rattle.sched_model.specs.EligibleUnits.{rtds_unit_at};
+ghost use Rattle.sched_model.specs.Rtds.{unit_after_span, unit_burned_to, unit_after_replenish, change_unit, is_record_before, is_unit_before, unit_left_budget, rtds_candidate, own_burned_domains, running_domains, fresh_rtds_units};
 ghost use Rattle.sched_laws.specs.RecordRanges.{RtdsInRange};
 ghost use Rattle.scheduler_records.specs.Fits.{RtdsFits};
 ghost use Rattle.scheduler_records.specs.Parts.{scheduler_of};
@@ -26,7 +26,7 @@ use sched_model::state::{RtdsUnit, RtdsUnits};
 
 /// The unit's record.
 pub fn rtds_unit(domains: &[Option<RtdsUnits>], u: UnitId) -> Option<&RtdsUnit>
-    ensures { option_copied result ≡ rtds_unit_spec domains.now u }
+    ensures { option_copied result ≡ rtds_unit_at domains.now u }
 {
     match item_at(domains, u.dom.0 as usize) {
         None => None,
@@ -61,7 +61,7 @@ pub fn fresh_units(period: Span, budget: Span, extra: bool, count: u8, t: Moment
     requires count { count ≤ 32 }
     requires period { period.0 ≤ 1000000000000 }
     requires early { t.0 ≤ most_span }
-    ensures { result ≡ fresh_units_spec period.0 budget.0 extra count t.0 }
+    ensures { result ≡ fresh_rtds_units period.0 budget.0 extra count t.0 }
 {
     let unit = RtdsUnit {
         period: period.0,
@@ -128,7 +128,7 @@ pub fn set_next(
 /// The unit after a charge for a span.
 fn burn(elapsed: u64, x: RtdsUnit) -> RtdsUnit
     requires { x.level + 1 < 2 ^ 32 }
-    ensures { result ≡ burn_spec elapsed x }
+    ensures { result ≡ unit_after_span elapsed x }
 {
     let mut unit = x;
     if elapsed < x.left {
@@ -145,7 +145,7 @@ fn burn(elapsed: u64, x: RtdsUnit) -> RtdsUnit
 /// A running unit after a charge up to t.
 pub fn burn_to(t: Moment, x: RtdsUnit) -> RtdsUnit
     requires { x.level + 1 < 2 ^ 32 }
-    ensures { result ≡ burn_to_spec t.0 x }
+    ensures { result ≡ unit_burned_to t.0 x }
 {
     match x.burned {
         None => x,
@@ -164,7 +164,7 @@ pub fn burn_to(t: Moment, x: RtdsUnit) -> RtdsUnit
 fn replenish_unit(t: Moment, x: RtdsUnit) -> RtdsUnit
     requires fits { RtdsInRange t.0 x }
     requires early { t.0 ≤ most_span }
-    ensures { result ≡ replenish_spec t.0 x }
+    ensures { result ≡ unit_after_replenish t.0 x }
 {
     let charged = burn_to(t, x);
     let periods = t.0.saturating_sub(charged.deadline) / charged.next_period + 1;
@@ -183,7 +183,7 @@ fn replenish_unit(t: Moment, x: RtdsUnit) -> RtdsUnit
 pub fn replenish(t: Moment, u: UnitId, domains: &mut Row<Option<RtdsUnits>>)
     requires fits { RtdsFits t.0 domains.old }
     requires early { t.0 ≤ most_span }
-    ensures { domains.new ≡ change_unit u (replenish_spec t.0) domains.old }
+    ensures { domains.new ≡ change_unit u (unit_after_replenish t.0) domains.old }
 {
     if let Some(x) = rtds_unit(domains.as_slice(), u) {
         let unit = replenish_unit(t, *x);
@@ -195,7 +195,7 @@ pub fn replenish(t: Moment, u: UnitId, domains: &mut Row<Option<RtdsUnits>>)
 fn burn_unit(t: Moment, u: UnitId, domains: &mut Row<Option<RtdsUnits>>)
     requires fits { RtdsFits t.0 domains.old }
     requires early { t.0 ≤ most_span }
-    ensures { domains.new ≡ change_unit u (burn_to_spec t.0) domains.old }
+    ensures { domains.new ≡ change_unit u (unit_burned_to t.0) domains.old }
 {
     if let Some(x) = rtds_unit(domains.as_slice(), u) {
         let unit = burn_to(t, *x);
@@ -205,7 +205,7 @@ fn burn_unit(t: Moment, u: UnitId, domains: &mut Row<Option<RtdsUnits>>)
 
 /// The unit runs from a moment, or runs no more.
 pub fn set_running(from: Option<u64>, u: UnitId, domains: &mut Row<Option<RtdsUnits>>)
-    ensures { domains.new ≡ set_running_spec from u domains.old }
+    ensures { domains.new ≡ running_domains from u domains.old }
 {
     if let Some(x) = rtds_unit(domains.as_slice(), u) {
         let unit = RtdsUnit { burned: from, ..*x };
@@ -215,14 +215,14 @@ pub fn set_running(from: Option<u64>, u: UnitId, domains: &mut Row<Option<RtdsUn
 
 /// Whether the first unit runs before the second: its level is less, or its deadline where they have one level.
 fn is_before(a: &RtdsUnit, b: &RtdsUnit) -> bool
-    ensures { result ≡ is_before_spec a.now b.now }
+    ensures { result ≡ is_record_before a.now b.now }
 {
     a.level < b.level || (a.level == b.level && a.deadline < b.deadline)
 }
 
 /// Whether the first unit runs before the second, by their records.
 pub fn unit_before(domains: &[Option<RtdsUnits>], u: UnitId, w: UnitId) -> bool
-    ensures { result ≡ unit_before_spec domains.now u w }
+    ensures { result ≡ is_unit_before domains.now u w }
 {
     match rtds_unit(domains, u) {
         None => false,
@@ -235,7 +235,7 @@ pub fn unit_before(domains: &[Option<RtdsUnits>], u: UnitId, w: UnitId) -> bool
 
 /// The budget that is left to the unit, in nanoseconds.
 pub fn budget_left(domains: &[Option<RtdsUnits>], u: UnitId) -> u64
-    ensures { result ≡ budget_left_spec domains.now u }
+    ensures { result ≡ unit_left_budget domains.now u }
 {
     match rtds_unit(domains, u) {
         None => 0,
@@ -250,7 +250,7 @@ pub fn own_candidate(
     ask: &Ask,
 ) -> Option<UnitId>
     requires { ask.now.core.0 < 64 }
-    ensures { result ≡ own_candidate_spec ask.now
+    ensures { result ≡ rtds_candidate ask.now
         (scheduler_of [] affinity.now (RtdsPool domains.now)) domains.now }
 {
     let u = ask.cur?;
@@ -265,8 +265,8 @@ pub fn own_candidate(
 pub fn burn_cur(cur: Option<UnitId>, t: Moment, domains: &mut Row<Option<RtdsUnits>>)
     requires fits { RtdsFits t.0 domains.old }
     requires early { t.0 ≤ most_span }
-    ensures domains { domains.new ≡ burn_cur_spec cur t.0 domains.old }
-    ensures left { (u : UnitName) → budget_left_spec domains.new u ≤ 1000000000000 }
+    ensures domains { domains.new ≡ own_burned_domains cur t.0 domains.old }
+    ensures left { (u : UnitName) → unit_left_budget domains.new u ≤ 1000000000000 }
 {
     if let Some(u) = cur {
         burn_unit(t, u, domains);

@@ -6,7 +6,7 @@ use Rattle.std.proofs.lemmas.List.{length-map}
 use Rattle.sched_model.specs.declared.state.Credit2Unit.{Credit2Unit}
 use Rattle.sched_model.specs.declared.state.Credit2Domain.{Credit2Domain}
 use Rattle.sched_model.specs.Places.{change_item}
-use Rattle.sched_model.specs.Credit2.{burn_unit, burn_units, give_back}
+use Rattle.sched_model.specs.Credit2.{burned_unit, burned_domain, domain_after_return}
 use Rattle.sched_laws.proofs.EachPlace.{by_option, by_cond}
 use Rattle.sched_laws.proofs.Lists.{length_change_item}
 use Rattle.sched_laws.proofs.Sound.{read_change_item}
@@ -59,7 +59,7 @@ lasts_item t (suc i) h (x ∷ xs) = ap (λ k. unwrap_or x.burned t + k) (lasts_i
 
 module _ (t : ℕ) where
   -- a unit that is charged
-  held_burned : (most : ℕ) (d : Credit2Domain) (Ex Zr : Type 0) (y : Credit2Unit) → HeldFits t d.cap Ex Zr y → HeldFits t d.cap Ex Zr (burn_unit most t d y)
+  held_burned : (most : ℕ) (d : Credit2Domain) (Ex Zr : Type 0) (y : Credit2Unit) → HeldFits t d.cap Ex Zr y → HeldFits t d.cap Ex Zr (burned_unit most t d y)
   held_burned most d Ex Zr y fits =
       by_option (HeldFits t d.cap Ex Zr) y.burned _ _ (λ is. fits)
       (λ from is.
@@ -93,7 +93,7 @@ module _ (t : ℕ) where
       uncapped : (k : ℕ) (h : ℤ) → d.cap ≡ 0 → h ≡ pos 0 → cond (d.cap == 0) h (h -ℤ pos k) ≡ pos 0
       uncapped k h none e = (let b : (d.cap == 0) ≡ true = grind (arith, none) in rw b e)
 
-  grows_burned : (most : ℕ) (d : Credit2Domain) (y : Credit2Unit) → unwrap_or y.burned t ≤ t → Grows t y (burn_unit most t d y)
+  grows_burned : (most : ℕ) (d : Credit2Domain) (y : Credit2Unit) → unwrap_or y.burned t ≤ t → Grows t y (burned_unit most t d y)
   grows_burned most d y low =
       by_option (Grows t y) y.burned _ _ (λ is. record { sum = omega (arith, ints); fall = omega (arith, ints) })
       (λ from is.
@@ -107,7 +107,7 @@ module _ (t : ℕ) where
       less true k from h e = (omega (arith, ints, e), omega (arith, ints))
       less false k from h e = (omega (arith, ints, e), omega (arith, ints))
 
-  last_burned : (most : ℕ) (d : Credit2Domain) (y : Credit2Unit) → unwrap_or (burn_unit most t d y).burned t ≡ t
+  last_burned : (most : ℕ) (d : Credit2Domain) (y : Credit2Unit) → unwrap_or (burned_unit most t d y).burned t ≡ t
   last_burned most d y = by_option (λ (z : Credit2Unit). unwrap_or z.burned t ≡ t) y.burned _ _ (λ is. ap (λ (o : Option ℕ). unwrap_or o t) is) (λ from is. refl)
 
   pub held_weaker : (cap : ℕ) (Ex Zr Ex2 Zr2 : Type 0) (y : Credit2Unit) → (Ex → Ex2) → (Zr2 → Zr) → HeldFits t cap Ex Zr y → HeldFits t cap Ex2 Zr2 y
@@ -140,10 +140,10 @@ module _ (t : ℕ) where
         let h = fits.high in
         record { cap = fits.cap; count = subst IsCount (sym same) fits.count; units = units; low = omega (arith, ints, s, l); high = omega (arith, ints, f, h) })
 
-    pub b_burn_units : (Ex Zr : ℕ → Type 0) (most : ℕ) (x : Credit2Domain) → BudgetFits t IsCount Ex Zr x → BudgetFits t IsCount Ex Zr (burn_units most t x)
+    pub b_burn_units : (Ex Zr : ℕ → Type 0) (most : ℕ) (x : Credit2Domain) → BudgetFits t IsCount Ex Zr x → BudgetFits t IsCount Ex Zr (burned_domain most t x)
     b_burn_units Ex Zr most x fits =
-        b_units Ex Zr Ex Zr x (map (burn_unit most t x) x.units) (length-map x.units (burn_unit most t x)) (sums_map t (burn_unit most t x) x.units (λ n y at. grows_burned most x y (fits.units n y at).last))
-        (λ n z at. (let r = get_map (burn_unit most t x) x.units n z at in subst (HeldFits t x.cap (Ex n) (Zr n)) r.2 (held_burned most x (Ex n) (Zr n) r.0 (fits.units n r.0 r.1)))) fits
+        b_units Ex Zr Ex Zr x (map (burned_unit most t x) x.units) (length-map x.units (burned_unit most t x)) (sums_map t (burned_unit most t x) x.units (λ n y at. grows_burned most x y (fits.units n y at).last))
+        (λ n z at. (let r = get_map (burned_unit most t x) x.units n z at in subst (HeldFits t x.cap (Ex n) (Zr n)) r.2 (held_burned most x (Ex n) (Zr n) r.0 (fits.units n r.0 r.1)))) fits
 
     -- units of which only the credit or the residual changes
     pub b_same : (Ex Zr : ℕ → Type 0) (f : Credit2Unit → Credit2Unit) (x : Credit2Domain) → ((y : Credit2Unit) → ((f y).held ≡ y.held) × ((f y).burned ≡ y.burned)) → BudgetFits t IsCount Ex Zr x → BudgetFits t IsCount Ex Zr (record x { units = map f x.units })
@@ -189,11 +189,11 @@ module _ (t : ℕ) where
     IsIt i n = n ≡ i
 
     abbrev pub own_domain : ℕ → ℕ → Credit2Domain → Credit2Domain
-    own_domain most i x = (let burned : Credit2Domain = record x { units = change_item i (burn_unit most t x) x.units } in cond (burned.cap == 0) burned (give_back i burned))
+    own_domain most i x = (let burned : Credit2Domain = record x { units = change_item i (burned_unit most t x) x.units } in cond (burned.cap == 0) burned (domain_after_return i burned))
 
     pub b_own : (Zr : ℕ → Type 0) (most i : ℕ) (x : Credit2Domain) → BudgetFits t IsCount Nobody Zr x → BudgetFits t IsCount Nobody (λ n. Zr n ⊎ (n ≡ i)) (own_domain most i x)
     b_own Zr most i x fits =
-        by_cond (BudgetFits t IsCount Nobody (λ n. Zr n ⊎ (n ≡ i))) (x.cap == 0) burned (give_back i burned)
+        by_cond (BudgetFits t IsCount Nobody (λ n. Zr n ⊎ (n ≡ i))) (x.cap == 0) burned (domain_after_return i burned)
         (λ none. record {
           cap = first.cap;
           count = first.count;
@@ -231,18 +231,18 @@ module _ (t : ℕ) where
         })))
       where
         burned : Credit2Domain
-        burned = record x { units = change_item i (burn_unit most t x) x.units }
+        burned = record x { units = change_item i (burned_unit most t x) x.units }
 
         first : BudgetFits t IsCount Nobody Zr burned
-        first = b_units Nobody Zr Nobody Zr x (change_item i (burn_unit most t x) x.units) (length_change_item i (burn_unit most t x) x.units)
-            (sums_item t i (burn_unit most t x) x.units (λ y at. grows_burned most x y (fits.units i y at).last))
-            (λ n z at. elim (read_change_item i n (burn_unit most t x) x.units z at) [
+        first = b_units Nobody Zr Nobody Zr x (change_item i (burned_unit most t x) x.units) (length_change_item i (burned_unit most t x) x.units)
+            (sums_item t i (burned_unit most t x) x.units (λ y at. grows_burned most x y (fits.units i y at).last))
+            (λ n z at. elim (read_change_item i n (burned_unit most t x) x.units z at) [
               | inl was ↦ fits.units n z was.1
               | inr r ↦ subst (HeldFits t x.cap ⊥ (Zr n)) r.3 (held_burned most x ⊥ (Zr n) r.0 (subst (λ k. HeldFits t x.cap ⊥ (Zr k) r.0) (sym r.2) (fits.units i r.0 r.1)))
             ]) fits
 
         now : (y : Credit2Unit) → slice_get burned.units i ≡ Some y → unwrap_or y.burned t ≡ t
-        now y at = elim (read_change_item i i (burn_unit most t x) x.units y at) [ inl was ↦ absurd (was.0 refl) | inr r ↦ subst (λ (z : Credit2Unit). unwrap_or z.burned t ≡ t) r.3 (last_burned most x r.0) ]
+        now y at = elim (read_change_item i i (burned_unit most t x) x.units y at) [ inl was ↦ absurd (was.0 refl) | inr r ↦ subst (λ (z : Credit2Unit). unwrap_or z.burned t ≡ t) r.3 (last_burned most x r.0) ]
 
         no_zero : slice_get burned.units i ≡ None → BudgetFits t IsCount Nobody (λ n. Zr n ⊎ (n ≡ i)) burned
         no_zero none = record {

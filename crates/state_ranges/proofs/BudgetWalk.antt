@@ -19,11 +19,11 @@ use Rattle.sched_model.specs.declared.state.Records.{Records}
 use Rattle.sched_model.specs.declared.state.Records.TheVariants.{Credit2Pool, RtdsPool, ArincPool, NullPool}
 use Rattle.sched_model.specs.declared.action.Action.TheVariants.{Moved}
 use Rattle.sched_model.specs.Places.{at_place, put_at, clear_at, change_at, numbers_from}
-use Rattle.sched_model.specs.Opening.{fresh_core, core_count}
+use Rattle.sched_model.specs.Opening.{joined_core, machine_core_count}
 use Rattle.sched_model.specs.Policy as policy
-use Rattle.sched_model.specs.Policy.{rtds_record, changed_records, joined_records, parted_records, fresh_records, decision_of, decision_by, default_dom_params, default_pool_params}
+use Rattle.sched_model.specs.Policy.{unit_rtds_record, changed_records, joined_records, parted_records, empty_records, decision_of, decision_by, standard_dom_params, standard_pool_params}
 use Rattle.sched_model.specs.Pool as pools
-use Rattle.sched_model.specs.Pool.{enabled_in, change_core, change_domain, set_params, without_domain, with_domain, is_open, first_up, decided_core, same_choice, ask_of}
+use Rattle.sched_model.specs.Pool.{enabled_in, change_core, change_domain, changed_pool, pool_without_domain, pool_with_domain, is_gathering, is_first_processor_up, decided_core, same_choice, core_ask}
 use Rattle.sched_laws.proofs.EachPlace.{EachPlace-empty, by_option, by_test, at_place-put_at, at_place-put_at_other, at_place-clear_at_other, place_below, EachAt-clear_at, EachAt-put_at}
 use Rattle.sched_laws.proofs.Lists.{some-test_at}
 use Rattle.sched_base.proofs.Lists.{AllByRecursion-map}
@@ -42,8 +42,8 @@ use Rattle.sched_model.specs.declared.state.Credit2Unit.{Credit2Unit}
 use Rattle.sched_model.specs.declared.state.Credit2Domain.{Credit2Domain}
 use Rattle.sched_model.specs.EligibleUnits.{Decision}
 use Rattle.sched_model.specs.CheckedMachine.{IsChecked}
-use Rattle.sched_model.specs.Commands.{set_rtds_unit}
-use Rattle.sched_model.specs.Credit2.{domain_has_budget}
+use Rattle.sched_model.specs.Commands.{pool_with_rtds_unit}
+use Rattle.sched_model.specs.Credit2.{has_domain_budget}
 use Rattle.sched_laws.proofs.Choices.{decision_has}
 use Rattle.sched_laws.specs.PoolFacts.{IfUnit}
 use Rattle.sched_laws.proofs.Counts.{total_at}
@@ -141,7 +141,7 @@ unit_inside m some u is =
     let spread : suc u.n * g ≡ u.n * g + g = grind arith in
     le-div (suc u.n) (length is.config.guests + g - 1) g some (omega (arith, within, spread))
 
-fresh_off : (On : ℕ → Type 0) (weight percent units t : ℕ) → RunsOnly On (credit2.fresh_domain weight percent units t).units
+fresh_off : (On : ℕ → Type 0) (weight percent units t : ℕ) → RunsOnly On (credit2.fresh_credit2_domain weight percent units t).units
 fresh_off On weight percent units t n y at = inl (off units n y at)
   where
     off : (k n : ℕ) (y : Credit2Unit) → slice_get (replicate k (record { credit = pos start_credit; residual = 0; held = pos 0; burned = None })) n ≡ Some y → y.burned ≡ None
@@ -153,11 +153,11 @@ module _ (m : Machine) (some : 0 < m.config.granularity) (t : ℕ) where
   abbrev pub N : Pool → Type 0
   N pool = CreditFits m t pool.scheduler.records pool.resources
 
-  n_replenish : (records : Records) (u : UnitId) (cores : List (Option Resource)) → CreditFits m t records cores → CreditFits m t (policy.replenish records t u) cores
-  n_replenish (RtdsPool domains) u cores fits = not_credit2 m t (policy.replenish (RtdsPool domains) t u) cores refl
+  n_replenish : (records : Records) (u : UnitId) (cores : List (Option Resource)) → CreditFits m t records cores → CreditFits m t (policy.records_after_replenish records t u) cores
+  n_replenish (RtdsPool domains) u cores fits = not_credit2 m t (policy.records_after_replenish (RtdsPool domains) t u) cores refl
   n_replenish records u cores fits = fits
 
-  n_refill : (records : Records) (d : ℕ) (cores : List (Option Resource)) → CreditFits m t records cores → CreditFits m t (policy.refill records t d) cores
+  n_refill : (records : Records) (d : ℕ) (cores : List (Option Resource)) → CreditFits m t records cores → CreditFits m t (policy.records_after_refill records t d) cores
   n_refill (Credit2Pool own) d cores fits = (let ok = fits own refl in credit_fits m t (credit2.refilled_pool t d own) cores (record { budgets = s_refilled t (CountIs m) d own ok.budgets; runs = r_refilled t (OnCore cores) d own ok.runs }))
   n_refill records d cores fits = fits
 
@@ -175,9 +175,9 @@ module _ (m : Machine) (some : 0 < m.config.granularity) (t : ℕ) where
   n_joined : (records : Records) (params : DomParams) (d count : ℕ) (cores : List (Option Resource)) → ParamsInRange params → CountIs m d count → CreditFits m t records cores → CreditFits m t (joined_records records params d count t) cores
   n_joined (Credit2Pool own) (dom_params.Credit2 weight percent) d count cores good counted fits = (
       let ok = fits own refl in
-      credit_fits m t (record own { domains = put_at d (credit2.fresh_domain weight percent count t) own.domains }) cores (record {
-        budgets = EachAt-put_at (λ d. BudgetFits t (CountIs m d) Nobody Nobody) d (credit2.fresh_domain weight percent count t) own.domains ok.budgets (b_fresh t (CountIs m d) weight percent count good.1 counted);
-        runs = EachAt-put_at (λ d (x : Credit2Domain). RunsOnly (OnCore cores d) x.units) d (credit2.fresh_domain weight percent count t) own.domains ok.runs (fresh_off (OnCore cores d) weight percent count t);
+      credit_fits m t (record own { domains = put_at d (credit2.fresh_credit2_domain weight percent count t) own.domains }) cores (record {
+        budgets = EachAt-put_at (λ d. BudgetFits t (CountIs m d) Nobody Nobody) d (credit2.fresh_credit2_domain weight percent count t) own.domains ok.budgets (b_fresh t (CountIs m d) weight percent count good.1 counted);
+        runs = EachAt-put_at (λ d (x : Credit2Domain). RunsOnly (OnCore cores d) x.units) d (credit2.fresh_credit2_domain weight percent count t) own.domains ok.runs (fresh_off (OnCore cores d) weight percent count t);
       }))
   n_joined (Credit2Pool own) (dom_params.Rtds period budget extra) d count cores good counted fits = fits
   n_joined (Credit2Pool own) dom_params.Arinc653 d count cores good counted fits = fits
@@ -185,7 +185,7 @@ module _ (m : Machine) (some : 0 < m.config.granularity) (t : ℕ) where
   n_joined records params d count cores good counted fits = not_credit2 m t (joined_records records params d count t) cores (joined_kind records params d count t)
 
   n_changed : (records : Records) (change : ParamChange) (cores : List (Option Resource)) → ChangeFits change → CreditFits m t records cores → CreditFits m t (changed_records records change t) cores
-  n_changed (Credit2Pool own) (changes.Dom d weight percent) cores good fits = (let ok = fits own refl in credit_fits m t (credit2.set_domain t d.0 weight percent own) cores (record { budgets = s_set_domain t (CountIs m) d.0 weight percent own good.1 ok.budgets; runs = r_set_domain t (OnCore cores) d.0 weight percent own ok.runs }))
+  n_changed (Credit2Pool own) (changes.Dom d weight percent) cores good fits = (let ok = fits own refl in credit_fits m t (credit2.records_with_terms t d.0 weight percent own) cores (record { budgets = s_set_domain t (CountIs m) d.0 weight percent own good.1 ok.budgets; runs = r_set_domain t (OnCore cores) d.0 weight percent own ok.runs }))
   n_changed (Credit2Pool own) (changes.Rate limit) cores good fits = (let ok = fits own refl in credit_fits m t (record own { limit = limit }) cores (record { budgets = ok.budgets; runs = ok.runs }))
   n_changed (Credit2Pool own) (changes.«Unit» u period budget extra) cores good fits = fits
   n_changed (Credit2Pool own) (changes.Frame frame) cores good fits = fits
@@ -202,36 +202,36 @@ module _ (m : Machine) (some : 0 < m.config.granularity) (t : ℕ) where
 
   -- a decision: the core's own unit stops, and the chosen one runs
   n_decide : (own : Credit2Records) (r : ℕ) (c : Resource) (pool : Pool) → pool.scheduler.records ≡ Credit2Pool own → at_place pool.resources r ≡ Some c → PoolFits m t pool → OnePlace m.config.granularity pool → CreditOk m t own pool.resources
-      → (chosen : Option UnitId) → IfUnit (λ u. domain_has_budget (credit2.burn_cur c.cur t own) u ≡ true) chosen → IfUnit (λ u. IsUnitOf m u × ((1 ≤ times u pool.scheduler.queue) ⊎ (c.cur ≡ Some u))) chosen
-      → (decision : Decision) → decision ≡ credit2.decide (ask_of m.config.granularity t pool r c) pool.scheduler (credit2.burn_cur c.cur t own) chosen → CreditFits m t decision.records (put_at r (decided_core t decision c) pool.resources)
+      → (chosen : Option UnitId) → IfUnit (λ u. has_domain_budget (credit2.own_burned_records c.cur t own) u ≡ true) chosen → IfUnit (λ u. IsUnitOf m u × ((1 ≤ times u pool.scheduler.queue) ⊎ (c.cur ≡ Some u))) chosen
+      → (decision : Decision) → decision ≡ credit2.credit2_decision_for (core_ask m.config.granularity t pool r c) pool.scheduler (credit2.own_burned_records c.cur t own) chosen → CreditFits m t decision.records (put_at r (decided_core t decision c) pool.resources)
   n_decide own r c pool is at fits one ok None pays may decision same =
-      let ask : Ask = ask_of m.config.granularity t pool r c in
+      let ask : Ask = core_ask m.config.granularity t pool r c in
       subst (λ (d : Decision). CreditFits m t d.records (put_at r (decided_core t d c) pool.resources)) (sym same)
-      (credit_fits m t (credit2.switch_off c.cur (credit2.burn_cur c.cur t own)) _ (record {
+      (credit_fits m t (credit2.off_records c.cur (credit2.own_burned_records c.cur t own)) _ (record {
         budgets = decides_idle t (CountIs m) ask pool.scheduler own refl ok.budgets;
-        runs = λ d x at2 n y has. elim (r_switch_off t (OnCore pool.resources) c.cur (credit2.burn_cur c.cur t own) (r_burn_cur t (OnCore pool.resources) c.cur own ok.runs) d x at2 n y has) [
+        runs = λ d x at2 n y has. elim (r_switch_off t (OnCore pool.resources) c.cur (credit2.own_burned_records c.cur t own) (r_burn_cur t (OnCore pool.resources) c.cur own ok.runs) d x at2 n y has) [
           | inl none ↦ inl none
-          | inr on ↦ inr (other_core t r c pool at (record { unit = None; due = None; reset = 0; records = Credit2Pool (credit2.switch_off c.cur (credit2.burn_cur c.cur t own)) }) d n on.0 on.1)
+          | inr on ↦ inr (other_core t r c pool at (record { unit = None; due = None; reset = 0; records = Credit2Pool (credit2.off_records c.cur (credit2.own_burned_records c.cur t own)) }) d n on.0 on.1)
         ];
       }))
   n_decide own r c pool is at fits one ok (Some u) pays may decision same =
-      let ask : Ask = ask_of m.config.granularity t pool r c in
-      let burned : Credit2Records = credit2.burn_cur c.cur t own in
-      let k : ℕ = credit2.resets_for t u burned in
-      let taken : Credit2Records = credit2.change_domain u.dom.0 (credit2.take_budget u.n) (credit2.reset t k burned) in
-      let d2 : Decision = credit2.decide ask pool.scheduler burned (Some u) in
+      let ask : Ask = core_ask m.config.granularity t pool r c in
+      let burned : Credit2Records = credit2.own_burned_records c.cur t own in
+      let k : ℕ = credit2.reset_count t u burned in
+      let taken : Credit2Records = credit2.change_domain u.dom.0 (credit2.domain_after_take u.n) (credit2.reset_records t k burned) in
+      let d2 : Decision = credit2.credit2_decision_for ask pool.scheduler burned (Some u) in
       let off : (c.cur ≡ Some u) ⊎ ((y : Credit2Unit) → unit_rec own u ≡ Some y → y.burned ≡ None) = elim may.1 [
         | inr mine ↦ inl mine
         | inl waits ↦ inr (λ y rec. waiting_is_off m.config.granularity own pool u one ok.runs waits y rec)
       ] in
       let inside : (n : ℕ) → CountIs m u.dom.0 n → u.n < n = λ n count. (let w = unit_inside m some u may.0 in let e = count may.0.config may.0.at in omega (arith, w, e)) in
       subst (λ (d : Decision). CreditFits m t d.records (put_at r (decided_core t d c) pool.resources)) (sym same)
-      (credit_fits m t (credit2.set_running (Some t) u (credit2.switch_off c.cur taken)) (put_at r (decided_core t d2 c) pool.resources) (record {
+      (credit_fits m t (credit2.running_records (Some t) u (credit2.off_records c.cur taken)) (put_at r (decided_core t d2 c) pool.resources) (record {
         budgets = decides_unit t (CountIs m) ask pool.scheduler own refl ok.budgets u pays inside off k;
         runs =
-            let taken_runs = r_take t (OnCore pool.resources) u (credit2.reset t k burned) (r_reset t (OnCore pool.resources) k burned (r_burn_cur t (OnCore pool.resources) c.cur own ok.runs)) in
+            let taken_runs = r_take t (OnCore pool.resources) u (credit2.reset_records t k burned) (r_reset t (OnCore pool.resources) k burned (r_burn_cur t (OnCore pool.resources) c.cur own ok.runs)) in
             let stopped = r_switch_off t (OnCore pool.resources) c.cur taken taken_runs in
-            r_set_running t (λ d n. OnCore pool.resources d n × (IsCur c.cur d n → ⊥)) (OnCore (put_at r (decided_core t d2 c) pool.resources)) u (credit2.switch_off c.cur taken)
+            r_set_running t (λ d n. OnCore pool.resources d n × (IsCur c.cur d n → ⊥)) (OnCore (put_at r (decided_core t d2 c) pool.resources)) u (credit2.off_records c.cur taken)
             (λ d n on. other_core t r c pool at d2 d n on.0 on.1)
             (r, decided_core t d2 c, at_place-put_at r (decided_core t d2 c) pool.resources (place_below pool.resources r c at), decided_is d2 c)
             stopped;
@@ -243,25 +243,25 @@ module _ (m : Machine) (some : 0 < m.config.granularity) (t : ℕ) where
   n_after_decide : (r : ℕ) (c : Resource) (pool : Pool) → at_place pool.resources r ≡ Some c → PoolFits m t pool → IsKnownPool m.config.granularity pool → N pool → N (pools.after_decide m.config.granularity t r c pool)
   n_after_decide r c pool at fits known credit = by_records pool.scheduler.records refl
     where
-      may_be : IfUnit (λ u. IsUnitOf m u × ((1 ≤ times u pool.scheduler.queue) ⊎ (c.cur ≡ Some u))) (decision_of (ask_of m.config.granularity t pool r c) pool.scheduler).unit
-      may_be = decision_has (λ u. IsUnitOf m u × ((1 ≤ times u pool.scheduler.queue) ⊎ (c.cur ≡ Some u))) (ask_of m.config.granularity t pool r c) pool.scheduler
+      may_be : IfUnit (λ u. IsUnitOf m u × ((1 ≤ times u pool.scheduler.queue) ⊎ (c.cur ≡ Some u))) (decision_of (core_ask m.config.granularity t pool r c) pool.scheduler).unit
+      may_be = decision_has (λ u. IsUnitOf m u × ((1 ≤ times u pool.scheduler.queue) ⊎ (c.cur ≡ Some u))) (core_ask m.config.granularity t pool r c) pool.scheduler
           (AllByRecursion-map (λ u. (1 ≤ times u pool.scheduler.queue) × IsUnitOf m u) (λ u. IsUnitOf m u × ((1 ≤ times u pool.scheduler.queue) ⊎ (c.cur ≡ Some u))) (λ u both. (both.1, inl both.0)) pool.scheduler.queue (both_of (λ u. 1 ≤ times u pool.scheduler.queue) (IsUnitOf m) pool.scheduler.queue (there_each pool.scheduler.queue) fits.queue))
           (λ u own runs. (subst (IfUnit (IsUnitOf m)) own (fits.cores r c at).cur, inr own))
 
-      unit_is : (own : Credit2Records) (chosen : Option UnitId) → (credit2.decide (ask_of m.config.granularity t pool r c) pool.scheduler own chosen).unit ≡ chosen
+      unit_is : (own : Credit2Records) (chosen : Option UnitId) → (credit2.credit2_decision_for (core_ask m.config.granularity t pool r c) pool.scheduler own chosen).unit ≡ chosen
       unit_is own None = refl
       unit_is own (Some u) = refl
 
-      kind : is_credit2 (decision_of (ask_of m.config.granularity t pool r c) pool.scheduler).records ≡ is_credit2 pool.scheduler.records
-      kind = same_decision is_credit2 (λ a b. refl) (λ a b. refl) (λ a b. refl) pool.scheduler.records (ask_of m.config.granularity t pool r c) pool.scheduler refl
+      kind : is_credit2 (decision_of (core_ask m.config.granularity t pool r c) pool.scheduler).records ≡ is_credit2 pool.scheduler.records
+      kind = same_decision is_credit2 (λ a b. refl) (λ a b. refl) (λ a b. refl) pool.scheduler.records (core_ask m.config.granularity t pool r c) pool.scheduler refl
 
-      by_records : (records : Records) → pool.scheduler.records ≡ records → CreditFits m t (decision_of (ask_of m.config.granularity t pool r c) pool.scheduler).records (put_at r (decided_core t (decision_of (ask_of m.config.granularity t pool r c) pool.scheduler) c) pool.resources)
+      by_records : (records : Records) → pool.scheduler.records ≡ records → CreditFits m t (decision_of (core_ask m.config.granularity t pool r c) pool.scheduler).records (put_at r (decided_core t (decision_of (core_ask m.config.granularity t pool r c) pool.scheduler) c) pool.resources)
       by_records (Credit2Pool own) is =
-          let ask : Ask = ask_of m.config.granularity t pool r c in
-          let burned : Credit2Records = credit2.burn_cur c.cur t own in
-          let same : decision_of ask pool.scheduler ≡ credit2.decide ask pool.scheduler burned (credit2.choice ask pool.scheduler burned) = ap (λ (x : Records). decision_by x ask pool.scheduler) is in
-          n_decide own r c pool is at fits known.one (credit own is) (credit2.choice ask pool.scheduler burned) (choice_pays t (CountIs m) ask pool.scheduler burned)
-          (subst (IfUnit (λ u. IsUnitOf m u × ((1 ≤ times u pool.scheduler.queue) ⊎ (c.cur ≡ Some u)))) (ap (λ (d : Decision). d.unit) same ∙ unit_is burned (credit2.choice ask pool.scheduler burned)) may_be)
+          let ask : Ask = core_ask m.config.granularity t pool r c in
+          let burned : Credit2Records = credit2.own_burned_records c.cur t own in
+          let same : decision_of ask pool.scheduler ≡ credit2.credit2_decision_for ask pool.scheduler burned (credit2.credit2_choice ask pool.scheduler burned) = ap (λ (x : Records). decision_by x ask pool.scheduler) is in
+          n_decide own r c pool is at fits known.one (credit own is) (credit2.credit2_choice ask pool.scheduler burned) (choice_pays t (CountIs m) ask pool.scheduler burned)
+          (subst (IfUnit (λ u. IsUnitOf m u × ((1 ≤ times u pool.scheduler.queue) ⊎ (c.cur ≡ Some u)))) (ap (λ (d : Decision). d.unit) same ∙ unit_is burned (credit2.credit2_choice ask pool.scheduler burned)) may_be)
           (decision_of ask pool.scheduler) same
       by_records (RtdsPool domains) is = not_credit2 m t _ _ (kind ∙ ap is_credit2 is)
       by_records (ArincPool records) is = not_credit2 m t _ _ (kind ∙ ap is_credit2 is)
@@ -283,41 +283,41 @@ module _ (m : Machine) (some : 0 < m.config.granularity) (t : ℕ) where
   n_commands : KeptByCommands m.config.granularity N
   n_commands = commands_of n_parts
 
-  pub n_set_params : (change : ParamChange) (pool : Pool) → ChangeFits change → N pool → N (set_params change t pool)
+  pub n_set_params : (change : ParamChange) (pool : Pool) → ChangeFits change → N pool → N (changed_pool change t pool)
   n_set_params change pool good fits =
       kept_marked n_commands t (λ d next. fits_like m t next.scheduler.records next.resources _ (like_of_domain SameCur d (capped t) next.resources (λ c. refl) (λ c. refl)))
-      change (record pool { scheduler = policy.set_params change t pool.scheduler }) (n_changed pool.scheduler.records change pool.resources good fits)
+      change (record pool { scheduler = policy.changed_scheduler change t pool.scheduler }) (n_changed pool.scheduler.records change pool.resources good fits)
 
-  n_set_rtds_unit : (period budget : Option Span) (extra : Option Bool) (u : UnitId) (pool : Pool) → N pool → N (set_rtds_unit t period budget extra u pool)
+  n_set_rtds_unit : (period budget : Option Span) (extra : Option Bool) (u : UnitId) (pool : Pool) → N pool → N (pool_with_rtds_unit t period budget extra u pool)
   n_set_rtds_unit period budget extra u pool fits =
-      by_option N (rtds_record pool.scheduler.records u) _ _ (λ is. fits)
+      by_option N (unit_rtds_record pool.scheduler.records u) _ _ (λ is. fits)
       (λ x is. n_unit_changed pool.scheduler.records u (unwrap_or period (span x.next_period)) (unwrap_or budget (span x.next_budget)) (unwrap_or extra x.next_extra) pool.resources fits)
 
-  counted : (d : ℕ) (domain : Domain) → DomFits m t d domain → CountIs m d (pools.unit_count m.config.granularity domain)
+  counted : (d : ℕ) (domain : Domain) → DomFits m t d domain → CountIs m d (pools.domain_unit_count m.config.granularity domain)
   counted d domain comes config at =
       let count = comes.count in
       let there = comes.at in
       let same : comes.config ≡ config = cc in
       ap (λ k. (k + m.config.granularity - 1) / m.config.granularity) (count ∙ ap (λ (c : DomConfig). length c.guests) same)
 
-  pub n_with_domain : (d : ℕ) (domain : Domain) (params : DomParams) (pool : Pool) → ParamsInRange params → DomFits m t d domain → N pool → N (with_domain m.config.granularity t d domain params pool)
+  pub n_with_domain : (d : ℕ) (domain : Domain) (params : DomParams) (pool : Pool) → ParamsInRange params → DomFits m t d domain → N pool → N (pool_with_domain m.config.granularity t d domain params pool)
   n_with_domain d domain params pool good comes fits =
-      kept_queue_units n_commands d (numbers_from 0 (pools.unit_count m.config.granularity domain)) (record pool { domains = put_at d domain pool.domains; scheduler = policy.join d (pools.unit_count m.config.granularity domain) params t pool.scheduler })
-      (n_joined pool.scheduler.records params d (pools.unit_count m.config.granularity domain) pool.resources good (counted d domain comes) fits)
+      kept_queue_units n_commands d (numbers_from 0 (pools.domain_unit_count m.config.granularity domain)) (record pool { domains = put_at d domain pool.domains; scheduler = policy.joined_scheduler d (pools.domain_unit_count m.config.granularity domain) params t pool.scheduler })
+      (n_joined pool.scheduler.records params d (pools.domain_unit_count m.config.granularity domain) pool.resources good (counted d domain comes) fits)
 
-  n_without_domain : (d : ℕ) (pool : Pool) → N pool → N (without_domain d pool)
+  n_without_domain : (d : ℕ) (pool : Pool) → N pool → N (pool_without_domain d pool)
   n_without_domain d pool fits = n_parted pool.scheduler.records d pool.resources fits
 
-  n_core_comes : (r : ℕ) (ends : List Moment) (pool : Pool) → at_place pool.resources r ≡ None → N pool → N (record pool { resources = put_at r (fresh_core ends) pool.resources })
+  n_core_comes : (r : ℕ) (ends : List Moment) (pool : Pool) → at_place pool.resources r ≡ None → N pool → N (record pool { resources = put_at r (joined_core ends) pool.resources })
   n_core_comes r ends pool none fits =
-      fits_stay m t pool.scheduler.records pool.resources (put_at r (fresh_core ends) pool.resources)
-      (λ k c u at own. (c, at_place-put_at_other r k (fresh_core ends) pool.resources (λ e. (let there : at_place pool.resources r ≡ Some c = subst (λ j. at_place pool.resources j ≡ Some c) e at in absurd (cc))) ∙ at, own)) fits
+      fits_stay m t pool.scheduler.records pool.resources (put_at r (joined_core ends) pool.resources)
+      (λ k c u at own. (c, at_place-put_at_other r k (joined_core ends) pool.resources (λ e. (let there : at_place pool.resources r ≡ Some c = subst (λ j. at_place pool.resources j ≡ Some c) e at in absurd (cc))) ∙ at, own)) fits
 
   n_core_goes : (r : ℕ) (pool : Pool) → enabled_in m.config.granularity t pool (Moved (core_number r)) ≡ true → N pool → N (record pool { resources = clear_at r pool.resources })
   n_core_goes r pool on fits =
-      let found = some-test_at pool.resources r (λ c. c.leaving && is_none c.cur && is_none c.saving && not c.pending && is_open c && first_up t c) on in
+      let found = some-test_at pool.resources r (λ c. c.leaving && is_none c.cur && is_none c.saving && not c.pending && is_gathering c && is_first_processor_up t c) on in
       let c0 : Resource = found.0 in
-      let two : (c0.leaving && is_none c0.cur) ≡ true = and_left _ (is_none c0.saving) (and_left (c0.leaving && is_none c0.cur && is_none c0.saving) (not c0.pending) (and_left (c0.leaving && is_none c0.cur && is_none c0.saving && not c0.pending) (is_open c0) (and_left (c0.leaving && is_none c0.cur && is_none c0.saving && not c0.pending && is_open c0) (first_up t c0) found.2))) in
+      let two : (c0.leaving && is_none c0.cur) ≡ true = and_left _ (is_none c0.saving) (and_left (c0.leaving && is_none c0.cur && is_none c0.saving) (not c0.pending) (and_left (c0.leaving && is_none c0.cur && is_none c0.saving && not c0.pending) (is_gathering c0) (and_left (c0.leaving && is_none c0.cur && is_none c0.saving && not c0.pending && is_gathering c0) (is_first_processor_up t c0) found.2))) in
       let free : c0.cur ≡ None = none_is c0.cur (and_right c0.leaving (is_none c0.cur) two) in
       fits_stay m t pool.scheduler.records pool.resources (clear_at r pool.resources)
       (λ k c u at own. (
@@ -332,13 +332,13 @@ module _ (m : Machine) (some : 0 < m.config.granularity) (t : ℕ) where
       )) fits
 
 -- a pool that keeps no records yet
-pub n_fresh : (m : Machine) (t : ℕ) (params : PoolParams) (domains count : ℕ) (cores : List (Option Resource)) → CreditFits m t (fresh_records params domains count) cores
+pub n_fresh : (m : Machine) (t : ℕ) (params : PoolParams) (domains count : ℕ) (cores : List (Option Resource)) → CreditFits m t (empty_records params domains count) cores
 n_fresh m t (pool_params.Credit2 limit) domains count cores =
     credit_fits m t (record { limit = limit; last_reset = None; domains = replicate domains None }) cores (record {
       budgets = λ d x at. absurd (EachPlace-empty {X = Credit2Domain} (λ y. ⊥) domains d x at);
       runs = λ d x at. absurd (EachPlace-empty {X = Credit2Domain} (λ y. ⊥) domains d x at);
     })
-n_fresh m t other domains count cores = not_credit2 m t (fresh_records other domains count) cores refl
+n_fresh m t other domains count cores = not_credit2 m t (empty_records other domains count) cores refl
 
 pub n_later : (m : Machine) (t next : ℕ) (records : Records) (cores : List (Option Resource)) → t ≤ next → CreditFits m t records cores → CreditFits m next records cores
 n_later m t next records cores past fits own is = (let ok = fits own is in record { budgets = λ d x at. b_later t next (CountIs m d) x past (ok.budgets d x at); runs = ok.runs })
@@ -370,13 +370,13 @@ whole_steps m checked some t =
       ends_go = λ r c pool at w. steps.ends_go r c pool at w.fits;
       core_goes = λ r pool on w. record { known = known.core_goes t r pool on w.known; fits = steps.core_goes r pool on w.fits; credit = n_core_goes m some t r pool on w.credit };
       domain_is = λ d domain pool at w. steps.domain_is d domain pool at w.fits;
-      domain_comes = λ d domain pool stays none comes w. record { known = known.domain_comes t d domain (default_dom_params pool.scheduler.records) pool stays none w.known; fits = steps.domain_comes d domain pool stays none comes w.fits; credit = n_with_domain m some t d domain (default_dom_params pool.scheduler.records) pool (default_fits pool.scheduler.records) comes w.credit };
+      domain_comes = λ d domain pool stays none comes w. record { known = known.domain_comes t d domain (standard_dom_params pool.scheduler.records) pool stays none w.known; fits = steps.domain_comes d domain pool stays none comes w.fits; credit = n_with_domain m some t d domain (standard_dom_params pool.scheduler.records) pool (default_fits pool.scheduler.records) comes w.credit };
       domain_goes = λ d pool on w. record { known = known.domain_goes t d pool on w.known; fits = steps.domain_goes d pool on w.fits; credit = n_without_domain m some t d pool w.credit };
       domain_leaves = λ d pool null on w. record { known = known.domain_goes t d pool on w.known; fits = steps.domain_leaves d pool null on w.fits; credit = n_without_domain m some t d pool w.credit };
-      empty = λ kind. record { known = known.empty m.config (default_pool_params kind); fits = steps.empty kind; credit = n_fresh m t (default_pool_params kind) (length m.config.domains) (core_count m.config) (replicate (core_count m.config) None) };
+      empty = λ kind. record { known = known.empty m.config (standard_pool_params kind); fits = steps.empty kind; credit = n_fresh m t (standard_pool_params kind) (length m.config.domains) (machine_core_count m.config) (replicate (machine_core_count m.config) None) };
     }
   where
-    known_set_rtds : (m : Machine) (some : 0 < m.config.granularity) (t : ℕ) (period budget : Option Span) (extra : Option Bool) (u : UnitId) (pool : Pool) → IsKnownPool m.config.granularity pool → IsKnownPool m.config.granularity (set_rtds_unit t period budget extra u pool)
+    known_set_rtds : (m : Machine) (some : 0 < m.config.granularity) (t : ℕ) (period budget : Option Span) (extra : Option Bool) (u : UnitId) (pool : Pool) → IsKnownPool m.config.granularity pool → IsKnownPool m.config.granularity (pool_with_rtds_unit t period budget extra u pool)
     known_set_rtds m some t period budget extra u pool known =
-        by_option (IsKnownPool m.config.granularity) (rtds_record pool.scheduler.records u) _ _ (λ is. known)
+        by_option (IsKnownPool m.config.granularity) (unit_rtds_record pool.scheduler.records u) _ _ (λ is. known)
         (λ x is. (known_pools m.config.granularity some).inside.changes (changes.«Unit» u (unwrap_or period (span x.next_period)) (unwrap_or budget (span x.next_budget)) (unwrap_or extra x.next_extra)) t pool known)

@@ -7,14 +7,14 @@ use Rattle.std.specs.Option.{IfSome}
 use Rattle.std.proofs.lemmas.Int.{ints, clamps}
 use Rattle.std.proofs.lemmas.Nat.{div-add-mod'}
 use Rattle.std.proofs.Math.Nat.{mod-lt, max-le}
-use Rattle.sched_base.specs.Credit2Numbers.{charge, raise, start_credit, most_credit, refill_span}
+use Rattle.sched_base.specs.Credit2Numbers.{undivided_charge, raised_credit, start_credit, most_credit, refill_span}
 use Rattle.sched_base.specs.declared.UnitId.{UnitId}
 use Rattle.sched_model.specs.declared.state.Credit2Unit.{Credit2Unit}
 use Rattle.sched_model.specs.declared.state.Credit2Domain.{Credit2Domain}
 use Rattle.sched_model.specs.declared.state.Credit2Records.{Credit2Records}
 use Rattle.sched_model.specs.Places.{at_place, change_item, numbered_items}
 use Rattle.sched_model.specs.CheckedMachine.{IsWithin}
-use Rattle.sched_model.specs.Credit2.{max_weight, burn_unit, burn_units, burn_all, change_domain, change_unit, give_back, burn_cur, reset, take_budget, set_running, switch_off, refill_domain, refilled_pool, first_refill, fresh_domain, set_weight, set_cap, set_domain}
+use Rattle.sched_model.specs.Credit2.{most_weight, burned_unit, burned_domain, burn_all, change_domain, change_unit, domain_after_return, own_burned_records, reset_records, domain_after_take, running_records, off_records, domain_after_refill, refilled_pool, first_refill_moment, fresh_credit2_domain, domain_with_weight, domain_with_cap, records_with_terms}
 use Rattle.sched_laws.specs.EachPlace.{EachPlace}
 use Rattle.sched_laws.proofs.EachPlace.{EachPlace-change_at, EachPlace-change_each, by_option, by_cond, length_set, length_change_each}
 use Rattle.sched_laws.proofs.Lists.{AllByRecursion-change_item}
@@ -27,11 +27,11 @@ fold_small t n acc [] low each = low
 fold_small t n acc (None ∷ domains) low each = fold_small t (suc n) acc domains low (λ i x at. each (suc i) x at)
 fold_small t n acc (Some d ∷ domains) low each = fold_small t (suc n) (max acc d.weight) domains (max-le low (each 0 d refl).weight.most) (λ i x at. each (suc i) x at)
 
-max_weight_small : (count t : ℕ) (records : Credit2Records) → Credit2Fits count t records → max_weight records ≤ 65535
+max_weight_small : (count t : ℕ) (records : Credit2Records) → Credit2Fits count t records → most_weight records ≤ 65535
 max_weight_small count t records fits = fold_small t 0 0 records.domains (omega arith) fits.domains
 
 -- a charge of a span
-charge_small : (residual weight most elapsed : ℕ) → residual < weight → most ≤ 65535 → charge residual most elapsed / weight ≤ 65536 * elapsed
+charge_small : (residual weight most elapsed : ℕ) → residual < weight → most ≤ 65535 → undivided_charge residual most elapsed / weight ≤ 65536 * elapsed
 charge_small residual weight most elapsed low small =
     let c : ℕ = elapsed * most + residual in
     let d : c / weight * weight + c % weight ≡ c = div-add-mod' c weight in
@@ -74,7 +74,7 @@ unit_runs t weight x from is fits = record {
   least = subst (λ k. neg_ℤ (pos (65536 * k)) ≤ℤ x.credit) (sym is) (let l = fits.least in let k = fits.last in omega (arith, ints, l, k));
 }
 
-unit_burned : (t most : ℕ) (d : Credit2Domain) (x : Credit2Unit) → most ≤ 65535 → UnitFits t d.weight x → UnitFits t d.weight (burn_unit most t d x)
+unit_burned : (t most : ℕ) (d : Credit2Domain) (x : Credit2Unit) → most ≤ 65535 → UnitFits t d.weight x → UnitFits t d.weight (burned_unit most t d x)
 unit_burned t most d x small fits =
     by_option (UnitFits t d.weight) x.burned _ _ (λ is. fits)
     (λ from is.
@@ -83,13 +83,13 @@ unit_burned t most d x small fits =
     let c = charge_small x.residual d.weight most (t - from) fits.residual small in
     let top = fits.most in
     record {
-      residual = mod-lt (charge x.residual most (t - from)) (let r = fits.residual in omega (arith, r));
+      residual = mod-lt (undivided_charge x.residual most (t - from)) (let r = fits.residual in omega (arith, r));
       last = omega arith;
       most = omega (arith, ints, top);
       least = omega (arith, ints, last, least, c);
     })
 
-unit_raised : (t weight k : ℕ) (x : Credit2Unit) → UnitFits t weight x → UnitFits t weight (record x { credit = raise x.credit k })
+unit_raised : (t weight k : ℕ) (x : Credit2Unit) → UnitFits t weight x → UnitFits t weight (record x { credit = raised_credit x.credit k })
 unit_raised t weight k x fits = record {
   residual = fits.residual;
   last = fits.last;
@@ -116,8 +116,8 @@ with_units t d e weight cap refill units fits = record {
   units = units;
 }
 
-domain_burned : (t most : ℕ) (d : Credit2Domain) → most ≤ 65535 → Credit2DomainFits t d → Credit2DomainFits t (burn_units most t d)
-domain_burned t most d small fits = with_units t d (burn_units most t d) refl refl refl (each_map (UnitFits t d.weight) (UnitFits t d.weight) (burn_unit most t d) (λ x. unit_burned t most d x small) d.units fits.units) fits
+domain_burned : (t most : ℕ) (d : Credit2Domain) → most ≤ 65535 → Credit2DomainFits t d → Credit2DomainFits t (burned_domain most t d)
+domain_burned t most d small fits = with_units t d (burned_domain most t d) refl refl refl (each_map (UnitFits t d.weight) (UnitFits t d.weight) (burned_unit most t d) (λ x. unit_burned t most d x small) d.units fits.units) fits
 
 domain_unit : (t n : ℕ) (f : Credit2Unit → Credit2Unit) (d : Credit2Domain) → ((x : Credit2Unit) → UnitFits t d.weight x → UnitFits t d.weight (f x)) → Credit2DomainFits t d → Credit2DomainFits t (record d { units = change_item n f d.units })
 domain_unit t n f d keeps fits = with_units t d (record d { units = change_item n f d.units }) refl refl refl (AllByRecursion-change_item (UnitFits t d.weight) n f d.units (λ x at. keeps x) fits.units) fits
@@ -125,13 +125,13 @@ domain_unit t n f d keeps fits = with_units t d (record d { units = change_item 
 holds : (t weight : ℕ) (x : Credit2Unit) (held : ℤ) → UnitFits t weight x → UnitFits t weight (record x { held = held })
 holds t weight x held fits = record { residual = fits.residual; last = fits.last; most = fits.most; least = fits.least }
 
-domain_given_back : (t n : ℕ) (d : Credit2Domain) → Credit2DomainFits t d → Credit2DomainFits t (give_back n d)
+domain_given_back : (t n : ℕ) (d : Credit2Domain) → Credit2DomainFits t d → Credit2DomainFits t (domain_after_return n d)
 domain_given_back t n d fits =
     by_option (Credit2DomainFits t) (slice_get d.units n) _ _ (λ none. fits)
     (λ u is. with_units t d (record d { budget = d.budget +ℤ u.held; units = change_item n (λ x. record x { held = pos 0 }) d.units }) refl refl refl
     (AllByRecursion-change_item (UnitFits t d.weight) n (λ x. record x { held = pos 0 }) d.units (λ x at. holds t d.weight x (pos 0)) fits.units) fits)
 
-domain_taken : (t n : ℕ) (d : Credit2Domain) → Credit2DomainFits t d → Credit2DomainFits t (take_budget n d)
+domain_taken : (t n : ℕ) (d : Credit2Domain) → Credit2DomainFits t d → Credit2DomainFits t (domain_after_take n d)
 domain_taken t n d fits =
     by_cond (Credit2DomainFits t) (d.cap == 0) d _ (λ none. fits)
     (λ some. with_units t d _ refl refl refl (AllByRecursion-change_item (UnitFits t d.weight) n _ d.units (λ x at. holds t d.weight x _) fits.units) fits)
@@ -150,44 +150,44 @@ module _ (count t : ℕ) where
   c_burn_all records fits = record {
     places = length_change_each 0 _ records.domains ∙ fits.places;
     limit = fits.limit;
-    domains = EachPlace-change_each (Credit2DomainFits t) (λ n d. burn_units (max_weight records) t d) records.domains fits.domains (λ n d at. domain_burned t (max_weight records) d (max_weight_small count t records fits));
+    domains = EachPlace-change_each (Credit2DomainFits t) (λ n d. burned_domain (most_weight records) t d) records.domains fits.domains (λ n d at. domain_burned t (most_weight records) d (max_weight_small count t records fits));
   }
 
-  pub c_burn_cur : (cur : Option UnitId) (records : Credit2Records) → C records → C (burn_cur cur t records)
+  pub c_burn_cur : (cur : Option UnitId) (records : Credit2Records) → C records → C (own_burned_records cur t records)
   c_burn_cur None records fits = fits
   c_burn_cur (Some u) records fits =
-      c_change_domain u.dom.0 (λ d. cond (d.cap == 0) d (give_back u.n d)) (change_unit u (burn_unit (max_weight records) t) records)
-      (λ d at here. by_cond (Credit2DomainFits t) (d.cap == 0) d (give_back u.n d) (λ none. here) (λ some. domain_given_back t u.n d here))
-      (c_change_unit u (burn_unit (max_weight records) t) records (λ d x. unit_burned t (max_weight records) d x (max_weight_small count t records fits)) fits)
+      c_change_domain u.dom.0 (λ d. cond (d.cap == 0) d (domain_after_return u.n d)) (change_unit u (burned_unit (most_weight records) t) records)
+      (λ d at here. by_cond (Credit2DomainFits t) (d.cap == 0) d (domain_after_return u.n d) (λ none. here) (λ some. domain_given_back t u.n d here))
+      (c_change_unit u (burned_unit (most_weight records) t) records (λ d x. unit_burned t (most_weight records) d x (max_weight_small count t records fits)) fits)
 
-  pub c_reset : (k : ℕ) (records : Credit2Records) → C records → C (reset t k records)
+  pub c_reset : (k : ℕ) (records : Credit2Records) → C records → C (reset_records t k records)
   c_reset zero records fits = fits
   c_reset (suc k) records fits =
       let burned : C (burn_all t records) = c_burn_all records fits in
       record {
         places = length_change_each 0 _ (burn_all t records).domains ∙ burned.places;
         limit = burned.limit;
-        domains = EachPlace-change_each (Credit2DomainFits t) (λ n d. record d { units = map (λ (x : Credit2Unit). record x { credit = raise x.credit (suc k) }) d.units }) (burn_all t records).domains burned.domains
-            (λ n d at here. with_units t d (record d { units = map (λ (x : Credit2Unit). record x { credit = raise x.credit (suc k) }) d.units }) refl refl refl
-            (each_map (UnitFits t d.weight) (UnitFits t d.weight) (λ (x : Credit2Unit). record x { credit = raise x.credit (suc k) }) (unit_raised t d.weight (suc k)) d.units here.units) here);
+        domains = EachPlace-change_each (Credit2DomainFits t) (λ n d. record d { units = map (λ (x : Credit2Unit). record x { credit = raised_credit x.credit (suc k) }) d.units }) (burn_all t records).domains burned.domains
+            (λ n d at here. with_units t d (record d { units = map (λ (x : Credit2Unit). record x { credit = raised_credit x.credit (suc k) }) d.units }) refl refl refl
+            (each_map (UnitFits t d.weight) (UnitFits t d.weight) (λ (x : Credit2Unit). record x { credit = raised_credit x.credit (suc k) }) (unit_raised t d.weight (suc k)) d.units here.units) here);
       }
 
-  pub c_take : (u : UnitId) (records : Credit2Records) → C records → C (change_domain u.dom.0 (take_budget u.n) records)
-  c_take u records fits = c_change_domain u.dom.0 (take_budget u.n) records (λ d at. domain_taken t u.n d) fits
+  pub c_take : (u : UnitId) (records : Credit2Records) → C records → C (change_domain u.dom.0 (domain_after_take u.n) records)
+  c_take u records fits = c_change_domain u.dom.0 (domain_after_take u.n) records (λ d at. domain_taken t u.n d) fits
 
-  pub c_switch_off : (cur : Option UnitId) (records : Credit2Records) → C records → C (switch_off cur records)
+  pub c_switch_off : (cur : Option UnitId) (records : Credit2Records) → C records → C (off_records cur records)
   c_switch_off None records fits = fits
   c_switch_off (Some u) records fits = c_change_unit u (λ d x. record x { burned = None }) records (λ d x. unit_runs t d.weight x None refl) fits
 
-  pub c_set_running : (u : UnitId) (records : Credit2Records) → C records → C (set_running (Some t) u records)
+  pub c_set_running : (u : UnitId) (records : Credit2Records) → C records → C (running_records (Some t) u records)
   c_set_running u records fits = c_change_unit u (λ d x. record x { burned = Some t }) records (λ d x. unit_runs t d.weight x (Some t) refl) fits
 
   -- a refill that has come
   pub c_refilled : (d : ℕ) (records : Credit2Records) → ((x : Credit2Domain) (r : ℕ) → at_place records.domains d ≡ Some x → x.refill ≡ Some r → r ≤ t) → C records → C (refilled_pool t d records)
   c_refilled d records come fits =
-      c_change_domain d (refill_domain (max_weight records) t) records
+      c_change_domain d (domain_after_refill (most_weight records) t) records
       (λ x at here.
-      let burned = domain_burned t (max_weight records) x (max_weight_small count t records fits) here in
+      let burned = domain_burned t (most_weight records) x (max_weight_small count t records fits) here in
       record {
         weight = here.weight;
         cap = here.cap;
@@ -204,17 +204,17 @@ module _ (count t : ℕ) where
           let p = past due refl in
           omega (arith, e, d2, f, p)
 
-  first_near : (percent r : ℕ) → first_refill percent t ≡ Some r → r ≤ t + 10000000
+  first_near : (percent r : ℕ) → first_refill_moment percent t ≡ Some r → r ≤ t + 10000000
   first_near percent r is = by_cond (λ (o : Option ℕ). o ≡ Some r → r ≤ t + 10000000) (percent == 0) None (Some (t + refill_span)) (λ none e. absurd (cc)) (λ some e. (let f : t + 10000000 ≡ r = cc in omega (arith, f))) is
 
-  pub c_fresh : (weight percent units : ℕ) → IsWithin 1 65535 weight → percent ≤ 6400 → Credit2DomainFits t (fresh_domain weight percent units t)
+  pub c_fresh : (weight percent units : ℕ) → IsWithin 1 65535 weight → percent ≤ 6400 → Credit2DomainFits t (fresh_credit2_domain weight percent units t)
   c_fresh weight percent units within low = record { weight = within; cap = low; refill = first_near percent; units = each units }
     where
       each : (n : ℕ) → AllByRecursion (UnitFits t weight) (replicate n (record { credit = pos start_credit; residual = 0; held = pos 0; burned = None }))
       each zero = tt
       each (suc n) = (record { residual = (let l = within.least in omega (arith, l)); last = omega arith; most = omega (arith, ints); least = omega (arith, ints) }, each n)
 
-  domain_weighed : (weight : Option ℕ) (d : Credit2Domain) → IfSome weight (IsWithin 1 65535) → Credit2DomainFits t d → Credit2DomainFits t (set_weight weight d)
+  domain_weighed : (weight : Option ℕ) (d : Credit2Domain) → IfSome weight (IsWithin 1 65535) → Credit2DomainFits t d → Credit2DomainFits t (domain_with_weight weight d)
   domain_weighed None d good fits = fits
   domain_weighed (Some weight) d good fits = record {
     weight = good;
@@ -224,22 +224,22 @@ module _ (count t : ℕ) where
         (λ x here. record { residual = mod-lt x.residual (let l = good.least in omega (arith, l)); last = here.last; most = here.most; least = here.least }) d.units fits.units;
   }
 
-  domain_capped : (most : ℕ) (percent : Option ℕ) (d : Credit2Domain) → most ≤ 65535 → IfSome percent (λ (c : ℕ). c ≤ 6400) → Credit2DomainFits t d → Credit2DomainFits t (set_cap most t percent d)
+  domain_capped : (most : ℕ) (percent : Option ℕ) (d : Credit2Domain) → most ≤ 65535 → IfSome percent (λ (c : ℕ). c ≤ 6400) → Credit2DomainFits t d → Credit2DomainFits t (domain_with_cap most t percent d)
   domain_capped most None d small good fits = fits
   domain_capped most (Some percent) d small good fits =
-      let burned : Credit2DomainFits t (burn_units most t d) = domain_burned t most d small fits in
+      let burned : Credit2DomainFits t (burned_domain most t d) = domain_burned t most d small fits in
       record {
         weight = burned.weight;
         cap = good;
         refill = first_near percent;
-        units = each_map (UnitFits t d.weight) (UnitFits t d.weight) (λ (x : Credit2Unit). record x { held = cond (is_some x.burned) (pos 0) x.held }) (λ x here. holds t d.weight x (cond (is_some x.burned) (pos 0) x.held) here) (burn_units most t d).units burned.units;
+        units = each_map (UnitFits t d.weight) (UnitFits t d.weight) (λ (x : Credit2Unit). record x { held = cond (is_some x.burned) (pos 0) x.held }) (λ x here. holds t d.weight x (cond (is_some x.burned) (pos 0) x.held) here) (burned_domain most t d).units burned.units;
       }
 
-  pub c_set_domain : (d : ℕ) (weight percent : Option ℕ) (records : Credit2Records) → IfSome weight (IsWithin 1 65535) → IfSome percent (λ (c : ℕ). c ≤ 6400) → C records → C (set_domain t d weight percent records)
+  pub c_set_domain : (d : ℕ) (weight percent : Option ℕ) (records : Credit2Records) → IfSome weight (IsWithin 1 65535) → IfSome percent (λ (c : ℕ). c ≤ 6400) → C records → C (records_with_terms t d weight percent records)
   c_set_domain d weight percent records weighs caps fits =
-      let weighed : C (change_domain d (set_weight weight) records) = c_change_domain d (set_weight weight) records (λ x at. domain_weighed weight x weighs) fits in
-      c_change_domain d (set_cap (max_weight (change_domain d (set_weight weight) records)) t percent) (change_domain d (set_weight weight) records)
-      (λ x at. domain_capped (max_weight (change_domain d (set_weight weight) records)) percent x (max_weight_small count t (change_domain d (set_weight weight) records) weighed) caps) weighed
+      let weighed : C (change_domain d (domain_with_weight weight) records) = c_change_domain d (domain_with_weight weight) records (λ x at. domain_weighed weight x weighs) fits in
+      c_change_domain d (domain_with_cap (most_weight (change_domain d (domain_with_weight weight) records)) t percent) (change_domain d (domain_with_weight weight) records)
+      (λ x at. domain_capped (most_weight (change_domain d (domain_with_weight weight) records)) percent x (max_weight_small count t (change_domain d (domain_with_weight weight) records) weighed) caps) weighed
 
 pub c_later : (count t next : ℕ) (records : Credit2Records) → t ≤ next → Credit2Fits count t records → Credit2Fits count next records
 c_later count t next records past fits = record {

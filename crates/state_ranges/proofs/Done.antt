@@ -16,7 +16,7 @@ use Rattle.sched_model.specs.declared.state.RtdsUnit.{RtdsUnit}
 use Rattle.sched_model.specs.declared.state.Records.{Records}
 use Rattle.sched_model.specs.declared.state.Records.TheVariants.{Credit2Pool, RtdsPool, ArincPool, NullPool}
 use Rattle.sched_model.specs.Places.{at_place}
-use Rattle.sched_model.specs.Opening.{core_count}
+use Rattle.sched_model.specs.Opening.{machine_core_count}
 use Rattle.sched_model.specs.Runs.{IsRun}
 use Rattle.sched_model.specs.CheckedMachine.{IsChecked, IsCheckedDomain, IsCheckedScript, most_span}
 use Rattle.sched_laws.specs.StateLaws.{state_after}
@@ -150,7 +150,7 @@ units_few m checked t d x records places at budget =
         at_least : (a g : ℕ) → 0 < g → a + g ≤ (a + 1) * g
         at_least a g some = (let split : g ≡ 1 + (g - 1) = omega (arith, some) in subst (λ (z : ℕ). a + z ≤ (a + 1) * z) (sym split) (let r : (a + 1) * (1 + (g - 1)) ≡ a + 1 + (g - 1) + a * (g - 1) = grind arith in omega (arith, r)))
 
-records_in_range : (m : Machine) → IsChecked m → (t : ℕ) (records : Records) (cores : List (Option Resource)) → CreditFits m t records cores → RecordsFit (length m.config.domains) (core_count m.config) t records → RecordsInRange m t records
+records_in_range : (m : Machine) → IsChecked m → (t : ℕ) (records : Records) (cores : List (Option Resource)) → CreditFits m t records cores → RecordsFit (length m.config.domains) (machine_core_count m.config) t records → RecordsInRange m t records
 records_in_range m checked t (Credit2Pool records) cores credit fits = (
   fits.places,
   fits.limit,

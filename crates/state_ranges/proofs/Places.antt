@@ -15,10 +15,10 @@ use Rattle.sched_model.specs.declared.state.Pool.{Pool}
 use Rattle.sched_model.specs.declared.action.Action.{Action}
 use Rattle.sched_model.specs.declared.action.Action.TheVariants.{Stall, Xl, Moved, DomMoved}
 use Rattle.sched_model.specs.Places.{at_place, change_at}
-use Rattle.sched_model.specs.Opening.{opening, opening_pools, core_count, most_pools}
-use Rattle.sched_model.specs.Actions.{home_of, home_of_core, home_of_domain}
-use Rattle.sched_model.specs.Commands.{carried_out, change_home, pool_of_plan}
-use Rattle.sched_model.specs.Machine.{is_enabled, after, after_at_home, after_stall, after_command, after_moved, after_dom_moved, verdict, settled_at}
+use Rattle.sched_model.specs.Opening.{opening, pools_at_opening, machine_core_count, most_pools}
+use Rattle.sched_model.specs.Actions.{home_pool_of_action, home_pool_of_core, home_pool_of_domain}
+use Rattle.sched_model.specs.Commands.{carried_out, change_home, plan_pool}
+use Rattle.sched_model.specs.Machine.{is_action_enabled, after, after_at_home, after_stall, after_command, state_after_moved, after_dom_moved, line_verdict, settled_at}
 use Rattle.sched_model.specs.Runs.{IsRun}
 use Rattle.sched_model.specs.CheckedMachine.{IsChecked}
 use Rattle.sched_laws.specs.StateLaws.{state_after}
@@ -30,7 +30,7 @@ use Rattle.std.proofs.lemmas.List.{length-replicate, length-append, length-map}
 pub record StatePlaces (m : Machine) (s : State) : Type 0 where
   pub names : length s.names ≡ most_pools
   pub pools : length s.pools ≡ most_pools
-  pub free : length s.free ≡ core_count m.config
+  pub free : length s.free ≡ machine_core_count m.config
   pub stalls : s.next_stall ≤ length m.work.stalls
   pub commands : s.next_command ≤ length m.work.commands
 
@@ -47,7 +47,7 @@ module _ (s : State) where
   same_pool i f next stall command same = record { names = same.names; pools = length_set i _ next.pools ∙ same.pools; free = same.free; stalled = same.stalled; commanded = same.commanded }
 
   same_home : (d : ℕ) (f : Pool → Pool) (next : State) (stall command : ℕ) → Same s next stall command → Same s (change_home d f next) stall command
-  same_home d f next stall command same = by_option (λ (x : State). Same s x stall command) (home_of_domain next d) _ _ (λ is. same) (λ i is. same_pool i f next stall command same)
+  same_home d f next stall command same = by_option (λ (x : State). Same s x stall command) (home_pool_of_domain next d) _ _ (λ is. same) (λ i is. same_pool i f next stall command same)
 
   same_plan : (m : Machine) (t : ℕ) (p : Plan) (next : State) (stall command : ℕ) → Same s next stall command → Same s (carried_out m t p next) stall command
   same_plan m t (plan.PoolList pool answer) next stall command same = same
@@ -76,25 +76,25 @@ module _ (s : State) where
   same_command : (m : Machine) (t : ℕ) (line : CommandLine) → Same s (after_command m t line s) s.next_stall (suc s.next_command)
   same_command m t line =
       let counted : Same s (record s { next_command = suc s.next_command }) s.next_stall (suc s.next_command) = record { names = refl; pools = refl; free = refl; stalled = refl; commanded = refl } in
-      elim (verdict m s line) as (λ v. Same s (elim v as (λ _. State) [ Err fault ↦ record s { next_command = suc s.next_command } | Ok p ↦ settled_at t (pool_of_plan s p) (carried_out m t p (record s { next_command = suc s.next_command })) ]) s.next_stall (suc s.next_command)) [
+      elim (line_verdict m s line) as (λ v. Same s (elim v as (λ _. State) [ Err fault ↦ record s { next_command = suc s.next_command } | Ok p ↦ settled_at t (plan_pool s p) (carried_out m t p (record s { next_command = suc s.next_command })) ]) s.next_stall (suc s.next_command)) [
         | Err fault ↦ counted
-        | Ok p ↦ same_settled t (pool_of_plan s p) _ s.next_stall (suc s.next_command) (same_plan m t p (record s { next_command = suc s.next_command }) s.next_stall (suc s.next_command) counted)
+        | Ok p ↦ same_settled t (plan_pool s p) _ s.next_stall (suc s.next_command) (same_plan m t p (record s { next_command = suc s.next_command }) s.next_stall (suc s.next_command) counted)
       ]
 
   same_stall : (g t : ℕ) (l : StallLine) → Same s (after_stall g t l s) (suc s.next_stall) s.next_command
   same_stall g t l =
-      by_option (λ (x : State). Same s (record x { next_stall = suc s.next_stall }) (suc s.next_stall) s.next_command) (home_of_core s (l.cpu.0 / g)) _ _
+      by_option (λ (x : State). Same s (record x { next_stall = suc s.next_stall }) (suc s.next_stall) s.next_command) (home_pool_of_core s (l.cpu.0 / g)) _ _
       (λ is. record { names = refl; pools = refl; free = length_set (l.cpu.0 / g) _ s.free; stalled = refl; commanded = refl })
       (λ i is. record { names = refl; pools = length_set i _ s.pools; free = refl; stalled = refl; commanded = refl })
 
   same_at_home : (g t : ℕ) (action : Action) → Same s (after_at_home g s t action) s.next_stall s.next_command
-  same_at_home g t action = by_option (λ (x : State). Same s x s.next_stall s.next_command) (home_of g s action) _ _ (λ is. itself) (λ i is. same_pool i _ s s.next_stall s.next_command itself)
+  same_at_home g t action = by_option (λ (x : State). Same s x s.next_stall s.next_command) (home_pool_of_action g s action) _ _ (λ is. itself) (λ i is. same_pool i _ s s.next_stall s.next_command itself)
 
-  same_moved : (t r : ℕ) → Same s (after_moved t r s) s.next_stall s.next_command
+  same_moved : (t r : ℕ) → Same s (state_after_moved t r s) s.next_stall s.next_command
   same_moved t r =
       let Q : State → Type 0 = λ x. Same s x s.next_stall s.next_command in
       by_option Q (at_place s.free r) _ _
-      (λ is. by_option Q (home_of_core s r) _ _ (λ is2. itself)
+      (λ is. by_option Q (home_pool_of_core s r) _ _ (λ is2. itself)
       (λ i is2. by_option Q (at_place s.pools i) _ _ (λ is3. itself)
       (λ pool is3. by_option Q (at_place pool.resources r) _ _ (λ is4. itself)
       (λ c is4. record { names = refl; pools = length_set i _ s.pools; free = length_set r _ s.free; stalled = refl; commanded = refl }))))
@@ -103,7 +103,7 @@ module _ (s : State) where
   same_dom_moved : (g t d : ℕ) → Same s (after_dom_moved g t d s) s.next_stall s.next_command
   same_dom_moved g t d =
       let Q : State → Type 0 = λ x. Same s x s.next_stall s.next_command in
-      by_option Q (home_of_domain s d) _ _ (λ is. itself)
+      by_option Q (home_pool_of_domain s d) _ _ (λ is. itself)
       (λ i is. by_option Q (at_place s.pools i) _ _ (λ is2. itself)
       (λ pool is2. by_option Q (at_place pool.domains d) _ _ (λ is3. itself)
       (λ domain is3. by_option Q domain.moving _ _ (λ is4. itself)
@@ -119,18 +119,18 @@ module _ (m : Machine) where
     commands = (let e = same.commanded in omega (arith, e, b));
   }
 
-  places_after : (s : State) (action : Action) → is_enabled m s s.now action ≡ true → StatePlaces m s → StatePlaces m (after m s s.now action)
+  places_after : (s : State) (action : Action) → is_action_enabled m s s.now action ≡ true → StatePlaces m s → StatePlaces m (after m s s.now action)
   places_after s Stall on fits =
       by_option (StatePlaces m) (slice_get m.work.stalls s.next_stall) _ _ (λ is. fits)
       (λ l is. places_of s (after_stall m.config.granularity s.now l s) (suc s.next_stall) s.next_command (same_stall s m.config.granularity s.now l) (let i = slice_get_within m.work.stalls s.next_stall l is in omega (arith, i)) fits.commands fits)
   places_after s Xl on fits =
       by_option (StatePlaces m) (slice_get m.work.commands s.next_command) _ _ (λ is. fits)
       (λ line is. places_of s (after_command m s.now line s) s.next_stall (suc s.next_command) (same_command s m s.now line) fits.stalls (let i = slice_get_within m.work.commands s.next_command line is in omega (arith, i)) fits)
-  places_after s (Moved r) on fits = places_of s (after_moved s.now r.0 s) s.next_stall s.next_command (same_moved s s.now r.0) fits.stalls fits.commands fits
+  places_after s (Moved r) on fits = places_of s (state_after_moved s.now r.0 s) s.next_stall s.next_command (same_moved s s.now r.0) fits.stalls fits.commands fits
   places_after s (DomMoved d) on fits = places_of s (after_dom_moved m.config.granularity s.now d.0 s) s.next_stall s.next_command (same_dom_moved s m.config.granularity s.now d.0) fits.stalls fits.commands fits
   places_after s action on fits = places_of s (after_at_home m.config.granularity s s.now action) s.next_stall s.next_command (same_at_home s m.config.granularity s.now action) fits.stalls fits.commands fits
 
-  length_pools : (config : Config) (i : ℕ) (pools : List PoolConfig) → length (opening_pools config i pools) ≡ length pools
+  length_pools : (config : Config) (i : ℕ) (pools : List PoolConfig) → length (pools_at_opening config i pools) ≡ length pools
   length_pools config i [] = refl
   length_pools config i (p ∷ pools) = (let r = length_pools config (suc i) pools in omega (arith, r))
 
@@ -140,8 +140,8 @@ module _ (m : Machine) where
       let spare : ℕ = most_pools - length m.config.pools in
       record {
         names = (let a = length-append (map (λ (pool : PoolConfig). Some pool.name) m.config.pools) (replicate spare None) in let b = length-map m.config.pools (λ (pool : PoolConfig). Some pool.name) in let c = length-replicate {A = Option (List ℕ)} spare None in omega (arith, a, b, c, few));
-        pools = (let a = length-append (opening_pools m.config 0 m.config.pools) (replicate spare None) in let b = length_pools m.config 0 m.config.pools in let c = length-replicate {A = Option Pool} spare None in omega (arith, a, b, c, few));
-        free = length_map_numbers _ 0 (core_count m.config);
+        pools = (let a = length-append (pools_at_opening m.config 0 m.config.pools) (replicate spare None) in let b = length_pools m.config 0 m.config.pools in let c = length-replicate {A = Option Pool} spare None in omega (arith, a, b, c, few));
+        free = length_map_numbers _ 0 (machine_core_count m.config);
         stalls = omega arith;
         commands = omega arith;
       }

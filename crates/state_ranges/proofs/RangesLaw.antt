@@ -29,12 +29,12 @@ use Rattle.sched_model.specs.declared.state.Vcpu.{Vcpu}
 use Rattle.sched_model.specs.declared.state.Processor.{Processor}
 use Rattle.sched_model.specs.declared.state.Resource.{Resource}
 use Rattle.sched_model.specs.Places.{at_place}
-use Rattle.sched_model.specs.State.{has_core}
-use Rattle.sched_model.specs.Opening.{opening, opening_pool, opening_free, fresh_core, fresh_vcpu, core_count, fresh_domain}
+use Rattle.sched_model.specs.State.{has_core_bit}
+use Rattle.sched_model.specs.Opening.{opening, pool_at_opening, free_core_at_opening, joined_core, vcpu_at_opening, machine_core_count, domain_at_opening}
 use Rattle.sched_model.specs.CheckedMachine.{IsChecked, IsCheckedPool, IsCheckedDomain, IsCheckedScript, IsCheckedStall, DomParamsPass, most_span}
-use Rattle.sched_model.specs.Actions.{home_of_core}
-use Rattle.sched_model.specs.Machine.{is_enabled, after, next_in_horizon, next_moment, stall_end_of}
-use Rattle.sched_model.specs.Runs.{Reached, action_of, end_of, after_quiet, after_event, IsNextEvent, IsRunFrom, IsRun, run_start, after_entry, after_entries}
+use Rattle.sched_model.specs.Actions.{home_pool_of_core}
+use Rattle.sched_model.specs.Machine.{is_action_enabled, after, next_in_horizon, least_later_moment, later_stall_end}
+use Rattle.sched_model.specs.Runs.{Reached, event_action, named_next_moment, after_quiet, after_event, IsNextEvent, IsRunFrom, IsRun, run_start, after_entry, after_entries}
 use Rattle.sched_laws.specs.EachPlace.{EachPlace}
 use Rattle.sched_laws.specs.StateLaws.{state_after}
 use Rattle.sched_laws.proofs.EachPlace.{EachPlace-empty, by_option, by_cond}
@@ -63,11 +63,11 @@ pub max_low : (a b n : ℕ) → a ≤ n → b ≤ n → max a b ≤ n
 max_low a b n x y = grind (arith, x, y)
 
 -- the end of a stall is near, where the ends of all stalls are
-stall_end_low : (m : Machine) (s : State) (p end : ℕ) → NearEnd s.now end → StateFits m s → NearEnd s.now (stall_end_of m.config.granularity s p end)
+stall_end_low : (m : Machine) (s : State) (p end : ℕ) → NearEnd s.now end → StateFits m s → NearEnd s.now (later_stall_end m.config.granularity s p end)
 stall_end_low m s p end near fits =
     let g : ℕ = m.config.granularity in
     let Q : ℕ → Type 0 = NearEnd s.now in
-    by_option Q (home_of_core s (p / g)) _ _
+    by_option Q (home_pool_of_core s (p / g)) _ _
     (λ none. by_option Q (at_place s.free (p / g)) _ _ (λ none2. near)
     (λ c at. by_option Q (slice_get c.stall_ends (p % g)) _ _ (λ none3. near) (λ old has. max_low old.0 end (s.now + most_span) (each_get (λ (e : Moment). NearEnd s.now e.0) c.stall_ends (p % g) old (fits.free (p / g) c at).near has) near)))
     (λ i is. by_option Q (at_place s.pools i) _ _ (λ none. near)
@@ -75,7 +75,7 @@ stall_end_low m s p end near fits =
     (λ c has. by_option Q (slice_get c.processors (p % g)) _ _ (λ none. near)
     (λ q is_q. max_low q.stall_end.0 end (s.now + most_span) (each_get (NearProcessor s.now) c.processors (p % g) q ((fits.pools i pool at).fits.cores (p / g) c has).stalls is_q) near))))
 
-fits_after : (m : Machine) → IsChecked m → (s : State) (action : Action) → is_enabled m s s.now action ≡ true → StateFits m s → StateFits m (after m s s.now action)
+fits_after : (m : Machine) → IsChecked m → (s : State) (action : Action) → is_action_enabled m s s.now action ≡ true → StateFits m s → StateFits m (after m s s.now action)
 fits_after m checked s action on fits =
     let steps = whole_steps m checked (some_processor m.config.granularity checked.config.granularity) s.now in
     let ends = λ (l : StallLine) (is : slice_get m.work.stalls s.next_stall ≡ Some l). stall_end_low m s l.cpu.0 (s.now + l.span.0)
@@ -106,7 +106,7 @@ pool_later m t next pool past fits = record {
   cores = λ r c at. (
       let here : CoreFits m t c = fits.cores r c at in
       record { cur = here.cur; saving = here.saving; since = (let l = here.since in omega (arith, l, past)); due = λ a e. (let l = here.due a e in omega (arith, l, past)); count = here.count; stalls = processors_later t next c.processors past here.stalls });
-  records = later_fits (length m.config.domains) (core_count m.config) t next pool.scheduler.records past fits.records;
+  records = later_fits (length m.config.domains) (machine_core_count m.config) t next pool.scheduler.records past fits.records;
 }
 
 whole_later : (m : Machine) (t next : ℕ) (pool : Pool) → t ≤ next → WholePool m t pool → WholePool m next pool
@@ -122,12 +122,12 @@ fits_later m s next past within fits = record {
 
 next_within : (m : Machine) (s : State) (next : ℕ) → next_in_horizon m s ≡ Some next → next ≤ m.config.horizon.0
 next_within m s next is =
-    by_option (λ (o : Option ℕ). o ≡ Some next → next ≤ m.config.horizon.0) (next_moment m s s.now) None (λ k. cond (nat_le k m.config.horizon.0) (Some k) None)
+    by_option (λ (o : Option ℕ). o ≡ Some next → next ≤ m.config.horizon.0) (least_later_moment m s s.now) None (λ k. cond (nat_le k m.config.horizon.0) (Some k) None)
     (λ none e. absurd (cc))
     (λ k found. by_cond (λ (o : Option ℕ). o ≡ Some next → next ≤ m.config.horizon.0) (nat_le k m.config.horizon.0) (Some k) None (λ low e. (let same : k ≡ next = cc in subst (λ x. x ≤ m.config.horizon.0) same (is_le k m.config.horizon.0 low))) (λ high e. absurd (cc))) is
 
 fits_event : (m : Machine) → IsChecked m → (e : Event) (action : Option Action) (from : Reached) → IsNextEvent m from.state e action → StateFits m from.state → StateFits m (after_event m e action from).state
-fits_event m checked e None from next fits = fits_quiet (end_of e) next.1
+fits_event m checked e None from next fits = fits_quiet (named_next_moment e) next.1
   where
     fits_quiet : (end : Option ℕ) → next_in_horizon m from.state ≡ end → StateFits m (after_quiet end from).state
     fits_quiet None is = fits
@@ -136,7 +136,7 @@ fits_event m checked e (Some action) from next fits = fits_after m checked from.
 
 fits_from : (m : Machine) → IsChecked m → (from : Reached) (entries : List Entry) → IsRunFrom m from entries → StateFits m from.state → StateFits m (after_entries m from entries).state
 fits_from m checked from [] run fits = fits
-fits_from m checked from (entry ∷ entries) run fits = fits_from m checked (after_entry m from entry) entries run.1 (fits_event m checked entry.event (action_of entry.event) from run.0.event fits)
+fits_from m checked from (entry ∷ entries) run fits = fits_from m checked (after_entry m from entry) entries run.1 (fits_event m checked entry.event (event_action entry.event) from run.0.event fits)
 
 -- the opening
 pub params_pass : (kind : SchedKind) (params : DomParams) → DomParamsPass kind params → ParamsInRange params
@@ -147,7 +147,7 @@ params_pass kind dom_params.Null passed = tt
 params_pass kind params passed = absurd passed
 
 module _ (m : Machine) (checked : IsChecked m) where
-  joining_fits : (d : ℕ) (joining : DomConfig) → slice_get m.config.domains d ≡ Some joining → DomFits m 0 d (fresh_domain joining)
+  joining_fits : (d : ℕ) (joining : DomConfig) → slice_get m.config.domains d ≡ Some joining → DomFits m 0 d (domain_at_opening joining)
   joining_fits d joining at =
       let domain = each_get (IsCheckedDomain m.config) m.config.domains d joining (recursion_from_All (IsCheckedDomain m.config) m.config.domains checked.config.domains) at in
       record {
@@ -157,12 +157,12 @@ module _ (m : Machine) (checked : IsChecked m) where
         vcpus = λ n y script has guest. fresh_at joining.guests (recursion_from_All IsCheckedScript joining.guests domain.scripts) n y script has guest;
       }
     where
-      fresh_at : (guests : List (List Span)) → AllByRecursion IsCheckedScript guests → (n : ℕ) (y : Vcpu) (script : List Span) → slice_get (map fresh_vcpu guests) n ≡ Some y → slice_get guests n ≡ Some script → VcpuFits 0 script y
+      fresh_at : (guests : List (List Span)) → AllByRecursion IsCheckedScript guests → (n : ℕ) (y : Vcpu) (script : List Span) → slice_get (map vcpu_at_opening guests) n ≡ Some y → slice_get guests n ≡ Some script → VcpuFits 0 script y
       fresh_at [] each n y script has guest = absurd (cc)
       fresh_at (x ∷ guests) each zero y script has guest = (
           let same : x ≡ script = cc in
-          let fresh : ◌≡◌ {A = Vcpu} (fresh_vcpu x) y = cc in
-          subst (VcpuFits 0 script) (ap fresh_vcpu (sym same) ∙ fresh) (vcpu_fresh script (subst IsCheckedScript same each.0)))
+          let fresh : ◌≡◌ {A = Vcpu} (vcpu_at_opening x) y = cc in
+          subst (VcpuFits 0 script) (ap vcpu_at_opening (sym same) ∙ fresh) (vcpu_fresh script (subst IsCheckedScript same each.0)))
       fresh_at (x ∷ guests) each (suc n) y script has guest = fresh_at guests each.1 n y script has guest
 
   opened_ends : (g : ℕ) → EndsFit m 0 (replicate m.config.granularity (moment 0))
@@ -172,24 +172,24 @@ module _ (m : Machine) (checked : IsChecked m) where
       near zero = tt
       near (suc n) = (omega arith, near n)
 
-  opening_pool_fits : (i : ℕ) (p : PoolConfig) → slice_get m.config.pools i ≡ Some p → PoolFits m 0 (opening_pool m.config i p)
+  opening_pool_fits : (i : ℕ) (p : PoolConfig) → slice_get m.config.pools i ≡ Some p → PoolFits m 0 (pool_at_opening m.config i p)
   opening_pool_fits i p is =
       let pool = each_get (IsCheckedPool m.config) m.config.pools i p (recursion_from_All (IsCheckedPool m.config) m.config.pools checked.config.pools) is in
       opened_keeps m checked i p is (PoolFits m 0)
-      (λ d joining pool at domain passed. r_with_domain m checked 0 d (fresh_domain joining) joining.params pool (params_pass p.kind joining.params passed) (joining_fits d joining at))
+      (λ d joining pool at domain passed. r_with_domain m checked 0 d (domain_at_opening joining) joining.params pool (params_pass p.kind joining.params passed) (joining_fits d joining at))
       (λ d n cores pool. r_set_params m checked 0 (changes.Pin (domain_number d) (Some n) cores) pool tt) _
       (record {
         domain_places = length-replicate (length m.config.domains) None;
-        core_places = length_map_numbers _ 0 (core_count m.config);
+        core_places = length_map_numbers _ 0 (machine_core_count m.config);
         affinity_places = length-replicate (length m.config.domains) None;
         queue = tt;
         domains = λ d x at. absurd (EachPlace-empty {X = Domain} (λ y. ⊥) (length m.config.domains) d x at);
         cores = λ r c at. (
-            let e = read_map (λ r2. cond (has_core p.cores r2) (Some (fresh_core (replicate m.config.granularity (moment 0)))) None) 0 (core_count m.config) r c at in
-            by_cond (λ (o : Option Resource). o ≡ Some c → CoreFits m 0 c) (has_core p.cores (0 + r)) (Some (fresh_core (replicate m.config.granularity (moment 0)))) None
-            (λ yes_ h. (let f : ◌≡◌ {A = Resource} (fresh_core (replicate m.config.granularity (moment 0))) c = cc in subst (CoreFits m 0) f (fresh_core_fits m checked 0 (replicate m.config.granularity (moment 0)) (opened_ends 0))))
+            let e = read_map (λ r2. cond (has_core_bit p.cores r2) (Some (joined_core (replicate m.config.granularity (moment 0)))) None) 0 (machine_core_count m.config) r c at in
+            by_cond (λ (o : Option Resource). o ≡ Some c → CoreFits m 0 c) (has_core_bit p.cores (0 + r)) (Some (joined_core (replicate m.config.granularity (moment 0)))) None
+            (λ yes_ h. (let f : ◌≡◌ {A = Resource} (joined_core (replicate m.config.granularity (moment 0))) c = cc in subst (CoreFits m 0) f (fresh_core_fits m checked 0 (replicate m.config.granularity (moment 0)) (opened_ends 0))))
             (λ no_ h. absurd (cc)) e);
-        records = opened_fits m.config (length m.config.domains) (core_count m.config) p.kind p.params pool.params;
+        records = opened_fits m.config (length m.config.domains) (machine_core_count m.config) p.kind p.params pool.params;
       })
 
   -- what runs at the opening, and the budgets
@@ -199,12 +199,12 @@ module _ (m : Machine) (checked : IsChecked m) where
   abbrev Credits : Pool → Type 0
   Credits pool = CreditFits m 0 pool.scheduler.records pool.resources
 
-  opening_pool_credit : (i : ℕ) (p : PoolConfig) → slice_get m.config.pools i ≡ Some p → Credits (opening_pool m.config i p)
+  opening_pool_credit : (i : ℕ) (p : PoolConfig) → slice_get m.config.pools i ≡ Some p → Credits (pool_at_opening m.config i p)
   opening_pool_credit i p is =
       opened_keeps m checked i p is Credits
-      (λ d joining pool at domain passed. n_with_domain m some 0 d (fresh_domain joining) joining.params pool (params_pass p.kind joining.params passed) (joining_fits d joining at))
+      (λ d joining pool at domain passed. n_with_domain m some 0 d (domain_at_opening joining) joining.params pool (params_pass p.kind joining.params passed) (joining_fits d joining at))
       (λ d n cores pool. n_set_params m some 0 (changes.Pin (domain_number d) (Some n) cores) pool tt) _
-      (n_fresh m 0 p.params (length m.config.domains) (core_count m.config) _)
+      (n_fresh m 0 p.params (length m.config.domains) (machine_core_count m.config) _)
 
   opening_fits : StateFits m (opening m)
   opening_fits = record {
@@ -215,12 +215,12 @@ module _ (m : Machine) (checked : IsChecked m) where
         let e : 0 + i ≡ i = omega arith in
         record {
           known = kept_opening m (IsKnownPool m.config.granularity) (known_pools m.config.granularity some) i pool at;
-          fits = subst (PoolFits m 0) (sym (subst (λ k. pool ≡ opening_pool m.config k r.0) e r.2)) (opening_pool_fits i r.0 r.1);
-          credit = subst Credits (sym (subst (λ k. pool ≡ opening_pool m.config k r.0) e r.2)) (opening_pool_credit i r.0 r.1);
+          fits = subst (PoolFits m 0) (sym (subst (λ k. pool ≡ pool_at_opening m.config k r.0) e r.2)) (opening_pool_fits i r.0 r.1);
+          credit = subst Credits (sym (subst (λ k. pool ≡ pool_at_opening m.config k r.0) e r.2)) (opening_pool_credit i r.0 r.1);
         });
     free = λ r c at. (
-        let e = read_map (opening_free m.config) 0 (core_count m.config) r c at in
-        by_cond (λ (o : Option FreeCore). o ≡ Some c → EndsFit m 0 c.stall_ends) (list_any (λ pool. has_core pool.cores (0 + r)) m.config.pools) None (Some (record { target = None; stall_ends = replicate m.config.granularity (moment 0) }))
+        let e = read_map (free_core_at_opening m.config) 0 (machine_core_count m.config) r c at in
+        by_cond (λ (o : Option FreeCore). o ≡ Some c → EndsFit m 0 c.stall_ends) (list_any (λ pool. has_core_bit pool.cores (0 + r)) m.config.pools) None (Some (record { target = None; stall_ends = replicate m.config.granularity (moment 0) }))
         (λ is h. absurd (cc)) (λ is h. (let s : ◌≡◌ {A = FreeCore} (record { target = None; stall_ends = replicate m.config.granularity (moment 0) }) c = cc in subst (λ (x : FreeCore). EndsFit m 0 x.stall_ends) s (opened_ends 0))) e);
   }
 

@@ -4,8 +4,8 @@ use Rattle.std.specs.Prelude.{Option, Some, None, unwrap_or, slice_get, min, max
 use Rattle.std.specs.List.{AllByRecursion}
 use Rattle.std.specs.Option.{IfSome}
 use Rattle.std.proofs.lemmas.List.{length-replicate}
-use Rattle.sched_base.specs.Numbers.{moment, span, has_come}
-use Rattle.sched_base.specs.Credit2Numbers.{above_zero, slice}
+use Rattle.sched_base.specs.Numbers.{moment, span, has_moment_come}
+use Rattle.sched_base.specs.Credit2Numbers.{positive_part, slice_length}
 use Rattle.sched_base.specs.declared.Moment.{Moment}
 use Rattle.sched_base.specs.declared.Span.{Span}
 use Rattle.sched_base.specs.declared.UnitId.{UnitId}
@@ -28,11 +28,11 @@ use Rattle.sched_model.specs.declared.state.Records.{Records}
 use Rattle.sched_model.specs.declared.state.Records.TheVariants.{Credit2Pool, RtdsPool, ArincPool, NullPool}
 use Rattle.sched_model.specs.declared.state.Scheduler.{Scheduler}
 use Rattle.sched_model.specs.Places.{at_place, clear_at, same_unit}
-use Rattle.sched_model.specs.Arinc.{Window, window_at, present_window}
-use Rattle.sched_model.specs.EligibleUnits.{Decision, rtds_unit}
+use Rattle.sched_model.specs.Arinc.{Window, frame_window, current_window}
+use Rattle.sched_model.specs.EligibleUnits.{Decision, rtds_unit_at}
 use Rattle.sched_model.specs.CheckedMachine.{IsWithin, most_span, PoolParamsPass}
 use Rattle.sched_model.specs.Policy as policy
-use Rattle.sched_model.specs.Policy.{decision_by, arinc_decision, joined_records, parted_records, changed_records, fresh_records, default_dom_params, default_pool_params, rtds_record}
+use Rattle.sched_model.specs.Policy.{decision_by, arinc_decision, joined_records, parted_records, changed_records, empty_records, standard_dom_params, standard_pool_params, unit_rtds_record}
 use Rattle.sched_model.specs.Credit2 as credit2
 use Rattle.sched_model.specs.Rtds as rtds
 use Rattle.sched_model.specs.NullScheduler as null
@@ -74,31 +74,31 @@ min_left a b c low = grind (arith, low)
 max_low : (l : ℕ) → l ≤ 500000000 → max 10000000 l ≤ 500000000
 max_low l low = grind (arith, low)
 
-slice_low : (credit w : ℤ) (weight most limit : ℕ) → limit ≤ 500000000 → slice credit w weight most limit ≤ 500000000
+slice_low : (credit w : ℤ) (weight most limit : ℕ) → limit ≤ 500000000 → slice_length credit w weight most limit ≤ 500000000
 slice_low credit w weight most limit low = min_low _ (max 10000000 limit) 500000000 (max_low limit low)
 
-slice_of_low : (ask : Ask) (scheduler : Scheduler) (records : Credit2Records) (u : UnitId) → records.limit ≤ 500000 → credit2.slice_of ask scheduler records u ≤ 500000000
+slice_of_low : (ask : Ask) (scheduler : Scheduler) (records : Credit2Records) (u : UnitId) → records.limit ≤ 500000 → credit2.chosen_slice ask scheduler records u ≤ 500000000
 slice_of_low ask scheduler records u low =
     by_option (λ (k : ℕ). k ≤ 500000000) (at_place records.domains u.dom.0) _ _ (λ none. omega arith)
     (λ d is. by_option (λ (k : ℕ). k ≤ 500000000) (slice_get d.units u.n) _ _ (λ none. omega arith)
     (λ x is2.
-    let long : ℕ = slice x.credit (credit2.best_other ask scheduler records u) d.weight (credit2.max_weight records) (records.limit * 1000) in
-    let few : long ≤ 500000000 = slice_low x.credit (credit2.best_other ask scheduler records u) d.weight (credit2.max_weight records) (records.limit * 1000) (omega (arith, low)) in
-    by_cond (λ (k : ℕ). k ≤ 500000000) (nat_is_zero d.cap) long (min long (above_zero x.held)) (λ none. few) (λ some. min_left long (above_zero x.held) 500000000 few)))
+    let long : ℕ = slice_length x.credit (credit2.best_other_credit ask scheduler records u) d.weight (credit2.most_weight records) (records.limit * 1000) in
+    let few : long ≤ 500000000 = slice_low x.credit (credit2.best_other_credit ask scheduler records u) d.weight (credit2.most_weight records) (records.limit * 1000) (omega (arith, low)) in
+    by_cond (λ (k : ℕ). k ≤ 500000000) (nat_is_zero d.cap) long (min long (positive_part x.held)) (λ none. few) (λ some. min_left long (positive_part x.held) 500000000 few)))
   where
     nat_is_zero : ℕ → Bool
     nat_is_zero k = k == 0
 
-c2_decides : (n cores : ℕ) (ask : Ask) (scheduler : Scheduler) (records : Credit2Records) (chosen : Option UnitId) → Credit2Fits n ask.at.0 records → DecisionFits n cores ask.at.0 (credit2.decide ask scheduler records chosen)
+c2_decides : (n cores : ℕ) (ask : Ask) (scheduler : Scheduler) (records : Credit2Records) (chosen : Option UnitId) → Credit2Fits n ask.at.0 records → DecisionFits n cores ask.at.0 (credit2.credit2_decision_for ask scheduler records chosen)
 c2_decides n cores ask scheduler records None fits = record { records = c_switch_off n ask.at.0 ask.cur records fits; due = λ a is. absurd (cc) }
 c2_decides n cores ask scheduler records (Some u) fits =
-    let k : ℕ = credit2.resets_for ask.at.0 u records in
-    let taken : Credit2Records = credit2.change_domain u.dom.0 (credit2.take_budget u.n) (credit2.reset ask.at.0 k records) in
-    let good : Credit2Fits n ask.at.0 taken = c_take n ask.at.0 u (credit2.reset ask.at.0 k records) (c_reset n ask.at.0 k records fits) in
+    let k : ℕ = credit2.reset_count ask.at.0 u records in
+    let taken : Credit2Records = credit2.change_domain u.dom.0 (credit2.domain_after_take u.n) (credit2.reset_records ask.at.0 k records) in
+    let good : Credit2Fits n ask.at.0 taken = c_take n ask.at.0 u (credit2.reset_records ask.at.0 k records) (c_reset n ask.at.0 k records fits) in
     record {
-      records = c_set_running n ask.at.0 u (credit2.switch_off ask.cur taken) (c_switch_off n ask.at.0 ask.cur taken good);
+      records = c_set_running n ask.at.0 u (credit2.off_records ask.cur taken) (c_switch_off n ask.at.0 ask.cur taken good);
       due = λ a is. (
-          let e : ◌≡◌ {A = Moment} (moment (ask.at.0 + credit2.slice_of ask scheduler taken u)) a = cc in
+          let e : ◌≡◌ {A = Moment} (moment (ask.at.0 + credit2.chosen_slice ask scheduler taken u)) a = cc in
           let l = slice_of_low ask scheduler taken u good.limit in
           subst (λ (b : Moment). b.0 ≤ ask.at.0 + most_span) e (omega (arith, l)));
     }
@@ -109,11 +109,11 @@ rtds_decision n cores t d domains is good = record {
   due = good.1;
 }
 
-rt_pool : (ask : Ask) (domains : List (Option (List RtdsUnit))) (chosen : Option UnitId) → (ds : List (Option (List RtdsUnit))) × ((rtds.decide ask domains chosen).records ≡ RtdsPool ds)
-rt_pool ask domains None = (rtds.switch_off ask.cur domains, refl)
-rt_pool ask domains (Some u) = (rtds.set_running (Some ask.at.0) u (rtds.switch_off ask.cur domains), refl)
+rt_pool : (ask : Ask) (domains : List (Option (List RtdsUnit))) (chosen : Option UnitId) → (ds : List (Option (List RtdsUnit))) × ((rtds.rtds_decision_for ask domains chosen).records ≡ RtdsPool ds)
+rt_pool ask domains None = (rtds.off_domains ask.cur domains, refl)
+rt_pool ask domains (Some u) = (rtds.running_domains (Some ask.at.0) u (rtds.off_domains ask.cur domains), refl)
 
-window_near : (t : ℕ) (records : ArincRecords) (window : Window) → present_window records t ≡ Some window → ArincFits t records → window.until ≤ t + most_span
+window_near : (t : ℕ) (records : ArincRecords) (window : Window) → current_window records t ≡ Some window → ArincFits t records → window.until ≤ t + most_span
 window_near t records window is fits =
     by_option (λ (o : Option Window). o ≡ Some window → window.until ≤ t + most_span) records.frame _ _ (λ none e. absurd (cc))
     (λ frame has e.
@@ -121,7 +121,7 @@ window_near t records window is fits =
     let major = (fits.major frame has).most in
     let sum = fits.fits frame has in
     let low = until_last (t - ahead) ahead (t - ahead + frame.major.0) frame.entries (omega (arith, sum)) in
-    let same : window_at records.installed frame t ≡ window = cc in
+    let same : frame_window records.installed frame t ≡ window = cc in
     subst (λ (w : Window). w.until ≤ t + most_span) same (omega (arith, low, major))) is
 
 window_decides : (n cores : ℕ) (ask : Ask) (scheduler : Scheduler) (records : ArincRecords) → scheduler.records ≡ ArincPool records → ArincFits ask.at.0 records → (window : Option Window) → ((w : Window) → window ≡ Some w → w.until ≤ ask.at.0 + most_span)
@@ -132,42 +132,42 @@ window_decides n cores ask scheduler records is fits (Some w) near = record {
   due = λ a e. (let f : ◌≡◌ {A = Moment} (moment w.until) a = cc in subst (λ (b : Moment). b.0 ≤ ask.at.0 + most_span) f (near w refl));
 }
 
-null_decides : (n cores core t : ℕ) (kept : List (Option UnitId)) (chosen : Option UnitId) → length kept ≡ cores → DecisionFits n cores t (null.decide core kept chosen)
+null_decides : (n cores core t : ℕ) (kept : List (Option UnitId)) (chosen : Option UnitId) → length kept ≡ cores → DecisionFits n cores t (null.null_decision_for core kept chosen)
 null_decides n cores core t kept None whole = record { records = whole; due = λ a is. absurd (cc) }
 null_decides n cores core t kept (Some u) whole = record { records = length_set core (Some u) (null.kept_without (same_unit u) kept) ∙ length_released (same_unit u) kept ∙ whole; due = λ a is. absurd (cc) }
 
 -- a decision keeps the records in range, and its due is near
 pub decision_fits : (n cores : ℕ) (records : Records) (ask : Ask) (scheduler : Scheduler) → scheduler.records ≡ records → RecordsFit n cores ask.at.0 records → DecisionFits n cores ask.at.0 (decision_by records ask scheduler)
-decision_fits n cores (Credit2Pool records) ask scheduler is fits = c2_decides n cores ask scheduler (credit2.burn_cur ask.cur ask.at.0 records) (credit2.choice ask scheduler (credit2.burn_cur ask.cur ask.at.0 records)) (c_burn_cur n ask.at.0 ask.cur records fits)
+decision_fits n cores (Credit2Pool records) ask scheduler is fits = c2_decides n cores ask scheduler (credit2.own_burned_records ask.cur ask.at.0 records) (credit2.credit2_choice ask scheduler (credit2.own_burned_records ask.cur ask.at.0 records)) (c_burn_cur n ask.at.0 ask.cur records fits)
 decision_fits n cores (RtdsPool domains) ask scheduler is fits =
-    let burned : List (Option (List RtdsUnit)) = rtds.burn_cur ask.cur ask.at.0 domains in
-    let pool = rt_pool ask burned (rtds.choice ask scheduler burned) in
+    let burned : List (Option (List RtdsUnit)) = rtds.own_burned_domains ask.cur ask.at.0 domains in
+    let pool = rt_pool ask burned (rtds.rtds_choice ask scheduler burned) in
     rtds_decision n cores ask.at.0 (rtds.rtds_decision ask scheduler domains) pool.0 pool.1 (rtds_chooses n ask scheduler domains fits.places fits.units)
 decision_fits n cores (ArincPool records) ask scheduler is fits =
-    window_decides n cores ask scheduler records is fits (cond ask.leaving None (present_window records ask.at.0))
-    (λ w e. by_cond (λ (o : Option Window). o ≡ Some w → w.until ≤ ask.at.0 + most_span) ask.leaving None (present_window records ask.at.0) (λ leaves f. absurd (cc)) (λ stays f. window_near ask.at.0 records w f fits) e)
+    window_decides n cores ask scheduler records is fits (cond ask.leaving None (current_window records ask.at.0))
+    (λ w e. by_cond (λ (o : Option Window). o ≡ Some w → w.until ≤ ask.at.0 + most_span) ask.leaving None (current_window records ask.at.0) (λ leaves f. absurd (cc)) (λ stays f. window_near ask.at.0 records w f fits) e)
 decision_fits n cores (NullPool kept) ask scheduler is fits =
-    by_cond (DecisionFits n cores ask.at.0) ask.leaving (null.decide ask.core.0 (clear_at ask.core.0 kept) None) (null.decide ask.core.0 kept (null.choice ask scheduler kept))
+    by_cond (DecisionFits n cores ask.at.0) ask.leaving (null.null_decision_for ask.core.0 (clear_at ask.core.0 kept) None) (null.null_decision_for ask.core.0 kept (null.null_choice ask scheduler kept))
     (λ leaves. null_decides n cores ask.core.0 ask.at.0 (clear_at ask.core.0 kept) None (length_set ask.core.0 None kept ∙ fits))
-    (λ stays. null_decides n cores ask.core.0 ask.at.0 kept (null.choice ask scheduler kept) fits)
+    (λ stays. null_decides n cores ask.core.0 ask.at.0 kept (null.null_choice ask scheduler kept) fits)
 
-pub replenish_fits : (n cores t : ℕ) (records : Records) (u : UnitId) → policy.replenish_due records t u ≡ true → RecordsFit n cores t records → RecordsFit n cores t (policy.replenish records t u)
+pub replenish_fits : (n cores t : ℕ) (records : Records) (u : UnitId) → policy.is_replenish_due records t u ≡ true → RecordsFit n cores t records → RecordsFit n cores t (policy.records_after_replenish records t u)
 replenish_fits n cores t (RtdsPool domains) u due fits = record {
   places = length_set u.dom.0 _ domains ∙ fits.places;
-  units = fit_change_unit t u (rtds.replenish t) domains (λ x is here. rtds_replenished t x (is_due x is) here) fits.units;
+  units = fit_change_unit t u (rtds.unit_after_replenish t) domains (λ x is here. rtds_replenished t x (is_due x is) here) fits.units;
 }
   where
-    is_due : (x : RtdsUnit) → rtds_unit domains u ≡ Some x → x.deadline ≤ t
-    is_due x is = (let e : nat_le x.deadline t ≡ true = rw (policy.replenish_due, is) at due in grind (arith, e))
+    is_due : (x : RtdsUnit) → rtds_unit_at domains u ≡ Some x → x.deadline ≤ t
+    is_due x is = (let e : nat_le x.deadline t ≡ true = rw (policy.is_replenish_due, is) at due in grind (arith, e))
 replenish_fits n cores t any u due fits = absurd (cc)
 
-pub refill_fits : (n cores t : ℕ) (records : Records) (d : ℕ) → has_come t (policy.next_refill records d) ≡ true → RecordsFit n cores t records → RecordsFit n cores t (policy.refill records t d)
+pub refill_fits : (n cores t : ℕ) (records : Records) (d : ℕ) → has_moment_come t (policy.next_refill_moment records d) ≡ true → RecordsFit n cores t records → RecordsFit n cores t (policy.records_after_refill records t d)
 refill_fits n cores t (Credit2Pool records) d come fits = c_refilled n t d records (λ x r at is. is_past x r at is) fits
   where
     is_past : (x : Credit2Domain) (r : ℕ) → at_place records.domains d ≡ Some x → x.refill ≡ Some r → r ≤ t
     is_past x r at is =
-        let e : has_come t (option_map moment x.refill) ≡ true = subst (λ (o : Option Credit2Domain). has_come t (elim o as (λ _. Option Moment) [ None ↦ None | Some y ↦ option_map moment y.refill ]) ≡ true) at come in
-        let f : nat_le r t ≡ true = subst (λ (o : Option ℕ). has_come t (option_map moment o) ≡ true) is e in
+        let e : has_moment_come t (option_map moment x.refill) ≡ true = subst (λ (o : Option Credit2Domain). has_moment_come t (elim o as (λ _. Option Moment) [ None ↦ None | Some y ↦ option_map moment y.refill ]) ≡ true) at come in
+        let f : nat_le r t ≡ true = subst (λ (o : Option ℕ). has_moment_come t (option_map moment o) ≡ true) is e in
         grind (arith, f)
 refill_fits n cores t records d come fits = fits
 
@@ -184,17 +184,17 @@ ParamsInRange (dom_params.Rtds period budget extra) = IsWithin 10000 10000000000
 ParamsInRange dom_params.Arinc653 = Unit {0}
 ParamsInRange dom_params.Null = Unit {0}
 
-pub default_fits : (records : Records) → ParamsInRange (default_dom_params records)
+pub default_fits : (records : Records) → ParamsInRange (standard_dom_params records)
 default_fits (Credit2Pool records) = (record { least = omega arith; most = omega arith }, omega arith)
 default_fits (RtdsPool domains) = (record { least = omega arith; most = omega arith }, record { least = omega arith; most = omega arith })
 default_fits (ArincPool records) = tt
 default_fits (NullPool kept) = tt
 
 pub joined_fits : (n cores t : ℕ) (records : Records) (params : DomParams) (d count : ℕ) → ParamsInRange params → RecordsFit n cores t records → RecordsFit n cores t (joined_records records params d count t)
-joined_fits n cores t (Credit2Pool records) (dom_params.Credit2 weight percent) d count good fits = record { places = length_set d _ records.domains ∙ fits.places; limit = fits.limit; domains = EachPlace-put_at (Credit2DomainFits t) d (credit2.fresh_domain weight percent count t) records.domains fits.domains (c_fresh n t weight percent count good.0 good.1) }
+joined_fits n cores t (Credit2Pool records) (dom_params.Credit2 weight percent) d count good fits = record { places = length_set d _ records.domains ∙ fits.places; limit = fits.limit; domains = EachPlace-put_at (Credit2DomainFits t) d (credit2.fresh_credit2_domain weight percent count t) records.domains fits.domains (c_fresh n t weight percent count good.0 good.1) }
 joined_fits n cores t (RtdsPool domains) (dom_params.Rtds period budget extra) d count good fits = record {
   places = length_set d _ domains ∙ fits.places;
-  units = EachPlace-put_at (AllByRecursion (RtdsFits t)) d (rtds.fresh_units period.0 budget.0 extra count t) domains fits.units (rtds_fresh t period.0 budget.0 count extra good.0 good.1);
+  units = EachPlace-put_at (AllByRecursion (RtdsFits t)) d (rtds.fresh_rtds_units period.0 budget.0 extra count t) domains fits.units (rtds_fresh t period.0 budget.0 count extra good.0 good.1);
 }
 joined_fits n cores t records params d count good fits = fits
 
@@ -211,7 +211,7 @@ changed_fits n cores t (NullPool kept) (changes.Frame frame) good fits = fits
 changed_fits n cores t records change good fits = fits
 
 -- new parameters of one RTDS unit; what is not given stays
-pub unit_fits : (n cores t : ℕ) (records : Records) (u : UnitId) (x : RtdsUnit) (period budget : Option Span) (extra : Bool) → rtds_record records u ≡ Some x
+pub unit_fits : (n cores t : ℕ) (records : Records) (u : UnitId) (x : RtdsUnit) (period budget : Option Span) (extra : Bool) → unit_rtds_record records u ≡ Some x
     → IfSome period (λ (p : Span). IsWithin 10000 1000000000000 p.0) → IfSome budget (λ (b : Span). IsWithin 10000 1000000000000 b.0) → RecordsFit n cores t records
     → RecordsFit n cores t (changed_records records (changes.«Unit» u (unwrap_or period (span x.next_period)) (unwrap_or budget (span x.next_budget)) extra) t)
 unit_fits n cores t (RtdsPool domains) u x period budget extra is periods budgets fits =
@@ -239,13 +239,13 @@ later_fits n cores t next (NullPool kept) past fits = fits
 no_frame : (t : ℕ) → ArincFits t (record { frame = None; installed = 0 })
 no_frame t = record { installed = omega arith; fits = λ frame is. absurd (cc); major = λ frame is. absurd (cc) }
 
-pub fresh_fits : (n cores t : ℕ) (kind : SchedKind) → RecordsFit n cores t (fresh_records (default_pool_params kind) n cores)
+pub fresh_fits : (n cores t : ℕ) (kind : SchedKind) → RecordsFit n cores t (empty_records (standard_pool_params kind) n cores)
 fresh_fits n cores t kinds.Credit2 = record { places = length-replicate n None; limit = omega arith; domains = EachPlace-empty (Credit2DomainFits t) n }
 fresh_fits n cores t kinds.Rtds = record { places = length-replicate n None; units = EachPlace-empty (AllByRecursion (RtdsFits t)) n }
 fresh_fits n cores t kinds.Arinc653 = no_frame t
 fresh_fits n cores t kinds.Null = length-replicate cores None
 
-pub opened_fits : (config : Config) (n cores : ℕ) (kind : SchedKind) (params : PoolParams) → PoolParamsPass config kind params → RecordsFit n cores 0 (fresh_records params n cores)
+pub opened_fits : (config : Config) (n cores : ℕ) (kind : SchedKind) (params : PoolParams) → PoolParamsPass config kind params → RecordsFit n cores 0 (empty_records params n cores)
 opened_fits config n cores kinds.Credit2 (pool_params.Credit2 limit) passed = record { places = length-replicate n None; limit = of_rate passed; domains = EachPlace-empty (Credit2DomainFits 0) n }
   where
     of_rate : ((limit ≡ 0) ⊎ IsWithin 100 500000 limit) → limit ≤ 500000

@@ -8,7 +8,7 @@ use Rattle.sched_model.specs.declared.state.Records.{Records}
 use Rattle.sched_model.specs.declared.state.Records.TheVariants.{Credit2Pool, RtdsPool, ArincPool, NullPool}
 use Rattle.sched_model.specs.declared.state.Pool.{Pool}
 use Rattle.sched_model.specs.Places.{at_place}
-use Rattle.sched_model.specs.Pool.{unit_count}
+use Rattle.sched_model.specs.Pool.{domain_unit_count}
 use Rattle.sched_model.specs.Runs.{IsRun}
 use Rattle.sched_model.specs.CheckedMachine.{IsChecked}
 use Rattle.sched_laws.specs.EachPlace.{EachPlace}
@@ -37,9 +37,9 @@ keeps_in_runs m checked entries run =
     entries run (record { apart = apart_opening m checked; pools = opening_keeps m checked })
 
 -- what is kept, in the words of the law
-recorded : (g : ℕ) (domains : List (Option Domain)) (records : Records) → CountsFit g domains (shape records) → (d : ℕ) (x : Domain) → at_place domains d ≡ Some x → IsRecorded records d (unit_count g x)
-recorded g domains (Credit2Pool records) fit d x at = (let r = read_measured units_in d (unit_count g x) records.domains (fit.counts_are d x at) in record { domain = r.0; at = r.1; units = r.2 })
-recorded g domains (RtdsPool units) fit d x at = (let r = read_measured length d (unit_count g x) units (fit.counts_are d x at) in record { records = r.0; at = r.1; units = r.2 })
+recorded : (g : ℕ) (domains : List (Option Domain)) (records : Records) → CountsFit g domains (shape records) → (d : ℕ) (x : Domain) → at_place domains d ≡ Some x → IsRecorded records d (domain_unit_count g x)
+recorded g domains (Credit2Pool records) fit d x at = (let r = read_measured units_in d (domain_unit_count g x) records.domains (fit.counts_are d x at) in record { domain = r.0; at = r.1; units = r.2 })
+recorded g domains (RtdsPool units) fit d x at = (let r = read_measured length d (domain_unit_count g x) units (fit.counts_are d x at) in record { records = r.0; at = r.1; units = r.2 })
 recorded g domains (ArincPool records) fit d x at = tt
 recorded g domains (NullPool kept) fit d x at = tt
 

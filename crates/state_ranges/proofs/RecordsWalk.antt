@@ -17,14 +17,14 @@ use Rattle.sched_model.specs.declared.state.RtdsUnit.{RtdsUnit}
 use Rattle.sched_model.specs.declared.state.Records.{Records}
 use Rattle.sched_model.specs.declared.state.Records.TheVariants.{Credit2Pool}
 use Rattle.sched_model.specs.declared.state.Pool.{Pool}
-use Rattle.sched_model.specs.Commands.{set_rtds_unit}
-use Rattle.sched_model.specs.Opening.{core_count}
+use Rattle.sched_model.specs.Commands.{pool_with_rtds_unit}
+use Rattle.sched_model.specs.Opening.{machine_core_count}
 use Rattle.sched_model.specs.Places.{at_place, put_at, numbers_from}
-use Rattle.sched_model.specs.State.{is_runnable}
+use Rattle.sched_model.specs.State.{may_unit_run}
 use Rattle.sched_model.specs.Policy as policy
-use Rattle.sched_model.specs.Policy.{rtds_record, default_dom_params, default_pool_params, changed_records, fresh_records, kind_of}
+use Rattle.sched_model.specs.Policy.{unit_rtds_record, standard_dom_params, standard_pool_params, changed_records, empty_records, records_kind}
 use Rattle.sched_model.specs.Pool as pools
-use Rattle.sched_model.specs.Pool.{change_domain, ask_of, set_params, unit_count, with_domain}
+use Rattle.sched_model.specs.Pool.{change_domain, core_ask, changed_pool, domain_unit_count, pool_with_domain}
 use Rattle.sched_laws.proofs.EachPlace.{EachPlace-empty, is_empty, by_option, by_cond}
 use Rattle.sched_laws.proofs.Steps.{IsKeptAt}
 use Rattle.sched_laws.proofs.Events.{Anyway, KeptByCommands, KeptByParts, commands_of, kept_by_parts, kept_pause, kept_unpause, kept_marked}
@@ -39,23 +39,23 @@ abbrev pub AnyEnds : List Moment → Type 0
 AnyEnds ends = Unit {0}
 
 abbrev pub SomeUnit : ℕ → ℕ → Domain → Type 0
-SomeUnit g d x = 1 ≤ unit_count g x
+SomeUnit g d x = 1 ≤ domain_unit_count g x
 
 -- what the queue gains changes neither domains nor records
-pub queued : (P : List (Option Domain) → Records → Type 0) (g d : ℕ) (units : List ℕ) (pool : Pool) → P pool.domains pool.scheduler.records → P (pools.queue_units g d units pool).domains (pools.queue_units g d units pool).scheduler.records
+pub queued : (P : List (Option Domain) → Records → Type 0) (g d : ℕ) (units : List ℕ) (pool : Pool) → P pool.domains pool.scheduler.records → P (pools.pool_with_queued_units g d units pool).domains (pools.pool_with_queued_units g d units pool).scheduler.records
 queued P g d [] pool here = here
 queued P g d (n ∷ ns) pool here =
     let u : UnitId = record { dom = domain_number d; n = n } in
-    queued P g d ns (pools.queue_if_off g u pool) (by_cond (λ (p : Pool). P p.domains p.scheduler.records) (is_runnable g pool u && pools.is_off pool u) (pools.queue_unit u pool) pool (λ is. here) (λ is. here))
+    queued P g d ns (pools.pool_with_queued_if_off g u pool) (by_cond (λ (p : Pool). P p.domains p.scheduler.records) (may_unit_run g pool u && pools.is_unit_off pool u) (pools.queue_unit u pool) pool (λ is. here) (λ is. here))
 
 -- the parameters of a domain that moves to the pool
-pub default_matches : (records : Records) → Matches records (default_dom_params records)
+pub default_matches : (records : Records) → Matches records (standard_dom_params records)
 default_matches (Credit2Pool records) = tt
 default_matches records = tt
 
 -- a pool without domains
-pub keeps_empty : (g n cores : ℕ) (params : PoolParams) → Keeps g (replicate n None) (shape (fresh_records params n cores))
-keeps_empty g n cores params = record { some_unit = EachPlace-empty (λ (x : Domain). 1 ≤ unit_count g x) n; fit = none params }
+pub keeps_empty : (g n cores : ℕ) (params : PoolParams) → Keeps g (replicate n None) (shape (empty_records params n cores))
+keeps_empty g n cores params = record { some_unit = EachPlace-empty (λ (x : Domain). 1 ≤ domain_unit_count g x) n; fit = none params }
   where
     same_length : {X : Type 0} (measure : X → ℕ) → length (measures_of measure (replicate n None)) ≡ length {A = Option Domain} (replicate n None)
     same_length measure = length_measured measure (replicate n None) ∙ length-replicate n None ∙ sym (length-replicate n None)
@@ -63,7 +63,7 @@ keeps_empty g n cores params = record { some_unit = EachPlace-empty (λ (x : Dom
     no_counts : {X : Type 0} (measure : X → ℕ) (d : ℕ) → at_place (measures_of measure (replicate n None)) d ≡ None
     no_counts {X} measure d = is_empty (at_place (measures_of measure (replicate n None)) d) (λ k at. (let r = read_measured measure d k (replicate n None) at in EachPlace-empty {X = X} (λ y. ⊥) n d r.0 r.1))
 
-    none : (params : PoolParams) → CountsFit g (replicate n None) (shape (fresh_records params n cores))
+    none : (params : PoolParams) → CountsFit g (replicate n None) (shape (empty_records params n cores))
     none (pool_params.Credit2 limit) = record { places = same_length units_in; counts_are = λ d x at. absurd (EachPlace-empty {X = Domain} (λ y. ⊥) n d x at); others = λ d no. no_counts units_in d }
     none pool_params.Rtds = record { places = same_length {X = List RtdsUnit} length; counts_are = λ d x at. absurd (EachPlace-empty {X = Domain} (λ y. ⊥) n d x at); others = λ d no. no_counts {X = List RtdsUnit} length d }
     none (pool_params.Arinc653 frame) = tt
@@ -82,7 +82,7 @@ module _ (g : ℕ) where
     domains = λ d f pool count moving. k_change_domain d f pool count;
     queues = λ u pool runs keeps. keeps;
     dequeues = λ d pool keeps. keeps;
-    decides = λ r c pool at on. keeps_shape g pool.domains pool.scheduler.records _ (shape_decision pool.scheduler.records (ask_of g t pool r c) pool.scheduler refl);
+    decides = λ r c pool at on. keeps_shape g pool.domains pool.scheduler.records _ (shape_decision pool.scheduler.records (core_ask g t pool r c) pool.scheduler refl);
     saves = λ r c u pool at is on keeps. keeps;
     replenishes = λ u pool on. keeps_shape g pool.domains pool.scheduler.records _ (shape_replenished pool.scheduler.records t u);
     dues = λ r u x old pool on is keeps. keeps;
@@ -92,21 +92,21 @@ module _ (g : ℕ) where
   k_commands : KeptByCommands g K
   k_commands = commands_of (k_parts 0)
 
-  pub k_set_params : (change : ParamChange) (t : ℕ) (pool : Pool) → K pool → K (set_params change t pool)
+  pub k_set_params : (change : ParamChange) (t : ℕ) (pool : Pool) → K pool → K (changed_pool change t pool)
   k_set_params change t pool keeps =
-      kept_marked k_commands t (λ d next here. here) change (record pool { scheduler = policy.set_params change t pool.scheduler }) (keeps_shape g pool.domains pool.scheduler.records (changed_records pool.scheduler.records change t) (shape_changed pool.scheduler.records change t) keeps)
+      kept_marked k_commands t (λ d next here. here) change (record pool { scheduler = policy.changed_scheduler change t pool.scheduler }) (keeps_shape g pool.domains pool.scheduler.records (changed_records pool.scheduler.records change t) (shape_changed pool.scheduler.records change t) keeps)
 
-  k_set_rtds_unit : (t : ℕ) (period budget : Option Span) (extra : Option Bool) (u : UnitId) (pool : Pool) → K pool → K (set_rtds_unit t period budget extra u pool)
+  k_set_rtds_unit : (t : ℕ) (period budget : Option Span) (extra : Option Bool) (u : UnitId) (pool : Pool) → K pool → K (pool_with_rtds_unit t period budget extra u pool)
   k_set_rtds_unit t period budget extra u pool keeps =
-      by_option K (rtds_record pool.scheduler.records u) _ _ (λ is. keeps)
+      by_option K (unit_rtds_record pool.scheduler.records u) _ _ (λ is. keeps)
       (λ x is. k_set_params (changes.«Unit» u (unwrap_or period (span x.next_period)) (unwrap_or budget (span x.next_budget)) (unwrap_or extra x.next_extra)) t pool keeps)
 
   -- a domain joins
-  pub k_with_domain : (t d : ℕ) (domain : Domain) (params : DomParams) (pool : Pool) → Matches pool.scheduler.records params → 1 ≤ unit_count g domain → K pool
-      → K (with_domain g t d domain params pool) × (kind_of (with_domain g t d domain params pool).scheduler.records ≡ kind_of pool.scheduler.records)
+  pub k_with_domain : (t d : ℕ) (domain : Domain) (params : DomParams) (pool : Pool) → Matches pool.scheduler.records params → 1 ≤ domain_unit_count g domain → K pool
+      → K (pool_with_domain g t d domain params pool) × (records_kind (pool_with_domain g t d domain params pool).scheduler.records ≡ records_kind pool.scheduler.records)
   k_with_domain t d domain params pool good some keeps =
-      queued (λ domains records. Keeps g domains (shape records) × (kind_of records ≡ kind_of pool.scheduler.records)) g d (numbers_from 0 (unit_count g domain))
-      (record pool { domains = put_at d domain pool.domains; scheduler = policy.join d (unit_count g domain) params t pool.scheduler })
+      queued (λ domains records. Keeps g domains (shape records) × (records_kind records ≡ records_kind pool.scheduler.records)) g d (numbers_from 0 (domain_unit_count g domain))
+      (record pool { domains = put_at d domain pool.domains; scheduler = policy.joined_scheduler d (domain_unit_count g domain) params t pool.scheduler })
       (keeps_joined g t d domain pool.domains pool.scheduler.records params good some keeps)
 
 pub records_steps : (m : Machine) (t : ℕ) → IsKeptAt m t NoEnd AnyEnds (SomeUnit m.config.granularity) (KeepsPool m.config.granularity) (KeepsPool m.config.granularity)
@@ -128,8 +128,8 @@ records_steps m t =
       ends_go = λ r c pool at keeps. tt;
       core_goes = λ r pool on keeps. keeps;
       domain_is = λ d domain pool at keeps. keeps.some_unit d domain at;
-      domain_comes = λ d domain pool stays none some keeps. (k_with_domain m.config.granularity t d domain (default_dom_params pool.scheduler.records) pool (default_matches pool.scheduler.records) some keeps).0;
+      domain_comes = λ d domain pool stays none some keeps. (k_with_domain m.config.granularity t d domain (standard_dom_params pool.scheduler.records) pool (default_matches pool.scheduler.records) some keeps).0;
       domain_goes = λ d pool on keeps. keeps_parted m.config.granularity d pool.domains pool.scheduler.records keeps;
       domain_leaves = λ d pool null on keeps. keeps_parted m.config.granularity d pool.domains pool.scheduler.records keeps;
-      empty = λ kind. keeps_empty m.config.granularity (length m.config.domains) (core_count m.config) (default_pool_params kind);
+      empty = λ kind. keeps_empty m.config.granularity (length m.config.domains) (machine_core_count m.config) (standard_pool_params kind);
     }

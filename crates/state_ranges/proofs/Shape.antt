@@ -34,89 +34,89 @@ c_domain d f records same = measured_change_at units_in d f records.domains same
 c_unit : (u : UnitId) (f : Credit2Domain → Credit2Unit → Credit2Unit) (records : Credit2Records) → credit2_counts (credit2.change_unit u f records) ≡ credit2_counts records
 c_unit u f records = c_domain u.dom.0 (λ d. record d { units = change_item u.n (f d) d.units }) records (λ d. length_change_item u.n (f d) d.units)
 
-given_back : (n : ℕ) (d : Credit2Domain) → units_in (credit2.give_back n d) ≡ units_in d
+given_back : (n : ℕ) (d : Credit2Domain) → units_in (credit2.domain_after_return n d) ≡ units_in d
 given_back n d = by_option (λ (x : Credit2Domain). units_in x ≡ units_in d) (slice_get d.units n) d _ (λ is. refl) (λ u is. length_change_item n _ d.units)
 
-c_burn_cur : (cur : Option UnitId) (t : ℕ) (records : Credit2Records) → credit2_counts (credit2.burn_cur cur t records) ≡ credit2_counts records
+c_burn_cur : (cur : Option UnitId) (t : ℕ) (records : Credit2Records) → credit2_counts (credit2.own_burned_records cur t records) ≡ credit2_counts records
 c_burn_cur None t records = refl
 c_burn_cur (Some u) t records =
-    let burned : Credit2Records = credit2.change_unit u (credit2.burn_unit (credit2.max_weight records) t) records in
-    c_domain u.dom.0 (λ d. cond (d.cap == 0) d (credit2.give_back u.n d)) burned
-    (λ d. by_cond (λ (x : Credit2Domain). units_in x ≡ units_in d) (d.cap == 0) d (credit2.give_back u.n d) (λ is. refl) (λ is. given_back u.n d))
-    ∙ c_unit u (credit2.burn_unit (credit2.max_weight records) t) records
+    let burned : Credit2Records = credit2.change_unit u (credit2.burned_unit (credit2.most_weight records) t) records in
+    c_domain u.dom.0 (λ d. cond (d.cap == 0) d (credit2.domain_after_return u.n d)) burned
+    (λ d. by_cond (λ (x : Credit2Domain). units_in x ≡ units_in d) (d.cap == 0) d (credit2.domain_after_return u.n d) (λ is. refl) (λ is. given_back u.n d))
+    ∙ c_unit u (credit2.burned_unit (credit2.most_weight records) t) records
 
 c_burn_all : (t : ℕ) (records : Credit2Records) → credit2_counts (credit2.burn_all t records) ≡ credit2_counts records
 c_burn_all t records =
-    measured_change_each units_in 0 (λ n d. credit2.burn_units (credit2.max_weight records) t d) records.domains (λ n d. length-map d.units (credit2.burn_unit (credit2.max_weight records) t d))
+    measured_change_each units_in 0 (λ n d. credit2.burned_domain (credit2.most_weight records) t d) records.domains (λ n d. length-map d.units (credit2.burned_unit (credit2.most_weight records) t d))
 
-c_reset : (t m : ℕ) (records : Credit2Records) → credit2_counts (credit2.reset t m records) ≡ credit2_counts records
+c_reset : (t m : ℕ) (records : Credit2Records) → credit2_counts (credit2.reset_records t m records) ≡ credit2_counts records
 c_reset t zero records = refl
 c_reset t (suc m) records = measured_change_each units_in 0 _ (credit2.burn_all t records).domains (λ n d. length-map d.units _) ∙ c_burn_all t records
 
-c_take : (u : UnitId) (records : Credit2Records) → credit2_counts (credit2.change_domain u.dom.0 (credit2.take_budget u.n) records) ≡ credit2_counts records
+c_take : (u : UnitId) (records : Credit2Records) → credit2_counts (credit2.change_domain u.dom.0 (credit2.domain_after_take u.n) records) ≡ credit2_counts records
 c_take u records =
-    c_domain u.dom.0 (credit2.take_budget u.n) records (λ d. by_cond (λ (x : Credit2Domain). units_in x ≡ units_in d) (d.cap == 0) d _ (λ is. refl) (λ is. length_change_item u.n _ d.units))
+    c_domain u.dom.0 (credit2.domain_after_take u.n) records (λ d. by_cond (λ (x : Credit2Domain). units_in x ≡ units_in d) (d.cap == 0) d _ (λ is. refl) (λ is. length_change_item u.n _ d.units))
 
-c_switch_off : (cur : Option UnitId) (records : Credit2Records) → credit2_counts (credit2.switch_off cur records) ≡ credit2_counts records
+c_switch_off : (cur : Option UnitId) (records : Credit2Records) → credit2_counts (credit2.off_records cur records) ≡ credit2_counts records
 c_switch_off None records = refl
 c_switch_off (Some u) records = c_unit u (λ d x. record x { burned = None }) records
 
-c_decide : (ask : Ask) (scheduler : Scheduler) (records : Credit2Records) (chosen : Option UnitId) → shape (credit2.decide ask scheduler records chosen).records ≡ Some (credit2_counts records)
+c_decide : (ask : Ask) (scheduler : Scheduler) (records : Credit2Records) (chosen : Option UnitId) → shape (credit2.credit2_decision_for ask scheduler records chosen).records ≡ Some (credit2_counts records)
 c_decide ask scheduler records None = ap some_counts (c_switch_off ask.cur records)
 c_decide ask scheduler records (Some u) =
-    let whole : Credit2Records = credit2.reset ask.at.0 (credit2.resets_for ask.at.0 u records) records in
-    let taken : Credit2Records = credit2.change_domain u.dom.0 (credit2.take_budget u.n) whole in
+    let whole : Credit2Records = credit2.reset_records ask.at.0 (credit2.reset_count ask.at.0 u records) records in
+    let taken : Credit2Records = credit2.change_domain u.dom.0 (credit2.domain_after_take u.n) whole in
     ap some_counts
-    (c_unit u (λ d x. record x { burned = Some ask.at.0 }) (credit2.switch_off ask.cur taken) ∙ c_switch_off ask.cur taken ∙ c_take u whole ∙ c_reset ask.at.0 (credit2.resets_for ask.at.0 u records) records)
+    (c_unit u (λ d x. record x { burned = Some ask.at.0 }) (credit2.off_records ask.cur taken) ∙ c_switch_off ask.cur taken ∙ c_take u whole ∙ c_reset ask.at.0 (credit2.reset_count ask.at.0 u records) records)
 
 c_refilled : (t d : ℕ) (records : Credit2Records) → credit2_counts (credit2.refilled_pool t d records) ≡ credit2_counts records
-c_refilled t d records = c_domain d (credit2.refill_domain (credit2.max_weight records) t) records (λ x. length-map x.units (credit2.burn_unit (credit2.max_weight records) t x))
+c_refilled t d records = c_domain d (credit2.domain_after_refill (credit2.most_weight records) t) records (λ x. length-map x.units (credit2.burned_unit (credit2.most_weight records) t x))
 
-weight_set : (weight : Option ℕ) (x : Credit2Domain) → units_in (credit2.set_weight weight x) ≡ units_in x
+weight_set : (weight : Option ℕ) (x : Credit2Domain) → units_in (credit2.domain_with_weight weight x) ≡ units_in x
 weight_set None x = refl
 weight_set (Some weight) x = length-map x.units _
 
-cap_set : (most t : ℕ) (percent : Option ℕ) (x : Credit2Domain) → units_in (credit2.set_cap most t percent x) ≡ units_in x
+cap_set : (most t : ℕ) (percent : Option ℕ) (x : Credit2Domain) → units_in (credit2.domain_with_cap most t percent x) ≡ units_in x
 cap_set most t None x = refl
-cap_set most t (Some percent) x = length-map (credit2.burn_units most t x).units _ ∙ length-map x.units (credit2.burn_unit most t x)
+cap_set most t (Some percent) x = length-map (credit2.burned_domain most t x).units _ ∙ length-map x.units (credit2.burned_unit most t x)
 
-c_set_domain : (t d : ℕ) (weight percent : Option ℕ) (records : Credit2Records) → credit2_counts (credit2.set_domain t d weight percent records) ≡ credit2_counts records
+c_set_domain : (t d : ℕ) (weight percent : Option ℕ) (records : Credit2Records) → credit2_counts (credit2.records_with_terms t d weight percent records) ≡ credit2_counts records
 c_set_domain t d weight percent records =
-    let weighted : Credit2Records = credit2.change_domain d (credit2.set_weight weight) records in
-    c_domain d (credit2.set_cap (credit2.max_weight weighted) t percent) weighted (cap_set (credit2.max_weight weighted) t percent) ∙ c_domain d (credit2.set_weight weight) records (weight_set weight)
+    let weighted : Credit2Records = credit2.change_domain d (credit2.domain_with_weight weight) records in
+    c_domain d (credit2.domain_with_cap (credit2.most_weight weighted) t percent) weighted (cap_set (credit2.most_weight weighted) t percent) ∙ c_domain d (credit2.domain_with_weight weight) records (weight_set weight)
 
 -- RTDS
 r_unit : (u : UnitId) (f : RtdsUnit → RtdsUnit) (domains : List (Option (List RtdsUnit))) → rtds_counts (rtds.change_unit u f domains) ≡ rtds_counts domains
 r_unit u f domains = measured_change_at length u.dom.0 (change_item u.n f) domains (λ units. length_change_item u.n f units)
 
-r_burn_cur : (cur : Option UnitId) (t : ℕ) (domains : List (Option (List RtdsUnit))) → rtds_counts (rtds.burn_cur cur t domains) ≡ rtds_counts domains
+r_burn_cur : (cur : Option UnitId) (t : ℕ) (domains : List (Option (List RtdsUnit))) → rtds_counts (rtds.own_burned_domains cur t domains) ≡ rtds_counts domains
 r_burn_cur None t domains = refl
-r_burn_cur (Some u) t domains = r_unit u (rtds.burn_to t) domains
+r_burn_cur (Some u) t domains = r_unit u (rtds.unit_burned_to t) domains
 
-r_switch_off : (cur : Option UnitId) (domains : List (Option (List RtdsUnit))) → rtds_counts (rtds.switch_off cur domains) ≡ rtds_counts domains
+r_switch_off : (cur : Option UnitId) (domains : List (Option (List RtdsUnit))) → rtds_counts (rtds.off_domains cur domains) ≡ rtds_counts domains
 r_switch_off None domains = refl
 r_switch_off (Some u) domains = r_unit u (λ x. record x { burned = None }) domains
 
-r_decide : (ask : Ask) (domains : List (Option (List RtdsUnit))) (chosen : Option UnitId) → shape (rtds.decide ask domains chosen).records ≡ Some (rtds_counts domains)
+r_decide : (ask : Ask) (domains : List (Option (List RtdsUnit))) (chosen : Option UnitId) → shape (rtds.rtds_decision_for ask domains chosen).records ≡ Some (rtds_counts domains)
 r_decide ask domains None = ap some_counts (r_switch_off ask.cur domains)
-r_decide ask domains (Some u) = ap some_counts (r_unit u (λ x. record x { burned = Some ask.at.0 }) (rtds.switch_off ask.cur domains) ∙ r_switch_off ask.cur domains)
+r_decide ask domains (Some u) = ap some_counts (r_unit u (λ x. record x { burned = Some ask.at.0 }) (rtds.off_domains ask.cur domains) ∙ r_switch_off ask.cur domains)
 
 -- a decision
 pub shape_decision : (records : Records) (ask : Ask) (scheduler : Scheduler) → scheduler.records ≡ records → shape (decision_by records ask scheduler).records ≡ shape records
 shape_decision (Credit2Pool records) ask scheduler is =
-    let burned : Credit2Records = credit2.burn_cur ask.cur ask.at.0 records in
-    c_decide ask scheduler burned (credit2.choice ask scheduler burned) ∙ ap some_counts (c_burn_cur ask.cur ask.at.0 records)
+    let burned : Credit2Records = credit2.own_burned_records ask.cur ask.at.0 records in
+    c_decide ask scheduler burned (credit2.credit2_choice ask scheduler burned) ∙ ap some_counts (c_burn_cur ask.cur ask.at.0 records)
 shape_decision (RtdsPool domains) ask scheduler is =
-    let burned : List (Option (List RtdsUnit)) = rtds.burn_cur ask.cur ask.at.0 domains in
-    r_decide ask burned (rtds.choice ask scheduler burned) ∙ ap some_counts (r_burn_cur ask.cur ask.at.0 domains)
+    let burned : List (Option (List RtdsUnit)) = rtds.own_burned_domains ask.cur ask.at.0 domains in
+    r_decide ask burned (rtds.rtds_choice ask scheduler burned) ∙ ap some_counts (r_burn_cur ask.cur ask.at.0 domains)
 shape_decision (ArincPool records) ask scheduler is = ap shape (decided_is (ArincPool records) ask scheduler is)
 shape_decision (NullPool kept) ask scheduler is = ap shape (decided_is (NullPool kept) ask scheduler is).1
 
-pub shape_replenished : (records : Records) (t : ℕ) (u : UnitId) → shape (policy.replenish records t u) ≡ shape records
-shape_replenished (RtdsPool domains) t u = ap some_counts (r_unit u (rtds.replenish t) domains)
+pub shape_replenished : (records : Records) (t : ℕ) (u : UnitId) → shape (policy.records_after_replenish records t u) ≡ shape records
+shape_replenished (RtdsPool domains) t u = ap some_counts (r_unit u (rtds.unit_after_replenish t) domains)
 shape_replenished any t u = refl
 
-pub shape_refilled : (records : Records) (t d : ℕ) → shape (policy.refill records t d) ≡ shape records
+pub shape_refilled : (records : Records) (t d : ℕ) → shape (policy.records_after_refill records t d) ≡ shape records
 shape_refilled (Credit2Pool records) t d = ap some_counts (c_refilled t d records)
 shape_refilled records t d = refl
 

@@ -6,13 +6,13 @@ use Rattle.std.specs.List.{AllByRecursion}
 use Rattle.std.proofs.lemmas.List.Elements.{recursion_from_All}
 use Rattle.std.proofs.lemmas.Nat.{mod-mul-add}
 use Rattle.std.proofs.Math.Decide.{ℕ_discrete}
-use Rattle.sched_base.specs.Numbers.{moment, span, has_come}
+use Rattle.sched_base.specs.Numbers.{moment, span, has_moment_come}
 use Rattle.sched_base.specs.declared.Moment.{Moment}
 use Rattle.sched_base.specs.declared.Span.{Span}
 use Rattle.sched_base.proofs.Lists.{each_get}
 use Rattle.sched_model.specs.declared.state.Vcpu.{Vcpu}
-use Rattle.sched_model.specs.Opening.{fresh_vcpu}
-use Rattle.sched_model.specs.Pool.{woken_vcpu, put_to_sleep, stopped_vcpu, done_at}
+use Rattle.sched_model.specs.Opening.{vcpu_at_opening}
+use Rattle.sched_model.specs.Pool.{woken_vcpu, put_to_sleep, stopped_vcpu, done_moment}
 use Rattle.sched_model.specs.CheckedMachine.{IsWithin, most_span, IsCheckedScript}
 use Rattle.sched_laws.proofs.EachPlace.{by_option}
 
@@ -38,7 +38,7 @@ span_or script checked n = of_spans script n (recursion_from_All (λ (s : Span).
     of_spans (x ∷ xs) zero each = each.0.most
     of_spans (x ∷ xs) (suc n) each = of_spans xs n each.1
 
-pub vcpu_fresh : (script : List Span) → IsCheckedScript script → VcpuFits 0 script (fresh_vcpu script)
+pub vcpu_fresh : (script : List Span) → IsCheckedScript script → VcpuFits 0 script (vcpu_at_opening script)
 vcpu_fresh script checked = record {
   follows = refl;
   awake = λ is. by_script script;
@@ -68,11 +68,11 @@ next_even p n odd inside even =
     mod_below : (a n : ℕ) → a < n → a % n ≡ a
     mod_below a n low = (let e : 0 * n + a ≡ a = omega arith in subst (λ k. k % n ≡ a) e (mod-mul-add 0 n a low))
 
-pub vcpu_woken : (t : ℕ) (script : List Span) (x : Vcpu) → IsCheckedScript script → has_come t x.asleep_until ≡ true → VcpuFits t script x → VcpuFits t script (woken_vcpu x)
+pub vcpu_woken : (t : ℕ) (script : List Span) (x : Vcpu) → IsCheckedScript script → has_moment_come t x.asleep_until ≡ true → VcpuFits t script x → VcpuFits t script (woken_vcpu x)
 vcpu_woken t script x checked come fits = by_sleep x.asleep_until refl
   where
     by_sleep : (o : Option Moment) → x.asleep_until ≡ o → VcpuFits t script (woken_vcpu x)
-    by_sleep None is = absurd (let e : has_come t None ≡ true = subst (λ (o : Option Moment). has_come t o ≡ true) is come in cc)
+    by_sleep None is = absurd (let e : has_moment_come t None ≡ true = subst (λ (o : Option Moment). has_moment_come t o ≡ true) is come in cc)
     by_sleep (Some a) is =
         let odd = fits.odd a is in
         let same : length x.script ≡ length script = ap length fits.follows in
@@ -90,16 +90,16 @@ vcpu_woken t script x checked come fits = by_sleep x.asleep_until refl
         }
 
 -- a vCPU whose work is done is awake, has a script, and sleeps for the next span
-done_is : (x : Vcpu) (t : ℕ) → has_come t (done_at x) ≡ true → (from : Moment) × (work : Span) × (x.started ≡ Some from) × (x.work_left ≡ Some work)
+done_is : (x : Vcpu) (t : ℕ) → has_moment_come t (done_moment x) ≡ true → (from : Moment) × (work : Span) × (x.started ≡ Some from) × (x.work_left ≡ Some work)
 done_is x t come = by_started x.started refl x.work_left refl come
   where
-    by_started : (s : Option Moment) → x.started ≡ s → (w : Option Span) → x.work_left ≡ w → has_come t (elim s as (λ _. Option Moment) [ None ↦ None | Some from ↦ elim w as (λ _. Option Moment) [ None ↦ None | Some work ↦ Some (moment (from.0 + work.0)) ] ]) ≡ true
+    by_started : (s : Option Moment) → x.started ≡ s → (w : Option Span) → x.work_left ≡ w → has_moment_come t (elim s as (λ _. Option Moment) [ None ↦ None | Some from ↦ elim w as (λ _. Option Moment) [ None ↦ None | Some work ↦ Some (moment (from.0 + work.0)) ] ]) ≡ true
         → (from : Moment) × (work : Span) × (x.started ≡ Some from) × (x.work_left ≡ Some work)
     by_started None is w is2 e = absurd (cc)
     by_started (Some from) is None is2 e = absurd (cc)
     by_started (Some from) is (Some work) is2 e = (from, work, is, is2)
 
-pub vcpu_slept : (t : ℕ) (script : List Span) (x : Vcpu) → IsCheckedScript script → has_come t (done_at x) ≡ true → VcpuFits t script x → VcpuFits t script (put_to_sleep t x)
+pub vcpu_slept : (t : ℕ) (script : List Span) (x : Vcpu) → IsCheckedScript script → has_moment_come t (done_moment x) ≡ true → VcpuFits t script x → VcpuFits t script (put_to_sleep t x)
 vcpu_slept t script x checked come fits =
     let done = done_is x t come in
     let awake : x.asleep_until ≡ None = is_none_if x.asleep_until (λ a is. (let e : None ≡ Some done.0 = sym (fits.still a is) ∙ done.2 in absurd (cc))) in

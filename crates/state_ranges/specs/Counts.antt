@@ -11,7 +11,7 @@ use Rattle.sched_model.specs.declared.state.Records.{Records}
 use Rattle.sched_model.specs.declared.state.Records.TheVariants.{Credit2Pool, RtdsPool, ArincPool, NullPool}
 use Rattle.sched_model.specs.declared.state.Domain.{Domain}
 use Rattle.sched_model.specs.declared.state.Pool.{Pool}
-use Rattle.sched_model.specs.Pool.{unit_count}
+use Rattle.sched_model.specs.Pool.{domain_unit_count}
 use Rattle.sched_laws.specs.EachPlace.{EachAt, EachPlace}
 
 abbrev pub measures_of : {X : Type 0} → (X → ℕ) → List (Option X) → List (Option ℕ)
@@ -36,7 +36,7 @@ shape (NullPool kept) = None
 -- there is a place for each domain, and at it the count of its units; there is no count where no domain is
 pub record HasCounts (g : ℕ) (domains : List (Option Domain)) (counts : List (Option ℕ)) : Type 0 where
   pub places : length counts ≡ length domains
-  pub counts_are : EachAt (λ d (x : Domain). at_place counts d ≡ Some (unit_count g x)) domains
+  pub counts_are : EachAt (λ d (x : Domain). at_place counts d ≡ Some (domain_unit_count g x)) domains
   pub others : (d : ℕ) → at_place domains d ≡ None → at_place counts d ≡ None
 
 abbrev pub CountsFit : ℕ → List (Option Domain) → Option (List (Option ℕ)) → Type 0
@@ -45,7 +45,7 @@ CountsFit g domains (Some counts) = HasCounts g domains counts
 
 -- the same, and each domain has a unit
 pub record Keeps (g : ℕ) (domains : List (Option Domain)) (counts : Option (List (Option ℕ))) : Type 0 where
-  pub some_unit : EachPlace (λ (x : Domain). 1 ≤ unit_count g x) domains
+  pub some_unit : EachPlace (λ (x : Domain). 1 ≤ domain_unit_count g x) domains
   pub fit : CountsFit g domains counts
 
 abbrev pub KeepsPool : ℕ → Pool → Type 0

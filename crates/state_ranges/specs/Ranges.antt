@@ -17,11 +17,11 @@ use Rattle.sched_model.specs.declared.state.Records.{Records}
 use Rattle.sched_model.specs.declared.state.Records.TheVariants.{Credit2Pool, RtdsPool, ArincPool, NullPool}
 use Rattle.sched_model.specs.declared.state.Pool.{Pool}
 use Rattle.sched_model.specs.declared.state.State.{State}
-use Rattle.sched_model.specs.Opening.{core_count, most_pools}
+use Rattle.sched_model.specs.Opening.{machine_core_count, most_pools}
 use Rattle.sched_model.specs.CheckedMachine.{most_span}
 use Rattle.sched_laws.specs.EachPlace.{EachAt, EachPlace}
 pub use Rattle.sched_laws.specs.RecordRanges.{RtdsInRange, Credit2UnitInRange, Credit2InRange, IsFrame}
-use Rattle.sched_base.specs.Credit2Numbers.{above_zero}
+use Rattle.sched_base.specs.Credit2Numbers.{positive_part}
 
 -- the moment is at most a longest span after t
 abbrev pub IsNear : ℕ → Moment → Type 0
@@ -66,12 +66,12 @@ abbrev pub RecordsInRange : Machine → ℕ → Records → Type 0
 RecordsInRange m t (Credit2Pool records) = (length records.domains ≡ length m.config.domains) × (records.limit ≤ 500000) × EachPlace (Credit2InRange t) records.domains
 RecordsInRange m t (RtdsPool domains) = (length domains ≡ length m.config.domains) × EachPlace (All (RtdsInRange t)) domains
 RecordsInRange m t (ArincPool records) = (records.installed ≤ t) × IfSome records.frame IsFrame
-RecordsInRange m t (NullPool kept) = length kept ≡ core_count m.config
+RecordsInRange m t (NullPool kept) = length kept ≡ machine_core_count m.config
 
 -- a pool at t: a place for each domain and core of the machine, and all numbers of what it has
 pub record PoolInRange (m : Machine) (t : ℕ) (pool : Pool) : Type 0 where
   pub domain_places : length pool.domains ≡ length m.config.domains
-  pub core_places : length pool.resources ≡ core_count m.config
+  pub core_places : length pool.resources ≡ machine_core_count m.config
   pub affinity_places : length pool.scheduler.affinity ≡ length m.config.domains
   pub queue_count : length pool.scheduler.queue ≤ 256
   pub queue : All (IsUnitOf m) pool.scheduler.queue
@@ -89,7 +89,7 @@ pub record StateInRange (m : Machine) (s : State) : Type 0 where
   pub now : s.now ≤ m.config.horizon.0
   pub name_places : length s.names ≡ most_pools
   pub pool_places : length s.pools ≡ most_pools
-  pub free_places : length s.free ≡ core_count m.config
+  pub free_places : length s.free ≡ machine_core_count m.config
   pub stalls : s.next_stall ≤ length m.work.stalls
   pub commands : s.next_command ≤ length m.work.commands
   pub pools : EachPlace (PoolInRange m s.now) s.pools
@@ -97,4 +97,4 @@ pub record StateInRange (m : Machine) (s : State) : Type 0 where
 
 -- what the unit holds of its domain's budget, where it runs
 abbrev pub held_running : Credit2Unit → ℕ
-held_running x = cond (is_some x.burned) (above_zero x.held) 0
+held_running x = cond (is_some x.burned) (positive_part x.held) 0

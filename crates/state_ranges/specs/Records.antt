@@ -8,7 +8,7 @@ use Rattle.sched_model.specs.declared.state.Records.{Records}
 use Rattle.sched_model.specs.declared.state.Records.TheVariants.{Credit2Pool, RtdsPool, ArincPool, NullPool}
 use Rattle.sched_model.specs.declared.state.Pool.{Pool}
 use Rattle.sched_model.specs.Places.{at_place}
-use Rattle.sched_model.specs.Pool.{unit_count}
+use Rattle.sched_model.specs.Pool.{domain_unit_count}
 use Rattle.sched_laws.specs.EachPlace.{EachAt, EachPlace}
 
 -- Credit2 has a record of the domain d, with so many units
@@ -40,6 +40,6 @@ IsUnrecorded (NullPool kept) d = ⊤
 -- each domain of the pool has a unit, and the pool's scheduler keeps records of all its units, and of no other domain; g is the number of a
 -- core's processors
 pub record HasRecords (g : ℕ) (pool : Pool) : Type 0 where
-  pub some_unit : EachPlace (λ (domain : Domain). 1 ≤ unit_count g domain) pool.domains
-  pub recorded : EachAt (λ d (domain : Domain). IsRecorded pool.scheduler.records d (unit_count g domain)) pool.domains
+  pub some_unit : EachPlace (λ (domain : Domain). 1 ≤ domain_unit_count g domain) pool.domains
+  pub recorded : EachAt (λ d (domain : Domain). IsRecorded pool.scheduler.records d (domain_unit_count g domain)) pool.domains
   pub others : (d : ℕ) → at_place pool.domains d ≡ None → IsUnrecorded pool.scheduler.records d

@@ -4,7 +4,7 @@ use Rattle.sched_base.specs.Numbers.{moment, span}
 use Rattle.sched_model.specs.declared.event.Entry.{Entry}
 use Rattle.sched_model.specs.Places.{numbers_from}
 use Rattle.sched_report.specs.declared.line.CoreLine.{CoreLine}
-use Rattle.sched_report.specs.Reports.{core_line}
+use Rattle.sched_report.specs.Reports.{line_of_core}
 use Rattle.sched_report.specs.Stays.{last_moment}
 use Rattle.status_board.specs.declared.totals.Totals.{Totals}
 use Rattle.status_board.specs.declared.totals.CoreTotals.{CoreTotals}
@@ -16,8 +16,8 @@ abbrev pub of_line : ℕ → CoreLine → CoreTotals
 of_line last line = record { run = span (capped_sum line.run); idle = span (last - capped_sum line.run); decides = capped_sum line.decides }
 
 -- the totals of the core r
-abbrev pub core_totals : List Entry → ℕ → CoreTotals
-core_totals entries r = of_line (last_moment entries) (core_line entries r)
+abbrev pub totals_of_core : List Entry → ℕ → CoreTotals
+totals_of_core entries r = of_line (last_moment entries) (line_of_core entries r)
 
 -- the totals of the entries on a board of so many cores: how many entries, the moment of the last one, 0 where there is none, and
 -- what each core did; an entry of another core counts as an entry alone
@@ -26,5 +26,5 @@ totals_of cores entries =
     record {
       entries = entry_count entries;
       moment = moment (last_moment entries);
-      cores = record { items = map (core_totals entries) (numbers_from 0 cores) };
+      cores = record { items = map (totals_of_core entries) (numbers_from 0 cores) };
     }

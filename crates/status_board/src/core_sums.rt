@@ -2,7 +2,7 @@
 
 ghost use Rattle.std.specs.Prelude.{◌≡◌, ℕ, ◌<◌, length, slice_index_or};
 ghost use Rattle.sched_model.specs.Pool.{same_choice};
-ghost use Rattle.sched_report.specs.Stays.{choice_in};
+ghost use Rattle.sched_report.specs.Stays.{entry_choice};
 ghost use Rattle.status_board.specs.Sums.{cores_after, no_sums};
 
 use crate::totals::CoreTotals;
@@ -70,7 +70,7 @@ impl CoreSums {
 
     /// The time of the stay that goes on, up to the last moment.
     fn open_time(&self, last: Moment) -> u64
-        ensures { result ≡ tallies.open_time (λ u. true) last.0 (tally_in self.now) }
+        ensures { result ≡ tallies.open_stay_time (λ u. true) last.0 (tally_in self.now) }
     {
         match self.cur {
             None => 0,
@@ -101,7 +101,7 @@ pub(crate) fn none_decided() -> [CoreSums; 64]
 
 /// Counts the entry, where it is a decision of a core that is there.
 pub(crate) fn count_decision(cores: &mut [CoreSums; 64], e: &Entry)
-    ensures { cores.new ≡ cores_after (choice_in e.now) cores.old }
+    ensures { cores.new ≡ cores_after (entry_choice e.now) cores.old }
 {
     if let Event::Decide { r, unit, .. } = e.event {
         let core = r.0 as usize;

@@ -11,11 +11,11 @@ use Rattle.sched_model.specs.declared.machine.Machine.{Machine}
 use Rattle.sched_model.specs.declared.state.State.{State}
 use Rattle.sched_model.specs.declared.state.Pool.{Pool}
 use Rattle.sched_model.specs.Places.{at_place, test_at}
-use Rattle.sched_model.specs.Opening.{no_pool}
+use Rattle.sched_model.specs.Opening.{absent_pool}
 use Rattle.sched_model.specs.Pool.{enabled_in, after_in, settled_pool}
-use Rattle.sched_model.specs.Actions.{home_of, change_pool}
-use Rattle.sched_model.specs.Machine.{is_enabled, enabled_at_home, after, after_at_home, home_pool, event_of}
-use Rattle.sched_model.specs.Runs.{action_of}
+use Rattle.sched_model.specs.Actions.{home_pool_of_action, change_pool}
+use Rattle.sched_model.specs.Machine.{is_action_enabled, enabled_at_home, after, after_at_home, home_pool, event_of}
+use Rattle.sched_model.specs.Runs.{event_action}
 use Rattle.sched_laws.proofs.Kept.{IsApart}
 use Rattle.sched_laws.proofs.Lists.{some-test_at}
 use Rattle.term_laws.specs.RtdsTerm.{late_of, taken_by, moves, opened_by}
@@ -36,15 +36,15 @@ pub record ActsIn (m : Machine) (s : State) (t : ℕ) (action : Action) : Type 0
   pub j : ℕ
   pub pool : Pool
   pub at : at_place s.pools j ≡ Some pool
-  pub home : home_of m.config.granularity s action ≡ Some j
+  pub home : home_pool_of_action m.config.granularity s action ≡ Some j
   pub enabled : enabled_in m.config.granularity t pool action ≡ true
   pub state : after_at_home m.config.granularity s t action ≡ change_pool j (λ p. settled_pool t (after_in m.config.granularity t p action)) s
   pub pool_is : home_pool m s action ≡ pool
 
 pub acts_in : (m : Machine) (s : State) (t : ℕ) (action : Action) → enabled_at_home m s t action ≡ true → ActsIn m s t action
-acts_in m s t action on = go (home_of m.config.granularity s action) refl on
+acts_in m s t action on = go (home_pool_of_action m.config.granularity s action) refl on
   where
-    go : (o : Option ℕ) → home_of m.config.granularity s action ≡ o → elim o as (λ _. Bool) [ None ↦ false | Some i ↦ test_at s.pools i (λ pool. enabled_in m.config.granularity t pool action) ] ≡ true → ActsIn m s t action
+    go : (o : Option ℕ) → home_pool_of_action m.config.granularity s action ≡ o → elim o as (λ _. Bool) [ None ↦ false | Some i ↦ test_at s.pools i (λ pool. enabled_in m.config.granularity t pool action) ] ≡ true → ActsIn m s t action
     go None is on2 = absurd (cc)
     go (Some i) is on2 =
         let x = some-test_at s.pools i (λ pool. enabled_in m.config.granularity t pool action) on2 in
@@ -55,7 +55,7 @@ acts_in m s t action on = go (home_of m.config.granularity s action) refl on
           home = is;
           enabled = x.2;
           state = ap (λ (o : Option ℕ). elim o as (λ _. State) [ None ↦ s | Some k ↦ change_pool k (λ p. settled_pool t (after_in m.config.granularity t p action)) s ]) is;
-          pool_is = ap (λ (o : Option ℕ). elim o as (λ _. Pool) [ None ↦ no_pool m.config | Some k ↦ unwrap_or (at_place s.pools k) (no_pool m.config) ]) is ∙ ap (λ o. unwrap_or o (no_pool m.config)) x.1;
+          pool_is = ap (λ (o : Option ℕ). elim o as (λ _. Pool) [ None ↦ absent_pool m.config | Some k ↦ unwrap_or (at_place s.pools k) (absent_pool m.config) ]) is ∙ ap (λ o. unwrap_or o (absent_pool m.config)) x.1;
         }
 
 module _ (m : Machine) (u : UnitId) (s : State) (t : ℕ) (action : Action) (a : ActsIn m s t action) (Q : Pool → Type 0) where
@@ -101,13 +101,13 @@ view m u s t (Decide n) = inr (inl (n.0, refl))
 view m u s t action = inl (record { leaves = λ i p has. tt; late = λ r. refl; taken = refl; stays = refl; opens = λ at entries. refl })
 
 -- an entry without an action
-pub quiet_event : (u : UnitId) (e : Event) → action_of e ≡ None → ((r : ℕ) → late_of r e ≡ None) × (taken_by u e ≡ None) × (moves u.dom.0 e ≡ false) × ((at : ℕ) (entries : List Entry) → opened_by u at e entries ≡ None)
+pub quiet_event : (u : UnitId) (e : Event) → event_action e ≡ None → ((r : ℕ) → late_of r e ≡ None) × (taken_by u e ≡ None) × (moves u.dom.0 e ≡ false) × ((at : ℕ) (entries : List Entry) → opened_by u at e entries ≡ None)
 quiet_event u (event.End next) is = (λ r. refl, refl, refl, λ at entries. refl)
 quiet_event u event.Finish is = (λ r. refl, refl, refl, λ at entries. refl)
 quiet_event u _ is = absurd (cc)
 
 module _ (m : Machine) (u : UnitId) (s : State) (t : ℕ) (Q : Pool → Type 0) (stable : IsStable u Q) (w : PoolHas Q s) where
-  pub ordinary_after : (action : Action) → IsApart s → is_enabled m s t action ≡ true → IsOrdinary m u s t action → PoolHas Q (after m s t action)
+  pub ordinary_after : (action : Action) → IsApart s → is_action_enabled m s t action ≡ true → IsOrdinary m u s t action → PoolHas Q (after m s t action)
   ordinary_after action apart on ordinary =
       let has = stable.there w.pool w.has in
       let a = sat_after u w.home w.pool has m t action s (ordinary.leaves w.home w.pool has) apart on (record { pool = w.pool; at = w.at; same = same_refl u w.pool }) in

@@ -6,7 +6,7 @@ use Rattle.std.specs.List.{list_any}
 use Rattle.std.proofs.lemmas.Int.{ints}
 use Rattle.std.proofs.lemmas.List.Sums.{sum_by-cons}
 use Rattle.std.proofs.lemmas.Bool.{and_from}
-use Rattle.sched_base.specs.Credit2Numbers.{above_zero}
+use Rattle.sched_base.specs.Credit2Numbers.{positive_part}
 use Rattle.sched_model.specs.declared.event.Event.{Event}
 use Rattle.sched_model.specs.declared.event.Entry.{Entry}
 use Rattle.sched_model.specs.declared.machine.Machine.{Machine}
@@ -70,7 +70,7 @@ open_fits cores d term opens stop s n allowed entries few late none =
     let sums = total_two cores (λ r. over (λ o. shared_span term (to_close s r n entries o)) (opens r)) (left_over opens stop term.from) (λ r. over (λ o. late_of_met term (to_close s r n entries o)) (opens r)) (λ r low. one r (opens r) refl) in
     omega (arith, sums, few, none)
   where
-    leg : (r : ℕ) (o : OpenLeg) → EndsLate term (stop r) (to_close s r n entries o) → shared_span term (to_close s r n entries o) ≤ above_zero (stop r -ℤ pos (max o.from term.from)) + late_of_met term (to_close s r n entries o)
+    leg : (r : ℕ) (o : OpenLeg) → EndsLate term (stop r) (to_close s r n entries o) → shared_span term (to_close s r n entries o) ≤ positive_part (stop r -ℤ pos (max o.from term.from)) + late_of_met term (to_close s r n entries o)
     leg r o ends =
         let placed : PlacedLeg = to_close s r n entries o in
         let starts = leg_from-starts s r o.from entries in
@@ -81,7 +81,7 @@ open_fits cores d term opens stop s n allowed entries few late none =
         ]
 
     one : (r : ℕ) (o : Option OpenLeg) → opens r ≡ o
-        → over (λ z. shared_span term (to_close s r n entries z)) o ≤ over (λ z. above_zero (stop r -ℤ pos (max z.from term.from))) o + over (λ z. late_of_met term (to_close s r n entries z)) o
+        → over (λ z. shared_span term (to_close s r n entries z)) o ≤ over (λ z. positive_part (stop r -ℤ pos (max z.from term.from))) o + over (λ z. late_of_met term (to_close s r n entries z)) o
     one r None is = omega arith
     one r (Some o) is = leg r o (late r o is)
 

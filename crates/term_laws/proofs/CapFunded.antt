@@ -3,13 +3,13 @@ use Rattle.sched_laws.proofs.Lists.{some_same}
 use Rattle.std.proofs.Common.{◌≡◌, ◌≤◌, ◌<◌, ℕ, suc, Bool, true, false, refl, arith, ap, subst, sym, ◌∙◌, inl, inr, cond}
 use Rattle.std.specs.Prelude.{Option, Some, None, option_map, max, is_some, ◌||◌, ℤ, pos, ◌-ℤ◌}
 use Rattle.std.proofs.lemmas.Int.{ints}
-use Rattle.sched_base.specs.Credit2Numbers.{above_zero, total}
+use Rattle.sched_base.specs.Credit2Numbers.{positive_part, cap_budget}
 use Rattle.sched_model.specs.declared.event.Entry.{Entry}
 use Rattle.sched_model.specs.declared.machine.Machine.{Machine}
 use Rattle.sched_model.specs.declared.state.State.{State}
 use Rattle.sched_model.specs.declared.state.Credit2Domain.{Credit2Domain}
-use Rattle.sched_model.specs.Opening.{core_count}
-use Rattle.sched_model.specs.Credit2.{held_by_running}
+use Rattle.sched_model.specs.Opening.{machine_core_count}
+use Rattle.sched_model.specs.Credit2.{running_budget}
 use Rattle.term_laws.specs.RtdsTerm.{moves}
 use Rattle.term_laws.specs.CapTerm.{PlacedLeg, cap_set, refills, ends_term, credit2_in}
 use Rattle.term_laws.proofs.CapTracks.{cap_at, Stops, EventTracks, CapTracks}
@@ -25,7 +25,7 @@ use Rattle.term_laws.proofs.CapWithin.{refill_quiet}
 pub record Funded (cores t : ℕ) (s : State) (d : ℕ) (x : Credit2Domain) (opens : Opens) : Type 0 where
   pub stop : ℕ → ℤ
   pub within : Within s d x opens stop
-  pub fits : budgeted cores opens stop x.budget t ≤ total x.cap
+  pub fits : budgeted cores opens stop x.budget t ≤ cap_budget x.cap
 
 pub funded_later : (cores t t2 : ℕ) (s : State) (d : ℕ) (x : Credit2Domain) (opens : Opens) → t ≤ t2 → Funded cores t s d x opens → Funded cores t2 s d x opens
 funded_later cores t t2 s d x opens later f = (
@@ -33,14 +33,14 @@ funded_later cores t t2 s d x opens later f = (
     let falls = total_over_le cores (left_over opens f.stop t2) (left_over opens f.stop t) (λ r low. less r (opens r)) in
     record { stop = f.stop; within = f.within; fits = omega (arith, fits, falls) })
   where
-    less : (r : ℕ) (o : Option OpenLeg) → over (λ z. above_zero (f.stop r -ℤ pos (max z.from t2))) o ≤ over (λ z. above_zero (f.stop r -ℤ pos (max z.from t))) o
+    less : (r : ℕ) (o : Option OpenLeg) → over (λ z. positive_part (f.stop r -ℤ pos (max z.from t2))) o ≤ over (λ z. positive_part (f.stop r -ℤ pos (max z.from t))) o
     less r None = omega arith
     less r (Some o) = above_rises (f.stop r -ℤ pos (max o.from t2)) (f.stop r -ℤ pos (max o.from t)) (omega (arith, ints, later))
 
 module _ (m : Machine) (d : ℕ) (K : State → Type 0) (tracks : CapTracks m d K) (n : ℕ) (entry : Entry) (s s2 : State) (opens : Opens) (at : entry.at.0 ≡ s.now) (known : K s) (known2 : K s2)
     (step : EventTracks m d entry.event s s2) (tracked : Tracked d opens n s) (tracked2 : Tracked d (opens_after d n entry opens) (suc n) s2) where
   abbrev high : ℕ
-  high = core_count m.config
+  high = machine_core_count m.config
 
   abbrev after : Opens
   after = opens_after d n entry opens
@@ -49,9 +49,9 @@ module _ (m : Machine) (d : ℕ) (K : State → Type 0) (tracks : CapTracks m d 
   funded_set : (percent : ℕ) (y : Credit2Domain) → cap_set m d entry.event ≡ Some percent → credit2_in s2 d ≡ Some y → 0 < y.cap → Funded high s.now s2 d y after
   funded_set percent y is at2 capped =
       let sums = total_none high (left_over after (λ r. pos s.now) s.now) (λ r low. nothing (after r)) in
-      let budget = ap above_zero (step.set_budget percent y is at2) in
+      let budget = ap positive_part (step.set_budget percent y is at2) in
       let percent_is : y.cap ≡ percent = sym (cap_of s2 d y at2) ∙ step.cap ∙ ap (λ (o : Option ℕ). elim o as (λ _. ℕ) [ Some given ↦ given | None ↦ cond (moves d entry.event) 0 (cap_at s d) ]) is in
-      let same = ap total percent_is in
+      let same = ap cap_budget percent_is in
       record {
         stop = λ r. pos s.now;
         within = record {
@@ -62,7 +62,7 @@ module _ (m : Machine) (d : ℕ) (K : State → Type 0) (tracks : CapTracks m d 
         fits = omega (arith, sums, budget, same);
       }
     where
-      nothing : (o : Option OpenLeg) → over (λ z. above_zero (pos s.now -ℤ pos (max z.from s.now))) o ≡ 0
+      nothing : (o : Option OpenLeg) → over (λ z. positive_part (pos s.now -ℤ pos (max z.from s.now))) o ≡ 0
       nothing None = refl
       nothing (Some o) = (let low = above_least (pos s.now -ℤ pos (max o.from s.now)) 0 (omega (arith, ints)) in omega (arith, low))
 
@@ -72,8 +72,8 @@ module _ (m : Machine) (d : ℕ) (K : State → Type 0) (tracks : CapTracks m d 
       let refilled = step.refilled x y is at1 capped at2 in
       let unchanged : (r : ℕ) → after r ≡ opens r = λ r. late_is d n entry opens r None ((refill_quiet d entry.event is).none r) in
       let stops : (r : ℕ) (o : OpenLeg) → after r ≡ Some o → Stops y o.unit (f.stop r) = λ r o there. refilled.others o.unit (f.stop r) (f.within.stops r o (sym (unchanged r) ∙ there)) in
-      let sums = total_same high (left_over after f.stop s.now) (left_over opens f.stop s.now) (λ r low. ap (over (λ o. above_zero (f.stop r -ℤ pos (max o.from s.now)))) (unchanged r)) in
-      let held : total_over high (left_over after f.stop s.now) ≤ held_by_running y = held_at_least high after (λ r o. above_zero (f.stop r -ℤ pos (max o.from s.now))) y.units
+      let sums = total_same high (left_over after f.stop s.now) (left_over opens f.stop s.now) (λ r low. ap (over (λ o. positive_part (f.stop r -ℤ pos (max o.from s.now)))) (unchanged r)) in
+      let held : total_over high (left_over after f.stop s.now) ≤ running_budget y = held_at_least high after (λ r o. positive_part (f.stop r -ℤ pos (max o.from s.now))) y.units
       (λ r o low there. (
       let st = stops r o there in
       let charged = refilled.charged o.unit st.from st.unit st.at st.burned in
@@ -82,7 +82,7 @@ module _ (m : Machine) (d : ℕ) (K : State → Type 0) (tracks : CapTracks m d 
       (λ r k o p one two e. tracks.one s2 known2 r k o.unit (tracked2.on r ∙ ap (option_map (λ (z : OpenLeg). z.unit)) one) (tracked2.on k ∙ ap (option_map (λ (z : OpenLeg). z.unit)) two ∙ ap Some (sym e))) in
       let fits = f.fits in
       let budget = refilled.budget in
-      let totals = ap total same in
+      let totals = ap cap_budget same in
       record {
         stop = f.stop;
         within = record { at = at2; capped = omega (arith, capped, same); stops = stops };
@@ -100,7 +100,7 @@ module _ (m : Machine) (d : ℕ) (K : State → Type 0) (tracks : CapTracks m d 
       let same : goes.record_after ≡ y = some_same (sym goes.within.at ∙ at2) in
       let pays = goes.pays s.now (omega arith) in
       let none = late_none (closed_by d n entry opens (decides d entry.event)) closes.ended in
-      let totals = ap total goes.same_cap in
+      let totals = ap cap_budget goes.same_cap in
       let fits = f.fits in
       subst (λ z. Funded high s.now s2 d z after) same (record { stop = goes.stop_after; within = goes.within; fits = omega (arith, pays, none, totals, fits) })
     where

@@ -5,13 +5,13 @@ use Rattle.std.specs.List.{All, AllByRecursion, list_any}
 use Rattle.std.proofs.lemmas.List.Elements.{All-from_recursion}
 use Rattle.std.proofs.lemmas.List.Sums.{sum_by-cons}
 use Rattle.std.proofs.lemmas.Bool.{not-true}
-use Rattle.sched_base.specs.Credit2Numbers.{above_zero, total}
+use Rattle.sched_base.specs.Credit2Numbers.{positive_part, cap_budget}
 use Rattle.sched_model.specs.declared.event.Event.{Event}
 use Rattle.sched_model.specs.declared.event.Entry.{Entry}
 use Rattle.sched_model.specs.declared.machine.Machine.{Machine}
 use Rattle.sched_model.specs.declared.state.State.{State}
 use Rattle.sched_model.specs.declared.state.Credit2Domain.{Credit2Domain}
-use Rattle.sched_model.specs.Opening.{opening, core_count}
+use Rattle.sched_model.specs.Opening.{opening, machine_core_count}
 use Rattle.sched_model.specs.Runs.{Reached, run_start as begun, IsRunFrom, IsRun, after_entry, after_entries}
 use Rattle.sched_laws.specs.StateLaws.{state_after}
 use Rattle.sched_base.proofs.Lists.{AllByRecursion-map}
@@ -29,7 +29,7 @@ use Rattle.term_laws.proofs.CapFunded.{Funded, funded_later, funded_after}
 
 module _ (m : Machine) (d : ℕ) (K : State → Type 0) (tracks : CapTracks m d K) (set : List ℕ) where
   abbrev high : ℕ
-  high = core_count m.config
+  high = machine_core_count m.config
 
   -- the term is kept, counted from a moment from which it may begin
   abbrev Kept : ℕ → Opens → State → ℕ → List Entry → CapTerm → Type 0
@@ -88,7 +88,7 @@ module _ (m : Machine) (d : ℕ) (K : State → Type 0) (tracks : CapTracks m d 
             let same = y.2 in
             let f = funded2 y.0 y.1 (omega (arith, some_cap, same)) in
             let fits = f.fits in
-            let totals = ap total same in
+            let totals = ap cap_budget same in
             let term : CapTerm = term_from m last d percent2 entry.at.0 (suc n) entries in
             let budget = term_budget m d last entries percent2 entry.at.0 (suc n) in
             let starts = term_starts m d last entries percent2 entry.at.0 (suc n) in
@@ -130,10 +130,10 @@ module _ (m : Machine) (d : ℕ) (K : State → Type 0) (tracks : CapTracks m d 
   nobody_tracked : Tracked d nobody 0 (opening m)
   nobody_tracked = record { on = λ r. tracks.nobody r; begun = λ r o is. absurd (cc); earlier = λ r o is. absurd (cc) }
 
-  funded_opening : (x : Credit2Domain) → credit2_in (opening m) d ≡ Some x → 0 < x.cap → Funded (core_count m.config) (opening m).now (opening m) d x nobody
+  funded_opening : (x : Credit2Domain) → credit2_in (opening m) d ≡ Some x → 0 < x.cap → Funded (machine_core_count m.config) (opening m).now (opening m) d x nobody
   funded_opening x at capped =
-      let none = total_none (core_count m.config) (left_over nobody (λ r. pos 0) (opening m).now) (λ r low. refl) in
-      let budget = ap above_zero (tracks.full x at) in
+      let none = total_none (machine_core_count m.config) (left_over nobody (λ r. pos 0) (opening m).now) (λ r low. refl) in
+      let budget = ap positive_part (tracks.full x at) in
       record { stop = λ r. pos 0; within = record { at = at; capped = capped; stops = λ r o is. absurd (cc) }; fits = omega (arith, none, budget) }
 
   -- what is kept of all legs is what the law says
@@ -142,9 +142,9 @@ module _ (m : Machine) (d : ℕ) (K : State → Type 0) (tracks : CapTracks m d 
       let plain : term.ends_by_setting ≡ false = not-true term.ends_by_setting (and_left (not term.ends_by_setting) (not (list_any (λ leg. meets term leg && is_set_after set term leg) placed)) spoken) in
       let clear = not-true (list_any (λ leg. meets term leg && is_set_after set term leg) placed) (and_right (not term.ends_by_setting) (not (list_any (λ leg. meets term leg && is_set_after set term leg) placed)) spoken) in
       let none = none_disturbs set term placed clear in
-      let times = whole_sum (core_count m.config) d (shared_span term) last entries in
-      let lates = whole_sum (core_count m.config) d (late_of_met term) last entries in
-      let disturbed = whole_sum (core_count m.config) d (disturbs set term) last entries in
+      let times = whole_sum (machine_core_count m.config) d (shared_span term) last entries in
+      let lates = whole_sum (machine_core_count m.config) d (late_of_met term) last entries in
+      let disturbed = whole_sum (machine_core_count m.config) d (disturbs set term) last entries in
       let fits = kept plain (omega (arith, none, disturbed)) in
       omega (arith, times, lates, fits)
 
@@ -159,7 +159,7 @@ module _ (m : Machine) (d : ℕ) (K : State → Type 0) (tracks : CapTracks m d 
       let same = x.2 in
       let f = funded_opening x.0 x.1 (omega (arith, some_cap, same)) in
       let fits = f.fits in
-      let totals = ap total same in
+      let totals = ap cap_budget same in
       let term : CapTerm = term_from m last d (first_cap m d) 0 0 entries in
       let budget = term_budget m d last entries (first_cap m d) 0 0 in
       keeps term (λ plain none. kept_within m d K tracks set entries (begun m) 0 nobody f.stop x.0 (first_cap m d) 0 term.budget term run tracks.opens nobody_tracked f.within (omega arith) (omega (arith, fits, totals, budget)) (λ test none2. none2) refl plain none)

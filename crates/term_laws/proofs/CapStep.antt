@@ -6,7 +6,7 @@ use Rattle.std.proofs.Math.Decide.{ℕ_discrete}
 use Rattle.std.proofs.lemmas.Int.{ints}
 use Rattle.sched_base.specs.Numbers.{moment}
 use Rattle.sched_base.specs.declared.Moment.{Moment}
-use Rattle.sched_base.specs.Credit2Numbers.{above_zero}
+use Rattle.sched_base.specs.Credit2Numbers.{positive_part}
 use Rattle.sched_model.specs.declared.event.Event.{Event}
 use Rattle.sched_model.specs.declared.event.Entry.{Entry}
 use Rattle.sched_model.specs.declared.machine.Machine.{Machine}
@@ -14,7 +14,7 @@ use Rattle.sched_model.specs.declared.state.State.{State}
 use Rattle.sched_model.specs.declared.state.Resource.{Resource}
 use Rattle.sched_model.specs.declared.state.Credit2Unit.{Credit2Unit}
 use Rattle.sched_model.specs.declared.state.Credit2Domain.{Credit2Domain}
-use Rattle.sched_model.specs.Opening.{core_count}
+use Rattle.sched_model.specs.Opening.{machine_core_count}
 use Rattle.sched_model.specs.Pool.{lateness}
 use Rattle.term_laws.specs.RtdsTerm.{core_in, late_now, moves}
 use Rattle.term_laws.specs.CapTerm.{PlacedLeg, cap_set, refills, ends_term, cap_after, credit2_in}
@@ -25,10 +25,10 @@ use Rattle.term_laws.proofs.CapLegs.{OpenLeg, Opens, opens_after, closed_at, beg
 
 -- the budget, and what is left to the open legs of what they hold, counted from t0 on or from where they begin
 abbrev pub left_over : Opens → (ℕ → ℤ) → ℕ → ℕ → ℕ
-left_over opens stop t0 r = over (λ o. above_zero (stop r -ℤ pos (max o.from t0))) (opens r)
+left_over opens stop t0 r = over (λ o. positive_part (stop r -ℤ pos (max o.from t0))) (opens r)
 
 abbrev pub budgeted : ℕ → Opens → (ℕ → ℤ) → ℤ → ℕ → ℕ
-budgeted cores opens stop budget t0 = above_zero budget + total_over cores (left_over opens stop t0)
+budgeted cores opens stop budget t0 = positive_part budget + total_over cores (left_over opens stop t0)
 
 -- how long a leg is from t0 on, and what is late of it where that is some time
 abbrev pub part : ℕ → PlacedLeg → ℕ
@@ -104,7 +104,7 @@ late_part_is t0 placed = elim (part t0 placed) as (λ k. (k ≡ 0) ⊎ (cond (na
 
 module _ (m : Machine) (d : ℕ) (K : State → Type 0) (tracks : CapTracks m d K) where
   abbrev cores : ℕ
-  cores = core_count m.config
+  cores = machine_core_count m.config
 
   -- a core that decides now is late by as much as its unit overran, or more
   pub late_enough : (s : State) (x : Credit2Domain) (r k : ℕ) (stop : ℤ) → K s → credit2_in s d ≡ Some x → 0 < x.cap → on_core s d r ≡ Some k → Stops x k stop → pos s.now ≤ℤ (stop +ℤ pos (late_now s r))
@@ -158,8 +158,8 @@ module _ (m : Machine) (d : ℕ) (K : State → Type 0) (tracks : CapTracks m d 
             within = record { at = at2; capped = omega (arith, capped, same); stops = λ r o is. goes.others o.unit (stop r) (within.stops r o (sym (unchanged r) ∙ is)) };
             same_cap = same;
             pays = λ t0 le. (
-                let e = ap above_zero goes.budget in
-                let sums = total_same cores (left_over after stop t0) (left_over opens stop t0) (λ r low. ap (over (λ o. above_zero (stop r -ℤ pos (max o.from t0)))) (unchanged r)) in
+                let e = ap positive_part goes.budget in
+                let sums = total_same cores (left_over after stop t0) (left_over opens stop t0) (λ r low. ap (over (λ o. positive_part (stop r -ℤ pos (max o.from t0)))) (unchanged r)) in
                 omega (arith, e, sums));
           }
 
@@ -207,16 +207,16 @@ module _ (m : Machine) (d : ℕ) (K : State → Type 0) (tracks : CapTracks m d 
             go (Some k) is2 = (let e : begun_at entry.at.0 n k ≡ o = cc in sym (ap (λ (z : OpenLeg). z.from) e))
 
         -- what the unit has that the core decided for
-        takes : (t0 : ℕ) → t0 ≤ s.now → left_over after stop2 t0 r0 ≤ above_zero decided.taken
+        takes : (t0 : ℕ) → t0 ≤ s.now → left_over after stop2 t0 r0 ≤ positive_part decided.taken
         takes t0 le = go (after r0) refl
           where
-            go : (o : Option OpenLeg) → after r0 ≡ o → over (λ z. above_zero (stop2 r0 -ℤ pos (max z.from t0))) o ≤ above_zero decided.taken
+            go : (o : Option OpenLeg) → after r0 ≡ o → over (λ z. positive_part (stop2 r0 -ℤ pos (max z.from t0))) o ≤ positive_part decided.taken
             go None is = omega arith
             go (Some o) is = (let f = fresh o is in let e = stop2_own in above_rises (stop2 r0 -ℤ pos (max o.from t0)) decided.taken (omega (arith, ints, f, e, le)))
 
         -- the leg that ends
         ends : (t0 : ℕ) → t0 ≤ s.now → (o : Option OpenLeg) → opens r0 ≡ o
-            → above_zero (x.budget +ℤ decided.given) + over (part t0) (option_map (closed_at entry.at.0 one.late n) o) ≤ above_zero x.budget + over (λ z. above_zero (stop r0 -ℤ pos (max z.from t0))) o + over (late_part t0) (option_map (closed_at entry.at.0 one.late n) o)
+            → positive_part (x.budget +ℤ decided.given) + over (part t0) (option_map (closed_at entry.at.0 one.late n) o) ≤ positive_part x.budget + over (λ z. positive_part (stop r0 -ℤ pos (max z.from t0))) o + over (late_part t0) (option_map (closed_at entry.at.0 one.late n) o)
         ends t0 le None is =
             let none : decided.given ≡ pos 0 = subst (HasLeft s.now x decided.given) (tracked.on r0 ∙ ap (option_map (λ (z : OpenLeg). z.unit)) is) decided.gives_back in
             let rises = above_rises (x.budget +ℤ decided.given) x.budget (omega (arith, ints, none)) in
@@ -249,8 +249,8 @@ module _ (m : Machine) (d : ℕ) (K : State → Type 0) (tracks : CapTracks m d 
               let b = takes t0 le in
               let c = decided.budget in
               let changed = total_changed cores r0 (left_over opens stop t0) (left_over after stop2 t0)
-              (λ r other. ap (λ (z : ℤ). over (λ (o : OpenLeg). above_zero (z -ℤ pos (max o.from t0))) (opens r)) (sym (stop2_other r other)) ∙ ap (over (λ o. above_zero (stop2 r -ℤ pos (max o.from t0)))) (sym (unchanged r other)))
-              (λ high. ap (over (λ o. above_zero (stop r0 -ℤ pos (max o.from t0)))) (none_high s opens n r0 known tracked high) ∙ sym (ap (over (λ o. above_zero (stop2 r0 -ℤ pos (max o.from t0)))) (none_high s2 after (suc n) r0 known2 tracked2 high))) in
+              (λ r other. ap (λ (z : ℤ). over (λ (o : OpenLeg). positive_part (z -ℤ pos (max o.from t0))) (opens r)) (sym (stop2_other r other)) ∙ ap (over (λ o. positive_part (stop2 r -ℤ pos (max o.from t0)))) (sym (unchanged r other)))
+              (λ high. ap (over (λ o. positive_part (stop r0 -ℤ pos (max o.from t0)))) (none_high s opens n r0 known tracked high) ∙ sym (ap (over (λ o. positive_part (stop2 r0 -ℤ pos (max o.from t0)))) (none_high s2 after (suc n) r0 known2 tracked2 high))) in
               omega (arith, a, b, c, changed));
         }
 

@@ -9,9 +9,9 @@ use Rattle.sched_model.specs.declared.event.Entry.{Entry}
 use Rattle.sched_model.specs.declared.machine.Machine.{Machine}
 use Rattle.sched_model.specs.declared.state.State.{State}
 use Rattle.sched_model.specs.CheckedMachine.{IsChecked}
-use Rattle.sched_model.specs.Opening.{core_count}
-use Rattle.sched_model.specs.Machine.{is_enabled, event_of, after}
-use Rattle.sched_model.specs.Runs.{Reached, action_of, end_of, after_quiet, after_event, after_entry, IsNext, IsNextEvent}
+use Rattle.sched_model.specs.Opening.{machine_core_count}
+use Rattle.sched_model.specs.Machine.{is_action_enabled, event_of, after}
+use Rattle.sched_model.specs.Runs.{Reached, event_action, named_next_moment, after_quiet, after_event, after_entry, IsNext, IsNextEvent}
 use Rattle.term_laws.specs.RtdsTerm.{late_of, late_now}
 use Rattle.term_laws.proofs.Deciding.{decides}
 use Rattle.term_laws.proofs.ReachedStates.{IsReached, reached_opening, reached_next}
@@ -33,18 +33,18 @@ module _ (m : Machine) (checked : IsChecked m) (d : ℕ) where
   All s e s2 = StepGives m d s s2 e
 
   -- an action, where the domain is one of the machine, and where it is none
-  low_gives : d < length m.config.domains → (s : State) (action : Action) → IsReached m s → IsReached m (after m s s.now action) → is_enabled m s s.now action ≡ true → StateHolds d s → All s (event_of m s s.now action) (after m s s.now action)
+  low_gives : d < length m.config.domains → (s : State) (action : Action) → IsReached m s → IsReached m (after m s s.now action) → is_action_enabled m s s.now action ≡ true → StateHolds d s → All s (event_of m s s.now action) (after m s s.now action)
   low_gives low s action r r2 on holds =
       let k = stands m checked s r in
       let k2 = stands m checked (after m s s.now action) r2 in
       action_gives m checked d s k (home_here m s d k.known low) holds action on k2 (home_here m (after m s s.now action) d k2.known low)
 
-  prints : (s : State) (action : Action) → IsReached m s → IsReached m (after m s s.now action) → is_enabled m s s.now action ≡ true → (r late : ℕ) → late_of r (event_of m s s.now action) ≡ Some late
+  prints : (s : State) (action : Action) → IsReached m s → IsReached m (after m s s.now action) → is_action_enabled m s s.now action ≡ true → (r late : ℕ) → late_of r (event_of m s s.now action) ≡ Some late
       → (late ≡ late_now s r) × (on_core (after m s s.now action) d r ≡ decided_for d (event_of m s s.now action))
   prints s (Decide n) r r2 on core late is = decides_here m checked d s n.0 (stands m checked s r) (stands m checked (after m s s.now (Decide n)) r2) (decides m s s.now n.0 on) core late is
   prints s action r r2 on core late is = absurd (cc)
 
-  high_gives : (d < length m.config.domains → ⊥) → (s : State) (action : Action) → IsReached m s → IsReached m (after m s s.now action) → is_enabled m s s.now action ≡ true → All s (event_of m s s.now action) (after m s s.now action)
+  high_gives : (d < length m.config.domains → ⊥) → (s : State) (action : Action) → IsReached m s → IsReached m (after m s s.now action) → is_action_enabled m s s.now action ≡ true → All s (event_of m s s.now action) (after m s s.now action)
   high_gives high s action r r2 on =
       let k = stands m checked s r in
       let k2 = stands m checked (after m s s.now action) r2 in
@@ -53,7 +53,7 @@ module _ (m : Machine) (checked : IsChecked m) (d : ℕ) where
         holds = λ x is core n own. absurd (let none = no_core m d high (after m s s.now action) k2.known core in cc);
       }
 
-  gives : (s : State) (action : Action) → IsReached m s → IsReached m (after m s s.now action) → is_enabled m s s.now action ≡ true → StateHolds d s → All s (event_of m s s.now action) (after m s s.now action)
+  gives : (s : State) (action : Action) → IsReached m s → IsReached m (after m s s.now action) → is_action_enabled m s s.now action ≡ true → StateHolds d s → All s (event_of m s s.now action) (after m s s.now action)
   gives s action r r2 on holds = elim (dec_le (suc d) (length m.config.domains)) [
     | yes low ↦ low_gives (omega (arith, low)) s action r r2 on holds
     | no high ↦ high_gives (λ low. high (omega (arith, low))) s action r r2 on
@@ -61,14 +61,14 @@ module _ (m : Machine) (checked : IsChecked m) (d : ℕ) where
 
   -- an entry
   entry_gives : (from : Reached) (entry : Entry) → IsNext m from entry → K m d from.state → All from.state entry.event (after_entry m from entry).state
-  entry_gives from entry next k = go (action_of entry.event) refl next.event
+  entry_gives from entry next k = go (event_action entry.event) refl next.event
     where
-      go_quiet : (end : Option ℕ) → action_of entry.event ≡ None → All from.state entry.event (after_quiet end from).state
+      go_quiet : (end : Option ℕ) → event_action entry.event ≡ None → All from.state entry.event (after_quiet end from).state
       go_quiet None is = record { tracks = still_tracks m d entry.event from.state from.state (quiet_none m d entry.event is) (λ r. refl) refl; holds = k.holds }
       go_quiet (Some n) is = record { tracks = still_tracks m d entry.event from.state (record from.state { now = n }) (quiet_none m d entry.event is) (λ r. refl) refl; holds = k.holds }
 
-      go : (o : Option Action) → action_of entry.event ≡ o → IsNextEvent m from.state entry.event o → All from.state entry.event (after_event m entry.event o from).state
-      go None is ev = go_quiet (end_of entry.event) is
+      go : (o : Option Action) → event_action entry.event ≡ o → IsNextEvent m from.state entry.event o → All from.state entry.event (after_event m entry.event o from).state
+      go None is ev = go_quiet (named_next_moment entry.event) is
       go (Some action) is ev =
           subst (λ (e : Event). All from.state e (after m from.state from.state.now action)) (sym ev.1)
           (gives from.state action k.reached (subst (λ (o : Option Action). IsReached m (after_event m entry.event o from).state) is (reached_next m from entry next k.reached)) ev.0 k.holds)
@@ -85,7 +85,7 @@ module _ (m : Machine) (checked : IsChecked m) (d : ℕ) where
     opens = record { reached = reached_opening m; holds = λ x is r n on. absurd (let none = nobody_at_first m d r in cc) };
     nobody = nobody_at_first m d;
     full = full_at_first m d;
-    low = λ s k r n on. by_home s k (r < core_count m.config) r n on (λ home. (
+    low = λ s k r n on. by_home s k (r < machine_core_count m.config) r n on (λ home. (
         let known = (stands m checked s k.reached).known in
         on_low m s known d home.home home.pool home.at home.there r n (sym (on_is m s known d home.home home.pool home.at home.there r) ∙ on)));
     one = λ s k r j n on_r on_j. by_home s k (r ≡ j) r n on_r (λ home. (

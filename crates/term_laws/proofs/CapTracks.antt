@@ -1,7 +1,7 @@
 -- What each entry of a run does to a capped domain: to its budget, to its units that run, and to the cores that run them.
 use Rattle.std.specs.Prelude.{ℕ, ◌+◌, ◌==◌, ◌≡◌, ◌≤◌, ◌<◌, true, false, Option, Some, None, slice_get, ℤ, pos, ◌+ℤ◌, ◌-ℤ◌, ◌≤ℤ◌, if◌then◌else◌}
 use Rattle.sched_base.specs.Numbers.{moment}
-use Rattle.sched_base.specs.Credit2Numbers.{above_zero, total}
+use Rattle.sched_base.specs.Credit2Numbers.{positive_part, cap_budget}
 use Rattle.sched_base.specs.declared.Moment.{Moment}
 use Rattle.sched_base.specs.declared.UnitId.{UnitId}
 use Rattle.sched_model.specs.declared.event.Event.{Event}
@@ -11,8 +11,8 @@ use Rattle.sched_model.specs.declared.machine.Machine.{Machine}
 use Rattle.sched_model.specs.declared.state.State.{State}
 use Rattle.sched_model.specs.declared.state.Credit2Unit.{Credit2Unit}
 use Rattle.sched_model.specs.declared.state.Credit2Domain.{Credit2Domain}
-use Rattle.sched_model.specs.Credit2.{held_by_running}
-use Rattle.sched_model.specs.Opening.{opening, core_count}
+use Rattle.sched_model.specs.Credit2.{running_budget}
+use Rattle.sched_model.specs.Opening.{opening, machine_core_count}
 use Rattle.sched_model.specs.Runs.{Reached, IsNext, after_entry}
 use Rattle.term_laws.specs.RtdsTerm.{core_in, late_now, late_of, moves}
 use Rattle.term_laws.specs.CapTerm.{cap_set, refills, ends_term, cap_after, credit2_in}
@@ -57,14 +57,14 @@ pub record Decides (t : ℕ) (had has : Option ℕ) (x y : Credit2Domain) : Type
   pub taken : ℤ
   pub gives_back : HasLeft t x given had
   pub takes : HasLeft t y taken has
-  pub budget : above_zero y.budget + above_zero taken ≤ above_zero (x.budget +ℤ given)
+  pub budget : positive_part y.budget + positive_part taken ≤ positive_part (x.budget +ℤ given)
   pub others : (n : ℕ) (stop : ℤ) → (had ≡ Some n → ⊥) → (has ≡ Some n → ⊥) → Stops x n stop → Stops y n stop
 
 -- the domain is refilled at t: its running units are charged and keep what they hold, and the budget is no more than what they leave of the total
 pub record Refills (t : ℕ) (x y : Credit2Domain) : Type 0 where
   pub charged : (n b : ℕ) (z : Credit2Unit) → slice_get y.units n ≡ Some z → z.burned ≡ Some b → b ≡ t
   pub others : (n : ℕ) (stop : ℤ) → Stops x n stop → Stops y n stop
-  pub budget : y.budget ≤ℤ (pos (total y.cap) -ℤ pos (held_by_running y))
+  pub budget : y.budget ≤ℤ (pos (cap_budget y.cap) -ℤ pos (running_budget y))
 
 -- anything else: the budget stays, and running units are charged at most
 pub record GoesOn (x y : Credit2Domain) : Type 0 where
@@ -80,7 +80,7 @@ pub record EventTracks (m : Machine) (d : ℕ) (e : Event) (s s2 : State) : Type
   pub cap : cap_at s2 d ≡ cap_after m d (cap_at s d) e
   pub moved : (r : ℕ) → moves d e ≡ true → on_core s d r ≡ None
   -- a setting of the cap makes the budget that of the cap, and running units hold nothing
-  pub set_budget : (percent : ℕ) (y : Credit2Domain) → cap_set m d e ≡ Some percent → credit2_in s2 d ≡ Some y → y.budget ≡ pos (total percent)
+  pub set_budget : (percent : ℕ) (y : Credit2Domain) → cap_set m d e ≡ Some percent → credit2_in s2 d ≡ Some y → y.budget ≡ pos (cap_budget percent)
   pub set_stops : (percent : ℕ) (y : Credit2Domain) → cap_set m d e ≡ Some percent → credit2_in s2 d ≡ Some y → (n : ℕ) (stop : ℤ) → Stops y n stop → stop ≡ pos s.now
   -- what the other events do to the record of a capped domain
   pub refilled : (x y : Credit2Domain) → refills d e ≡ true → credit2_in s d ≡ Some x → 0 < x.cap → credit2_in s2 d ≡ Some y → Refills s.now x y
@@ -92,9 +92,9 @@ pub record CapTracks (m : Machine) (d : ℕ) (K : State → Type 0) : Type 0 whe
   -- the opening: nobody runs, and the budget is that of the cap
   pub opens : K (opening m)
   pub nobody : (r : ℕ) → on_core (opening m) d r ≡ None
-  pub full : (x : Credit2Domain) → credit2_in (opening m) d ≡ Some x → x.budget ≡ pos (total x.cap)
+  pub full : (x : Credit2Domain) → credit2_in (opening m) d ≡ Some x → x.budget ≡ pos (cap_budget x.cap)
   -- each state: a core that has a unit is one of the machine; no unit is on two cores; a unit of a capped domain that is on a core runs, and the core is due when what it holds is used up, if not before
-  pub low : (s : State) → K s → (r n : ℕ) → on_core s d r ≡ Some n → r < core_count m.config
+  pub low : (s : State) → K s → (r n : ℕ) → on_core s d r ≡ Some n → r < machine_core_count m.config
   pub one : (s : State) → K s → (r k n : ℕ) → on_core s d r ≡ Some n → on_core s d k ≡ Some n → r ≡ k
   pub holds : (s : State) → K s → (x : Credit2Domain) → credit2_in s d ≡ Some x → 0 < x.cap → (r n : ℕ) → on_core s d r ≡ Some n
       → (stop : ℤ) × Stops x n stop × (due : ℕ) × (due_at s r ≡ Some (moment due)) × (pos due ≤ℤ stop)

@@ -1,14 +1,14 @@
 -- The bound of one term, by the entries that follow its beginning.
 use Rattle.std.proofs.Common.{◌≡◌, ◌≤◌, ◌<◌, ◌+◌, ◌-◌, ℕ, suc, Bool, true, false, List, [], ◌∷◌, refl, arith, ap, subst, sym, ◌∙◌, ◌⊎◌, inl, inr, cond, nat_lt}
 use Rattle.std.specs.Prelude.{Option, Some, None, option_map, max, is_some, ◌&&◌, ◌||◌, ℤ, pos, ◌-ℤ◌}
-use Rattle.sched_base.specs.Credit2Numbers.{above_zero, total}
+use Rattle.sched_base.specs.Credit2Numbers.{positive_part, cap_budget}
 use Rattle.sched_model.specs.declared.event.Event.{Event}
 use Rattle.sched_model.specs.declared.event.Event.TheVariants as event
 use Rattle.sched_model.specs.declared.event.Entry.{Entry}
 use Rattle.sched_model.specs.declared.machine.Machine.{Machine}
 use Rattle.sched_model.specs.declared.state.State.{State}
 use Rattle.sched_model.specs.declared.state.Credit2Domain.{Credit2Domain}
-use Rattle.sched_model.specs.Opening.{core_count}
+use Rattle.sched_model.specs.Opening.{machine_core_count}
 use Rattle.sched_model.specs.Runs.{Reached, IsRunFrom, after_entry, after_entries}
 use Rattle.term_laws.specs.RtdsTerm.{moves}
 use Rattle.term_laws.proofs.Time.{time_goes_on}
@@ -27,17 +27,17 @@ pub term_starts : (m : Machine) (d : ℕ) (s : State) (entries : List Entry) (pe
 term_starts m d s [] percent t0 n = refl
 term_starts m d s (entry ∷ entries) percent t0 n =
     elim (ends_term m d entry.event) as (λ b. (elim b as (λ _. CapTerm) [
-      | true ↦ record { from = t0; until = entry.at.0; budget = total percent; last = n; ends_by_setting = is_some (cap_set m d entry.event) }
+      | true ↦ record { from = t0; until = entry.at.0; budget = cap_budget percent; last = n; ends_by_setting = is_some (cap_set m d entry.event) }
       | false ↦ term_from m s d percent t0 (suc n) entries
     ]).from ≡ t0) [ true ↦ refl | false ↦ term_starts m d s entries percent t0 (suc n) ]
 
-pub term_budget : (m : Machine) (d : ℕ) (s : State) (entries : List Entry) (percent t0 n : ℕ) → (term_from m s d percent t0 n entries).budget ≡ total percent
+pub term_budget : (m : Machine) (d : ℕ) (s : State) (entries : List Entry) (percent t0 n : ℕ) → (term_from m s d percent t0 n entries).budget ≡ cap_budget percent
 term_budget m d s [] percent t0 n = refl
 term_budget m d s (entry ∷ entries) percent t0 n =
     elim (ends_term m d entry.event) as (λ b. (elim b as (λ _. CapTerm) [
-      | true ↦ record { from = t0; until = entry.at.0; budget = total percent; last = n; ends_by_setting = is_some (cap_set m d entry.event) }
+      | true ↦ record { from = t0; until = entry.at.0; budget = cap_budget percent; last = n; ends_by_setting = is_some (cap_set m d entry.event) }
       | false ↦ term_from m s d percent t0 (suc n) entries
-    ]).budget ≡ total percent) [ true ↦ refl | false ↦ term_budget m d s entries percent t0 (suc n) ]
+    ]).budget ≡ cap_budget percent) [ true ↦ refl | false ↦ term_budget m d s entries percent t0 (suc n) ]
 
 term_lasts : (m : Machine) (d : ℕ) (entries : List Entry) (from : Reached) (percent t0 n : ℕ) → IsRunFrom m from entries → from.state.now ≤ (term_from m (after_entries m from entries).state d percent t0 n entries).until
 term_lasts m d [] from percent t0 n run = omega arith
@@ -46,7 +46,7 @@ term_lasts m d (entry ∷ entries) from percent t0 n run =
     let later = time_goes_on m from entry run.0 in
     let follow = term_lasts m d entries (after_entry m from entry) percent t0 (suc n) run.1 in
     elim (ends_term m d entry.event) as (λ b. from.state.now ≤ (elim b as (λ _. CapTerm) [
-      | true ↦ record { from = t0; until = entry.at.0; budget = total percent; last = n; ends_by_setting = is_some (cap_set m d entry.event) }
+      | true ↦ record { from = t0; until = entry.at.0; budget = cap_budget percent; last = n; ends_by_setting = is_some (cap_set m d entry.event) }
       | false ↦ term_from m (after_entries m from (entry ∷ entries)).state d percent t0 (suc n) entries
     ]).until) [ true ↦ omega (arith, moment_is) | false ↦ omega (arith, later, follow) ]
 
@@ -77,7 +77,7 @@ over_none f g (Some x) same = same x refl
 
 module _ (m : Machine) (d : ℕ) (K : State → Type 0) (tracks : CapTracks m d K) (set : List ℕ) where
   abbrev high : ℕ
-  high = core_count m.config
+  high = machine_core_count m.config
 
   -- the sums over the open legs and those that follow
   abbrev pub time_rest : CapTerm → Opens → State → ℕ → List Entry → ℕ
@@ -159,7 +159,7 @@ module _ (m : Machine) (d : ℕ) (K : State → Type 0) (tracks : CapTracks m d 
             let last : State = (after_entries m next entries).state in
             let closed : Option PlacedLeg = closed_by d n entry opens (decides d entry.event) in
             let is2 : term_from m last d percent t0 (suc n) entries ≡ term = sym (ap (λ (b : Bool). elim b as (λ _. CapTerm) [
-              | true ↦ record { from = t0; until = entry.at.0; budget = total percent; last = n; ends_by_setting = is_some (cap_set m d entry.event) }
+              | true ↦ record { from = t0; until = entry.at.0; budget = cap_budget percent; last = n; ends_by_setting = is_some (cap_set m d entry.event) }
               | false ↦ term_from m last d percent t0 (suc n) entries
             ]) stays) ∙ is in
             let starts : term.from ≡ t0 = sym (ap (λ (z : CapTerm). z.from) is2) ∙ term_starts m d last entries percent t0 (suc n) in
@@ -186,8 +186,8 @@ module _ (m : Machine) (d : ℕ) (K : State → Type 0) (tracks : CapTracks m d 
           let later = time_goes_on m from entry run.0 in
           let tracked2 = tracked_after m d n opens entry from.state next.state at later step tracked in
           let last : State = (after_entries m next entries).state in
-          let is2 : record { from = t0; until = entry.at.0; budget = total percent; last = n; ends_by_setting = is_some (cap_set m d entry.event) } ≡ term = sym (ap (λ (b : Bool). elim b as (λ _. CapTerm) [
-            | true ↦ record { from = t0; until = entry.at.0; budget = total percent; last = n; ends_by_setting = is_some (cap_set m d entry.event) }
+          let is2 : record { from = t0; until = entry.at.0; budget = cap_budget percent; last = n; ends_by_setting = is_some (cap_set m d entry.event) } ≡ term = sym (ap (λ (b : Bool). elim b as (λ _. CapTerm) [
+            | true ↦ record { from = t0; until = entry.at.0; budget = cap_budget percent; last = n; ends_by_setting = is_some (cap_set m d entry.event) }
             | false ↦ term_from m last d percent t0 (suc n) entries
           ]) ends) ∙ is in
           let starts : t0 ≡ term.from = ap (λ (z : CapTerm). z.from) is2 in
@@ -200,7 +200,7 @@ module _ (m : Machine) (d : ℕ) (K : State → Type 0) (tracks : CapTracks m d 
           let lates = closes.parts (late_of_met term) last entries in
           let disturbed = closes.parts (disturbs set term) last entries in
           let unchanged : (r : ℕ) → opens_after d n entry opens r ≡ opens r = λ r. late_is d n entry opens r None (by.0.none r) in
-          let sums = total_same high (left_over (opens_after d n entry opens) stop t0) (left_over opens stop t0) (λ r low. ap (over (λ o. above_zero (stop r -ℤ pos (max o.from t0)))) (unchanged r)) in
+          let sums = total_same high (left_over (opens_after d n entry opens) stop t0) (left_over opens stop t0) (λ r low. ap (over (λ o. positive_part (stop r -ℤ pos (max o.from t0)))) (unchanged r)) in
           let follow = over_fits entries next (suc n) (opens_after d n entry opens) stop term allowed run.1 known2 tracked2
           (λ r o there. runs_on by.1 not_set r o (sym (unchanged r) ∙ there)) (omega (arith, until, at, later)) (inr (omega (arith, last_is))) (settings_follow m d set n entry entries has)
           (subst (λ t. total_over high (left_over (opens_after d n entry opens) stop t) ≤ allowed) starts (omega (arith, sums, few))) (omega (arith, disturbed, none)) in

@@ -3,7 +3,7 @@ use Rattle.std.proofs.Common.{◌≡◌, ◌≢◌, ◌≤◌, ◌<◌, ◌+◌,
 use Rattle.std.specs.Prelude.{ℤ, pos, negsuc, ◌+ℤ◌, ◌-ℤ◌, ◌≤ℤ◌}
 use Rattle.std.proofs.Math.Decide.{ℕ_discrete}
 use Rattle.std.proofs.lemmas.Int.{ints}
-use Rattle.sched_base.specs.Credit2Numbers.{above_zero}
+use Rattle.sched_base.specs.Credit2Numbers.{positive_part}
 use Rattle.sched_laws.specs.Counts.{total_over}
 
 pub total_same : (n : ℕ) (f g : ℕ → ℕ) → ((r : ℕ) → r < n → f r ≡ g r) → total_over n f ≡ total_over n g
@@ -53,23 +53,23 @@ total_changed (suc n) i f g same high =
     ]
 
 -- a number is not above 0, or it is what is above 0 of it
-pub above : (z : ℤ) → ((above_zero z ≡ 0) × (z ≤ℤ pos 0)) ⊎ (z ≡ pos (above_zero z))
+pub above : (z : ℤ) → ((positive_part z ≡ 0) × (z ≤ℤ pos 0)) ⊎ (z ≡ pos (positive_part z))
 above (pos n) = inr refl
 above (negsuc n) = inl (refl, omega (arith, ints))
 
-pub above_most : (z : ℤ) → z ≤ℤ pos (above_zero z)
+pub above_most : (z : ℤ) → z ≤ℤ pos (positive_part z)
 above_most z = elim (above z) [ inl low ↦ (let e = low.0 in let l = low.1 in omega (arith, ints, e, l)) | inr is ↦ (let e = is in omega (arith, ints, e)) ]
 
 -- it is at most each number that is at least it and 0
-pub above_least : (z : ℤ) (n : ℕ) → z ≤ℤ pos n → above_zero z ≤ n
+pub above_least : (z : ℤ) (n : ℕ) → z ≤ℤ pos n → positive_part z ≤ n
 above_least z n le = elim (above z) [ inl low ↦ (let e = low.0 in omega (arith, e)) | inr is ↦ omega (arith, ints, is, le) ]
 
-pub above_rises : (a b : ℤ) → a ≤ℤ b → above_zero a ≤ above_zero b
-above_rises a b le = above_least a (above_zero b) (let h = above_most b in omega (arith, ints, le, h))
+pub above_rises : (a b : ℤ) → a ≤ℤ b → positive_part a ≤ positive_part b
+above_rises a b le = above_least a (positive_part b) (let h = above_most b in omega (arith, ints, le, h))
 
 -- a core that had a unit decides at t: what the unit held is used up at stop, and given back; it was on the core from a, and so late
 pub given_back : (budget given stop : ℤ) (t a late : ℕ) → stop ≡ pos t +ℤ given → a ≤ t → pos t ≤ℤ (stop +ℤ pos late)
-    → above_zero (budget +ℤ given) + (t - a) ≤ above_zero budget + above_zero (stop -ℤ pos a) + late
+    → positive_part (budget +ℤ given) + (t - a) ≤ positive_part budget + positive_part (stop -ℤ pos a) + late
 given_back budget given stop t a late is begun enough =
     let b = above_most budget in
     let s = above_most (stop -ℤ pos a) in
@@ -78,8 +78,8 @@ given_back budget given stop t a late is begun enough =
       | inr high ↦ omega (arith, ints, high, is, begun, enough, s, b)
     ]
 
-pub given_now : (budget given stop : ℤ) (t a : ℕ) → stop ≡ pos t +ℤ given → a ≡ t → above_zero (budget +ℤ given) ≤ above_zero budget + above_zero (stop -ℤ pos a)
+pub given_now : (budget given stop : ℤ) (t a : ℕ) → stop ≡ pos t +ℤ given → a ≡ t → positive_part (budget +ℤ given) ≤ positive_part budget + positive_part (stop -ℤ pos a)
 given_now budget given stop t a is e =
     let b = above_most budget in
     let s = above_most (stop -ℤ pos a) in
-    above_least (budget +ℤ given) (above_zero budget + above_zero (stop -ℤ pos a)) (omega (arith, ints, is, e, b, s))
+    above_least (budget +ℤ given) (positive_part budget + positive_part (stop -ℤ pos a)) (omega (arith, ints, is, e, b, s))

@@ -13,8 +13,8 @@ use Rattle.sched_model.specs.declared.state.Pool.{Pool}
 use Rattle.sched_model.specs.declared.state.Resource.{Resource}
 use Rattle.sched_model.specs.Places.{at_place, test_at, is_unit}
 use Rattle.sched_model.specs.EligibleUnits.{Decision}
-use Rattle.sched_model.specs.Policy.{decision_of, kind_of}
-use Rattle.sched_model.specs.Pool.{after_decide, ask_of, decided_core, lateness}
+use Rattle.sched_model.specs.Policy.{decision_of, records_kind}
+use Rattle.sched_model.specs.Pool.{after_decide, core_ask, decided_core, lateness}
 use Rattle.sched_model.specs.Machine.{after, event_of}
 use Rattle.sched_laws.proofs.Choices.{is_unit_same}
 use Rattle.sched_laws.proofs.Lists.{test_at-some, is_some_at}
@@ -42,7 +42,7 @@ module _ (m : Machine) (u : UnitId) (s : State) (n : ℕ) (k : Known m s) (d : D
   the_pool = d.acts.pool
 
   abbrev decision : Decision
-  decision = decision_of (ask_of m.config.granularity s.now d.acts.pool n d.core) d.acts.pool.scheduler
+  decision = decision_of (core_ask m.config.granularity s.now d.acts.pool n d.core) d.acts.pool.scheduler
 
   foreign : (home : ℕ) (p : Pool) → at_place s.pools home ≡ Some p → test_at p.domains u.dom.0 (λ x. true) ≡ true → d.acts.j ≢ home → is_unit decision.unit u ≡ false
   foreign home p at there ne =
@@ -131,7 +131,7 @@ module _ (m : Machine) (u : UnitId) (s : State) (n : ℕ) (k : Known m s) (d : D
 
   over_other : (r latest : ℕ) → n ≢ r → OverPool u r latest the_pool → OverPool u r latest (after_decide m.config.granularity s.now n d.core the_pool)
   over_other r latest ne a =
-      let x = is_rtds_pool decision.records (kind_decided (ask_of m.config.granularity s.now the_pool n d.core) the_pool.scheduler ∙ ap kind_of a.is_rtds) in
+      let x = is_rtds_pool decision.records (kind_decided (core_ask m.config.granularity s.now the_pool n d.core) the_pool.scheduler ∙ ap records_kind a.is_rtds) in
       record {
         there = a.there;
         domains = x.0;

@@ -15,11 +15,11 @@ use Rattle.sched_model.specs.declared.state.Records.TheVariants.{RtdsPool}
 use Rattle.sched_model.specs.Places.{at_place, test_at, is_unit}
 use Rattle.sched_model.specs.EligibleUnits.{Decision}
 use Rattle.sched_model.specs.Policy.{decision_of}
-use Rattle.sched_model.specs.Pool.{after_in, after_decide, ask_of, decision_at, lateness, is_held, is_open, first_up}
+use Rattle.sched_model.specs.Pool.{after_in, after_decide, core_ask, decision_at, lateness, is_held_back, is_gathering, is_first_processor_up}
 use Rattle.std.specs.Prelude.{◌&&◌}
 use Rattle.std.specs.List.{list_all}
 use Rattle.std.proofs.lemmas.Bool.{eq-eqb, ne_eqb}
-use Rattle.sched_model.specs.Machine.{is_enabled, home_pool, event_of}
+use Rattle.sched_model.specs.Machine.{is_action_enabled, home_pool, event_of}
 use Rattle.sched_laws.proofs.Kept.{IsApart}
 use Rattle.sched_laws.proofs.Lists.{some-test_at}
 use Rattle.term_laws.specs.RtdsTerm.{late_of, taken_by}
@@ -117,21 +117,21 @@ pub record Decides (m : Machine) (s : State) (t n : ℕ) : Type 0 where
   pub core : Resource
   pub has : at_place acts.pool.resources n ≡ Some core
   pub next : after_in m.config.granularity t acts.pool (Decide (core_number n)) ≡ after_decide m.config.granularity t n core acts.pool
-  pub unit : decision_of (ask_of m.config.granularity t acts.pool n core) acts.pool.scheduler ≡ decision_at m.config.granularity t (home_pool m s (Decide (core_number n))) n
+  pub unit : decision_of (core_ask m.config.granularity t acts.pool n core) acts.pool.scheduler ≡ decision_at m.config.granularity t (home_pool m s (Decide (core_number n))) n
   pub late : late_of n (event_of m s t (Decide (core_number n))) ≡ Some (lateness t core)
 
-pub decides : (m : Machine) (s : State) (t n : ℕ) → is_enabled m s t (Decide (core_number n)) ≡ true → Decides m s t n
+pub decides : (m : Machine) (s : State) (t n : ℕ) → is_action_enabled m s t (Decide (core_number n)) ≡ true → Decides m s t n
 decides m s t n on =
     let g = m.config.granularity in
     let a = acts_in m s t (Decide (core_number n)) on in
-    let x = some-test_at a.pool.resources n (λ c. list_all is_held c.processors && is_open c && first_up t c) a.enabled in
+    let x = some-test_at a.pool.resources n (λ c. list_all is_held_back c.processors && is_gathering c && is_first_processor_up t c) a.enabled in
     let there : at_place (home_pool m s (Decide (core_number n))).resources n ≡ Some x.0 = ap (λ (p : Pool). at_place p.resources n) a.pool_is ∙ x.1 in
     record {
       acts = a;
       core = x.0;
       has = x.1;
       next = ap (λ (o : Option Resource). elim o as (λ _. Pool) [ None ↦ a.pool | Some c ↦ after_decide g t n c a.pool ]) x.1;
-      unit = sym (ap (λ (p : Pool). decision_at g t p n) a.pool_is ∙ ap (λ (o : Option Resource). elim o as (λ _. Decision) [ None ↦ record { unit = None; due = None; reset = 0; records = a.pool.scheduler.records } | Some c ↦ decision_of (ask_of g t a.pool n c) a.pool.scheduler ]) x.1);
+      unit = sym (ap (λ (p : Pool). decision_at g t p n) a.pool_is ∙ ap (λ (o : Option Resource). elim o as (λ _. Decision) [ None ↦ record { unit = None; due = None; reset = 0; records = a.pool.scheduler.records } | Some c ↦ decision_of (core_ask g t a.pool n c) a.pool.scheduler ]) x.1);
       late = ap (λ (b : Bool). cond b (Some (elim (at_place (home_pool m s (Decide (core_number n))).resources n) as (λ _. Span) [ None ↦ span 0 | Some c ↦ span (lateness t c) ]).0) None) (eq-eqb n n refl)
           ∙ ap (λ (o : Option Resource). Some (elim o as (λ _. Span) [ None ↦ span 0 | Some c ↦ span (lateness t c) ]).0) there;
     }

@@ -2,7 +2,7 @@
 use Rattle.std.proofs.Common.{◌≡◌, ◌≢◌, ◌≤◌, ◌<◌, ◌+◌, ℕ, zero, suc, List, [], ◌∷◌, refl, arith, ap, ◌∙◌, cond}
 use Rattle.std.specs.Prelude.{Option, Some, None, is_some, slice_get, sum_by}
 use Rattle.std.proofs.lemmas.List.Sums.{sum_by-cons}
-use Rattle.sched_base.specs.Credit2Numbers.{above_zero}
+use Rattle.sched_base.specs.Credit2Numbers.{positive_part}
 use Rattle.sched_model.specs.declared.state.Credit2Unit.{Credit2Unit}
 use Rattle.sched_model.specs.Places.{change_item}
 use Rattle.sched_laws.specs.Counts.{over, total_over}
@@ -13,11 +13,11 @@ use Rattle.state_ranges.specs.Ranges.{held_running}
 abbrev idle : Credit2Unit → Credit2Unit
 idle x = record x { burned = None }
 
-without_one : (units : List Credit2Unit) (i : ℕ) (z : Credit2Unit) (b : ℕ) → slice_get units i ≡ Some z → z.burned ≡ Some b → sum_by held_running (change_item i idle units) + above_zero z.held ≡ sum_by held_running units
+without_one : (units : List Credit2Unit) (i : ℕ) (z : Credit2Unit) (b : ℕ) → slice_get units i ≡ Some z → z.burned ≡ Some b → sum_by held_running (change_item i idle units) + positive_part z.held ≡ sum_by held_running units
 without_one [] i z b at runs = absurd (cc)
 without_one (x ∷ units) zero z b at runs =
     let e : x ≡ z = cc in
-    let here : held_running x ≡ above_zero z.held = ap held_running e ∙ ap (λ (o : Option ℕ). cond (is_some o) (above_zero z.held) 0) runs in
+    let here : held_running x ≡ positive_part z.held = ap held_running e ∙ ap (λ (o : Option ℕ). cond (is_some o) (positive_part z.held) 0) runs in
     let a = sum_by-cons held_running x units in
     let c = sum_by-cons held_running (idle x) units in
     omega (arith, a, c, here)
@@ -40,7 +40,7 @@ pub record Holds (units : List Credit2Unit) (n least : ℕ) : Type 0 where
   pub at : slice_get units n ≡ Some unit
   pub from : ℕ
   pub runs : unit.burned ≡ Some from
-  pub enough : least ≤ above_zero unit.held
+  pub enough : least ≤ positive_part unit.held
 
 pub held_at_least : (cores : ℕ) (opens : Opens) (least : ℕ → OpenLeg → ℕ) (units : List Credit2Unit)
     → ((r : ℕ) (o : OpenLeg) → r < cores → opens r ≡ Some o → Holds units o.unit (least r o))

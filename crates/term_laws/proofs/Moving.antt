@@ -14,10 +14,10 @@ use Rattle.sched_model.specs.declared.state.Pool.{Pool}
 use Rattle.sched_model.specs.declared.state.Domain.{Domain}
 use Rattle.sched_model.specs.declared.state.Resource.{Resource}
 use Rattle.sched_model.specs.Places.{at_place, test_at, change_at, numbered_items}
-use Rattle.sched_model.specs.Pool.{settled_pool, without_domain, with_domain, is_of_domain, reconsidered_core, home_cores}
-use Rattle.sched_model.specs.Policy.{default_dom_params}
-use Rattle.sched_model.specs.Actions.{home_of_domain, change_pool}
-use Rattle.sched_model.specs.Machine.{after, event_of, after_dom_moved, left_by, joined_by, is_null}
+use Rattle.sched_model.specs.Pool.{settled_pool, pool_without_domain, pool_with_domain, is_domain_unit, reconsidered_core, pool_core_set}
+use Rattle.sched_model.specs.Policy.{standard_dom_params}
+use Rattle.sched_model.specs.Actions.{home_pool_of_domain, change_pool}
+use Rattle.sched_model.specs.Machine.{after, event_of, after_dom_moved, left_by, joined_by, is_null_pool}
 use Rattle.sched_laws.proofs.EachPlace.{by_option, by_cond, at_place-change_each}
 use Rattle.sched_base.proofs.Bools.{and_left, and_right, or_left}
 use Rattle.sched_laws.proofs.Lists.{test_at-some, some-test_at, none_passes, at_numbered}
@@ -43,20 +43,20 @@ abbrev pub CoresKeep : (Pool → Pool) → Type 0
 CoresKeep f = (p : Pool) (r : ℕ) → cur_in (at_place (f p).resources r) ≡ cur_in (at_place p.resources r)
 
 settled_keeps : (t : ℕ) → CoresKeep (settled_pool t)
-settled_keeps t p r = ap cur_in (at_place-change_each 0 r (reconsidered_core t (home_cores p) p.scheduler) p.resources) ∙ there (at_place p.resources r)
+settled_keeps t p r = ap cur_in (at_place-change_each 0 r (reconsidered_core t (pool_core_set p) p.scheduler) p.resources) ∙ there (at_place p.resources r)
   where
-    there : (o : Option Resource) → cur_in (option_map (reconsidered_core t (home_cores p) p.scheduler (0 + r)) o) ≡ cur_in o
+    there : (o : Option Resource) → cur_in (option_map (reconsidered_core t (pool_core_set p) p.scheduler (0 + r)) o) ≡ cur_in o
     there None = refl
     there (Some c) = by_cond (λ (y : Resource). y.cur ≡ c.cur) c.leaving _ _ (λ is. refl) (λ is. refl)
 
 pub left_keeps : (t d : ℕ) → CoresKeep (left_by t d)
 left_keeps t d p r =
-    by_cond (λ (q : Pool). cur_in (at_place q.resources r) ≡ cur_in (at_place p.resources r)) (is_null p.scheduler.records) (settled_pool t (without_domain d p)) (without_domain d p) (λ is. settled_keeps t (without_domain d p) r) (λ is. refl)
+    by_cond (λ (q : Pool). cur_in (at_place q.resources r) ≡ cur_in (at_place p.resources r)) (is_null_pool p.scheduler.records) (settled_pool t (pool_without_domain d p)) (pool_without_domain d p) (λ is. settled_keeps t (pool_without_domain d p) r) (λ is. refl)
 
 pub joined_keeps : (g t d : ℕ) (domain : Domain) → CoresKeep (joined_by g t d domain)
 joined_keeps g t d domain p r =
-    settled_keeps t (with_domain g t d (record domain { moving = None }) (default_dom_params p.scheduler.records) p) r
-    ∙ ap (λ (cores : List (Option Resource)). cur_in (at_place cores r)) (with_domain-resources g t d (record domain { moving = None }) (default_dom_params p.scheduler.records) p)
+    settled_keeps t (pool_with_domain g t d (record domain { moving = None }) (standard_dom_params p.scheduler.records) p) r
+    ∙ ap (λ (cores : List (Option Resource)). cur_in (at_place cores r)) (with_domain-resources g t d (record domain { moving = None }) (standard_dom_params p.scheduler.records) p)
 
 -- each pool after the change was there before, with the units on its cores
 abbrev CameFrom : State → State → Type 0
@@ -84,7 +84,7 @@ came_changed s mid j f keeps came i q at =
 
 pub came_moved : (g t d : ℕ) (s : State) → CameFrom s (after_dom_moved g t d s)
 came_moved g t d s =
-    by_option (CameFrom s) (home_of_domain s d) _ _ (λ is. came_same s)
+    by_option (CameFrom s) (home_pool_of_domain s d) _ _ (λ is. came_same s)
     (λ i is. by_option (CameFrom s) (at_place s.pools i) _ _ (λ is2. came_same s)
     (λ pool is2. by_option (CameFrom s) (at_place pool.domains d) _ _ (λ is3. came_same s)
     (λ domain is3. by_option (CameFrom s) domain.moving _ _ (λ is4. came_same s)
@@ -94,12 +94,12 @@ came_moved g t d s =
 pub mover : (m : Machine) (s : State) (d : ℕ) (a : ActsIn m s s.now (DomMoved (domain_number d))) → (x : Domain) × (at_place a.pool.domains d ≡ Some x) × (is_some x.moving ≡ true)
 mover m s d a = some-test_at a.pool.domains d (λ domain. is_some domain.moving) (and_left (test_at a.pool.domains d (λ domain. is_some domain.moving)) _ a.enabled)
 
-pub mover_off : (m : Machine) (s : State) (d : ℕ) (a : ActsIn m s s.now (DomMoved (domain_number d))) (r : ℕ) (c : Resource) → at_place a.pool.resources r ≡ Some c → is_of_domain d c.cur ≡ false
+pub mover_off : (m : Machine) (s : State) (d : ℕ) (a : ActsIn m s s.now (DomMoved (domain_number d))) (r : ℕ) (c : Resource) → at_place a.pool.resources r ≡ Some c → is_domain_unit d c.cur ≡ false
 mover_off m s d a r c at =
-    let passes : ℕ × Resource → Bool = λ e. is_of_domain d e.1.cur || is_of_domain d e.1.saving in
-    let none = at_numbered (λ (x : Resource). (is_of_domain d x.cur || is_of_domain d x.saving) ≡ false) 0 a.pool.resources
+    let passes : ℕ × Resource → Bool = λ e. is_domain_unit d e.1.cur || is_domain_unit d e.1.saving in
+    let none = at_numbered (λ (x : Resource). (is_domain_unit d x.cur || is_domain_unit d x.saving) ≡ false) 0 a.pool.resources
     (none_passes passes (numbered_items 0 a.pool.resources) (not-true (list_any passes (numbered_items 0 a.pool.resources)) (and_right (test_at a.pool.domains d (λ domain. is_some domain.moving)) _ a.enabled))) in
-    or_left (is_of_domain d c.cur) (is_of_domain d c.saving) (none r c at)
+    or_left (is_domain_unit d c.cur) (is_domain_unit d c.saving) (none r c at)
 
 module _ (m : Machine) (u : UnitId) (s : State) (d : ℕ) (k : Known m s) (a : ActsIn m s s.now (DomMoved (domain_number d))) (at : Moment) where
   abbrev pub moved_entry : Entry
@@ -116,7 +116,7 @@ module _ (m : Machine) (u : UnitId) (s : State) (d : ℕ) (k : Known m s) (a : A
   nobody : d ≡ u.dom.0 → (r : ℕ) → cur_in (at_place a.pool.resources r) ≡ Some u → ⊥
   nobody e r is =
       let c = cur_core (at_place a.pool.resources r) u is in
-      let off : is_of_domain d (Some u) ≡ false = subst (λ o. is_of_domain d o ≡ false) c.2 (mover_off m s d a r c.0 c.1) in
+      let off : is_domain_unit d (Some u) ≡ false = subst (λ o. is_domain_unit d o ≡ false) c.2 (mover_off m s d a r c.0 c.1) in
       let on : (u.dom.0 == d) ≡ true = eq-eqb u.dom.0 d (sym e) in
       cc
 

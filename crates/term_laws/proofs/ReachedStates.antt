@@ -10,7 +10,7 @@ use Rattle.sched_model.specs.declared.state.Pool.{Pool}
 use Rattle.sched_model.specs.Places.{at_place}
 use Rattle.sched_model.specs.CheckedMachine.{IsChecked}
 use Rattle.sched_model.specs.Machine.{after}
-use Rattle.sched_model.specs.Runs.{Reached, action_of, end_of, after_quiet, after_event, after_entry, after_entries, run_start, IsNext, IsRun}
+use Rattle.sched_model.specs.Runs.{Reached, event_action, named_next_moment, after_quiet, after_event, after_entry, after_entries, run_start, IsNext, IsRun}
 use Rattle.sched_laws.proofs.Kept.{IsApart}
 use Rattle.sched_laws.specs.PoolFacts.{UnitsAreOwn}
 use Rattle.sched_laws.specs.PoolFacts.{OnePlace}
@@ -31,7 +31,7 @@ pub reached_opening : (m : Machine) → IsReached m (run_start m).state
 reached_opening m = record { before = []; run = tt; leads = refl }
 
 pub reached_next : (m : Machine) (from : Reached) (entry : Entry) → IsNext m from entry → IsReached m from.state → IsReached m (after_entry m from entry).state
-reached_next m from entry next r = go_event (action_of entry.event) (after_entries-append m (run_start m) r.before entry ∙ ap (λ (f : Reached). after_entry m f entry) here)
+reached_next m from entry next r = go_event (event_action entry.event) (after_entries-append m (run_start m) r.before entry ∙ ap (λ (f : Reached). after_entry m f entry) here)
   where
     here : after_entries m (run_start m) r.before ≡ from
     here = r.leads ∙ sym (ap (λ (b : Bool). record { state = from.state; over = b }) next.goes_on)
@@ -44,7 +44,7 @@ reached_next m from entry next r = go_event (action_of entry.event) (after_entri
     go_quiet (Some n) leads = record { before = r.before ++ entry ∷ []; run = run; leads = leads ∙ ap (λ (b : Bool). record { state = record from.state { now = n }; over = b }) next.goes_on }
 
     go_event : (o : Option Action) → after_entries m (run_start m) (r.before ++ entry ∷ []) ≡ after_event m entry.event o from → IsReached m (after_event m entry.event o from).state
-    go_event None leads = go_quiet (end_of entry.event) leads
+    go_event None leads = go_quiet (named_next_moment entry.event) leads
     go_event (Some action) leads = record { before = r.before ++ entry ∷ []; run = run; leads = leads ∙ ap (λ (b : Bool). record { state = after m from.state from.state.now action; over = b }) next.goes_on }
 
 -- what is known of a state that a run leads to

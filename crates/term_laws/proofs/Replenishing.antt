@@ -15,12 +15,12 @@ use Rattle.sched_model.specs.declared.state.Resource.{Resource}
 use Rattle.sched_model.specs.declared.state.RtdsUnit.{RtdsUnit}
 use Rattle.sched_model.specs.declared.state.Records.{Records}
 use Rattle.sched_model.specs.declared.state.Records.TheVariants.{RtdsPool}
-use Rattle.sched_model.specs.Places.{at_place, test_at, change_at, same_unit, has_unit}
-use Rattle.sched_model.specs.EligibleUnits.{rtds_unit}
+use Rattle.sched_model.specs.Places.{at_place, test_at, change_at, same_unit, has_listed_unit}
+use Rattle.sched_model.specs.EligibleUnits.{rtds_unit_at}
 use Rattle.sched_model.specs.Policy as policy
-use Rattle.sched_model.specs.Policy.{kind_of, rtds_record}
+use Rattle.sched_model.specs.Policy.{records_kind, unit_rtds_record}
 use Rattle.sched_model.specs.Rtds as rtds
-use Rattle.sched_model.specs.Pool.{after_replenish, due_within, core_of, with_records, lowest_up, replenished_unit}
+use Rattle.sched_model.specs.Pool.{after_replenish, due_within, unit_core, with_records, is_lowest_processor_up, replenished_unit}
 use Rattle.sched_model.specs.Machine.{after, home_pool, event_of}
 use Rattle.sched_laws.proofs.EachPlace.{by_option, found_at}
 use Rattle.sched_base.proofs.Bools.{and_left, and_right}
@@ -71,9 +71,9 @@ due_falls u n t budget due cores r at =
 
 module _ (t : ℕ) (v : UnitId) (p : Pool) where
   -- what the cores of the pool keep
-  by_cores : (Q : Pool → Type 0) → Q (with_records (policy.replenish p.scheduler.records t v) p) → ((n : ℕ) (budget : ℕ) → Q (record (with_records (policy.replenish p.scheduler.records t v) p) { resources = change_at n (due_within t budget) p.resources })) → Q (after_replenish t v p)
+  by_cores : (Q : Pool → Type 0) → Q (with_records (policy.records_after_replenish p.scheduler.records t v) p) → ((n : ℕ) (budget : ℕ) → Q (record (with_records (policy.records_after_replenish p.scheduler.records t v) p) { resources = change_at n (due_within t budget) p.resources })) → Q (after_replenish t v p)
   by_cores Q here changed =
-      by_option Q (core_of p v) _ _ (λ none. here) (λ n found. by_option Q (rtds_record (policy.replenish p.scheduler.records t v) v) _ _ (λ none. here) (λ x is. changed n x.budget))
+      by_option Q (unit_core p v) _ _ (λ none. here) (λ n found. by_option Q (unit_rtds_record (policy.records_after_replenish p.scheduler.records t v) v) _ _ (λ none. here) (λ x is. changed n x.budget))
 
   replenished_curs : (r : ℕ) → cur_in (at_place (after_replenish t v p).resources r) ≡ cur_in (at_place p.resources r)
   replenished_curs r = by_cores (λ (q : Pool). cur_in (at_place q.resources r) ≡ cur_in (at_place p.resources r)) refl (λ n budget. due_keeps_cur n t budget p.resources r)
@@ -81,8 +81,8 @@ module _ (t : ℕ) (v : UnitId) (p : Pool) where
   replenished_due : (u : UnitId) (r due : ℕ) → seen (at_place p.resources r) ≡ Some (u, Some (moment due)) → (due2 : ℕ) × (seen (at_place (after_replenish t v p).resources r) ≡ Some (u, Some (moment due2))) × (due2 ≤ due)
   replenished_due u r due at = by_cores (λ (q : Pool). (due2 : ℕ) × (seen (at_place q.resources r) ≡ Some (u, Some (moment due2))) × (due2 ≤ due)) (due, at, omega arith) (λ n budget. due_falls u n t budget due p.resources r at)
 
-  replenished_records : (after_replenish t v p).scheduler.records ≡ policy.replenish p.scheduler.records t v
-  replenished_records = by_cores (λ (q : Pool). q.scheduler.records ≡ policy.replenish p.scheduler.records t v) refl (λ n budget. refl)
+  replenished_records : (after_replenish t v p).scheduler.records ≡ policy.records_after_replenish p.scheduler.records t v
+  replenished_records = by_cores (λ (q : Pool). q.scheduler.records ≡ policy.records_after_replenish p.scheduler.records t v) refl (λ n budget. refl)
 
   replenished_domains : (after_replenish t v p).domains ≡ p.domains
   replenished_domains = by_cores (λ (q : Pool). q.domains ≡ p.domains) refl (λ n budget. refl)
@@ -97,8 +97,8 @@ module _ (t : ℕ) (v : UnitId) (p : Pool) where
       let less = due.2 in
       record {
         there = there_after u a.there;
-        domains = rtds.change_unit v (rtds.replenish t) a.domains;
-        is_rtds = replenished_records ∙ ap (λ (x : Records). policy.replenish x t v) a.is_rtds;
+        domains = rtds.change_unit v (rtds.unit_after_replenish t) a.domains;
+        is_rtds = replenished_records ∙ ap (λ (x : Records). policy.records_after_replenish x t v) a.is_rtds;
         due = due.0;
         at = due.1;
         low = omega (arith, low, less);
@@ -108,21 +108,21 @@ module _ (t : ℕ) (v : UnitId) (p : Pool) where
   off_home_replenished u a = record { there = there_after u a.there; none = λ r is. a.none r (sym (replenished_curs r) ∙ is) }
 
   -- the unit's record stays charged
-  charged_still : (u : UnitId) (domains : List (Option (List RtdsUnit))) → ((x : RtdsUnit) → rtds_unit domains u ≡ Some x → (b : ℕ) × (x.burned ≡ Some b))
-      → (x : RtdsUnit) → rtds_unit (rtds.change_unit v (rtds.replenish t) domains) u ≡ Some x → (b : ℕ) × (x.burned ≡ Some b)
+  charged_still : (u : UnitId) (domains : List (Option (List RtdsUnit))) → ((x : RtdsUnit) → rtds_unit_at domains u ≡ Some x → (b : ℕ) × (x.burned ≡ Some b))
+      → (x : RtdsUnit) → rtds_unit_at (rtds.change_unit v (rtds.unit_after_replenish t) domains) u ≡ Some x → (b : ℕ) × (x.burned ≡ Some b)
   charged_still u domains burned x at =
       elim (same_unit v u) as (λ b. same_unit v u ≡ b → (b : ℕ) × (x.burned ≡ Some b)) [
         | true ↦ λ is. (
-            let at2 : rtds_unit (rtds.change_unit u (rtds.replenish t) domains) u ≡ Some x = subst (λ w. rtds_unit (rtds.change_unit w (rtds.replenish t) domains) u ≡ Some x) (same_unit_same v u is) at in
-            own (rtds_unit domains u) refl at2)
-        | false ↦ λ is. burned x (sym (rtds_unit-other v u (rtds.replenish t) domains is) ∙ at)
+            let at2 : rtds_unit_at (rtds.change_unit u (rtds.unit_after_replenish t) domains) u ≡ Some x = subst (λ w. rtds_unit_at (rtds.change_unit w (rtds.unit_after_replenish t) domains) u ≡ Some x) (same_unit_same v u is) at in
+            own (rtds_unit_at domains u) refl at2)
+        | false ↦ λ is. burned x (sym (rtds_unit-other v u (rtds.unit_after_replenish t) domains is) ∙ at)
       ] refl
     where
-      own : (o : Option RtdsUnit) → rtds_unit domains u ≡ o → rtds_unit (rtds.change_unit u (rtds.replenish t) domains) u ≡ Some x → (b : ℕ) × (x.burned ≡ Some b)
-      own None is at2 = absurd (let e : Some x ≡ None = sym at2 ∙ rtds_unit-none u (rtds.replenish t) domains is in cc)
+      own : (o : Option RtdsUnit) → rtds_unit_at domains u ≡ o → rtds_unit_at (rtds.change_unit u (rtds.unit_after_replenish t) domains) u ≡ Some x → (b : ℕ) × (x.burned ≡ Some b)
+      own None is at2 = absurd (let e : Some x ≡ None = sym at2 ∙ rtds_unit-none u (rtds.unit_after_replenish t) domains is in cc)
       own (Some y) is at2 =
-          let e : Some x ≡ Some (rtds.replenish t y) = sym at2 ∙ rtds_unit-same u (rtds.replenish t) domains y is in
-          let e2 : x ≡ rtds.replenish t y = cc in
+          let e : Some x ≡ Some (rtds.unit_after_replenish t y) = sym at2 ∙ rtds_unit-same u (rtds.unit_after_replenish t) domains y is in
+          let e2 : x ≡ rtds.unit_after_replenish t y = cc in
           let b = burned y is in
           (t, ap (λ (z : RtdsUnit). z.burned) e2 ∙ burned_to b.0 t y b.1)
 
@@ -133,18 +133,18 @@ module _ (t : ℕ) (v : UnitId) (p : Pool) where
         on = replenished_curs r ∙ a.on;
         only = λ n is. a.only n (sym (replenished_curs n) ∙ is);
         charges = λ domains2 is2. (
-            let d = is_rtds_pool p.scheduler.records (sym (same_replenish kind_of (λ a b. refl) (λ a b. refl) p.scheduler.records t v) ∙ ap kind_of (sym replenished_records ∙ is2)) in
+            let d = is_rtds_pool p.scheduler.records (sym (same_replenish records_kind (λ a b. refl) (λ a b. refl) p.scheduler.records t v) ∙ ap records_kind (sym replenished_records ∙ is2)) in
             let h = a.charges d.0 d.1 in
-            let e : rtds.change_unit v (rtds.replenish t) d.0 ≡ domains2 = rtds_same _ domains2 (sym (ap (λ (x : Records). policy.replenish x t v) d.1) ∙ sym replenished_records ∙ is2) in
+            let e : rtds.change_unit v (rtds.unit_after_replenish t) d.0 ≡ domains2 = rtds_same _ domains2 (sym (ap (λ (x : Records). policy.records_after_replenish x t v) d.1) ∙ sym replenished_records ∙ is2) in
             let due = replenished_due u r h.due.0 h.due.1 in
-            record { burned = λ x at. charged_still u d.0 h.burned x (subst (λ ds. rtds_unit ds u ≡ Some x) (sym e) at); due = (due.0, due.1) });
+            record { burned = λ x at. charged_still u d.0 h.burned x (subst (λ ds. rtds_unit_at ds u ≡ Some x) (sym e) at); due = (due.0, due.1) });
       }
 
 -- a unit whose replenishment is due has an RTDS record
-is_due_rtds : (u : UnitId) (t : ℕ) (records : Records) → policy.replenish_due records t u ≡ true → (domains : List (Option (List RtdsUnit))) × (records ≡ RtdsPool domains) × (x : RtdsUnit) × (rtds_unit domains u ≡ Some x) × (x.deadline ≤ t)
-is_due_rtds u t (RtdsPool domains) is = go (rtds_unit domains u) refl is
+is_due_rtds : (u : UnitId) (t : ℕ) (records : Records) → policy.is_replenish_due records t u ≡ true → (domains : List (Option (List RtdsUnit))) × (records ≡ RtdsPool domains) × (x : RtdsUnit) × (rtds_unit_at domains u ≡ Some x) × (x.deadline ≤ t)
+is_due_rtds u t (RtdsPool domains) is = go (rtds_unit_at domains u) refl is
   where
-    go : (o : Option RtdsUnit) → rtds_unit domains u ≡ o → elim o as (λ _. Bool) [ None ↦ false | Some x ↦ nat_le x.deadline t ] ≡ true → (domains2 : List (Option (List RtdsUnit))) × (RtdsPool domains ≡ RtdsPool domains2) × (x : RtdsUnit) × (rtds_unit domains2 u ≡ Some x) × (x.deadline ≤ t)
+    go : (o : Option RtdsUnit) → rtds_unit_at domains u ≡ o → elim o as (λ _. Bool) [ None ↦ false | Some x ↦ nat_le x.deadline t ] ≡ true → (domains2 : List (Option (List RtdsUnit))) × (RtdsPool domains ≡ RtdsPool domains2) × (x : RtdsUnit) × (rtds_unit_at domains2 u ≡ Some x) × (x.deadline ≤ t)
     go None e is2 = absurd (cc)
     go (Some x) e is2 = (domains, refl, x, e, grind (arith, is2))
 is_due_rtds u t any is = absurd (cc)
@@ -157,8 +157,8 @@ module _ (m : Machine) (u : UnitId) (s : State) (v : UnitId) (k : Known m s) (a 
   repl_next = after m s s.now (Repl v)
 
   -- the replenishment is due
-  due_here : policy.replenish_due a.pool.scheduler.records s.now v ≡ true
-  due_here = and_right (has_unit a.pool.scheduler.queue v || is_some (core_of a.pool v)) (policy.replenish_due a.pool.scheduler.records s.now v) (and_left ((has_unit a.pool.scheduler.queue v || is_some (core_of a.pool v)) && policy.replenish_due a.pool.scheduler.records s.now v) (lowest_up s.now a.pool) a.enabled)
+  due_here : policy.is_replenish_due a.pool.scheduler.records s.now v ≡ true
+  due_here = and_right (has_listed_unit a.pool.scheduler.queue v || is_some (unit_core a.pool v)) (policy.is_replenish_due a.pool.scheduler.records s.now v) (and_left ((has_listed_unit a.pool.scheduler.queue v || is_some (unit_core a.pool v)) && policy.is_replenish_due a.pool.scheduler.records s.now v) (is_lowest_processor_up s.now a.pool) a.enabled)
 
   -- the pool has the domain of the unit that is replenished
   pub there_here : test_at a.pool.domains v.dom.0 (λ x. true) ≡ true
@@ -187,16 +187,16 @@ module _ (m : Machine) (u : UnitId) (s : State) (v : UnitId) (k : Known m s) (a 
 
   module _ (deadline left : ℕ) where
     -- the unit's own replenishment comes when its term is over
-    own_term_over : (w : PoolHas (λ p. (domains : List (Option (List RtdsUnit))) × (p.scheduler.records ≡ RtdsPool domains) × (x : RtdsUnit) × (rtds_unit domains u ≡ Some x) × (x.deadline ≡ deadline) × (test_at p.domains u.dom.0 (λ x. true) ≡ true)) s)
+    own_term_over : (w : PoolHas (λ p. (domains : List (Option (List RtdsUnit))) × (p.scheduler.records ≡ RtdsPool domains) × (x : RtdsUnit) × (rtds_unit_at domains u ≡ Some x) × (x.deadline ≡ deadline) × (test_at p.domains u.dom.0 (λ x. true) ≡ true)) s)
         → same_unit v u ≡ true → deadline ≤ s.now
     own_term_over w is =
         let e : v ≡ u = same_unit_same v u is in
         let there : test_at a.pool.domains u.dom.0 (λ x. true) ≡ true = subst (λ (x : UnitId). test_at a.pool.domains x.dom.0 (λ y. true) ≡ true) e there_here in
         let j = one_home s a.j w.home a.pool w.pool u.dom.0 k.apart a.at w.at there w.has.5 in
         let same : a.pool ≡ w.pool = home_pools_same s a.j w.home a.pool w.pool a.at w.at j in
-        let due = is_due_rtds u s.now a.pool.scheduler.records (subst (λ x. policy.replenish_due a.pool.scheduler.records s.now x ≡ true) e due_here) in
+        let due = is_due_rtds u s.now a.pool.scheduler.records (subst (λ x. policy.is_replenish_due a.pool.scheduler.records s.now x ≡ true) e due_here) in
         let ds : due.0 ≡ w.has.0 = rtds_same due.0 w.has.0 (sym due.1 ∙ ap (λ (p : Pool). p.scheduler.records) same ∙ w.has.1) in
-        let unit : Some due.2 ≡ Some w.has.2 = sym due.3 ∙ ap (λ x. rtds_unit x u) ds ∙ w.has.3 in
+        let unit : Some due.2 ≡ Some w.has.2 = sym due.3 ∙ ap (λ x. rtds_unit_at x u) ds ∙ w.has.3 in
         let unit2 : due.2 ≡ w.has.2 = cc in
         let d1 : due.2.deadline ≡ w.has.2.deadline = ap (λ (x : RtdsUnit). x.deadline) unit2 in
         let d2 = w.has.4 in
@@ -226,15 +226,15 @@ module _ (m : Machine) (u : UnitId) (s : State) (v : UnitId) (k : Known m s) (a 
 -- a term opens
 module _ (m : Machine) (u : UnitId) (s : State) (k : Known m s) (a : ActsIn m s s.now (Repl u)) (at : ℕ) (entries : List Entry) (term : Term) (moment_is : at ≡ s.now)
     (opens : opened_by u at (event_of m s s.now (Repl u)) entries ≡ Some term) (plain : term.extra ≡ false) where
-  pub the_due : (domains : List (Option (List RtdsUnit))) × (a.pool.scheduler.records ≡ RtdsPool domains) × (x : RtdsUnit) × (rtds_unit domains u ≡ Some x) × (x.deadline ≤ s.now)
+  pub the_due : (domains : List (Option (List RtdsUnit))) × (a.pool.scheduler.records ≡ RtdsPool domains) × (x : RtdsUnit) × (rtds_unit_at domains u ≡ Some x) × (x.deadline ≤ s.now)
   the_due = is_due_rtds u s.now a.pool.scheduler.records (due_here m u s u k a (moment at))
 
   abbrev pub the_unit : RtdsUnit
-  the_unit = rtds.replenish s.now the_due.2
+  the_unit = rtds.unit_after_replenish s.now the_due.2
 
   printed : replenished_unit s.now u (home_pool m s (Repl u)) ≡ Some the_unit
   printed =
-      ap (λ (p : Pool). replenished_unit s.now u p) a.pool_is ∙ ap (λ (x : Records). rtds_record (policy.replenish x s.now u) u) the_due.1 ∙ rtds_unit-same u (rtds.replenish s.now) the_due.0 the_due.2 the_due.3
+      ap (λ (p : Pool). replenished_unit s.now u p) a.pool_is ∙ ap (λ (x : Records). unit_rtds_record (policy.records_after_replenish x s.now u) u) the_due.1 ∙ rtds_unit-same u (rtds.unit_after_replenish s.now) the_due.0 the_due.2 the_due.3
 
   -- the term that the printed fields tell of
   abbrev told : Option RtdsUnit → Term

@@ -15,26 +15,26 @@ use Rattle.sched_model.specs.declared.state.Pool.{Pool}
 use Rattle.sched_model.specs.declared.state.Records.{Records}
 use Rattle.sched_model.specs.declared.state.RtdsUnit.{RtdsUnit}
 use Rattle.sched_model.specs.declared.state.Records.TheVariants.{RtdsPool, Credit2Pool}
-use Rattle.sched_model.specs.EligibleUnits.{rtds_unit}
+use Rattle.sched_model.specs.EligibleUnits.{rtds_unit_at}
 use Rattle.sched_model.specs.Policy as policy
-use Rattle.sched_model.specs.Policy.{kind_of}
+use Rattle.sched_model.specs.Policy.{records_kind}
 use Rattle.sched_model.specs.Rtds as rtds
 use Rattle.sched_model.specs.declared.action.Action.{Action}
-use Rattle.sched_model.specs.Pool.{set_params, set_pending}
-use Rattle.sched_model.specs.Commands.{is_kind}
-use Rattle.sched_model.specs.Machine.{after, verdict}
+use Rattle.sched_model.specs.Pool.{changed_pool, pending_core}
+use Rattle.sched_model.specs.Commands.{is_same_kind}
+use Rattle.sched_model.specs.Machine.{after, line_verdict}
 use Rattle.sched_laws.proofs.EachPlace.{by_cond}
 use Rattle.term_laws.proofs.AtHome.{HoldsAt, KeptAtHome, IsNoDom, at_after, IfOk}
 use Rattle.sched_laws.proofs.Events.{KeptByCommands, kept_by_parts, kept_processor, kept_set_leaving, kept_withdrawn, kept_pause, kept_unpause}
 use Rattle.term_laws.proofs.SamePool.{Same, same_of, cur_in, IsPlain, charged, same_trans, same_change_each, same_settled, same_parts, same_commands, same_change_domain}
 use Rattle.sched_model.specs.Places.{same_unit}
 use Rattle.sched_base.specs.declared.DomId.{DomId}
-use Rattle.sched_model.specs.Pool.{is_of_domain}
+use Rattle.sched_model.specs.Pool.{is_domain_unit}
 use Rattle.sched_laws.proofs.EachPlace.{at_place-change_each}
 use Rattle.std.specs.Prelude.{Result, slice_set}
 use Rattle.sched_model.specs.declared.event.Refusal.{Refusal}
-use Rattle.sched_model.specs.Opening.{fresh_core}
-use Rattle.sched_model.specs.Machine.{is_enabled}
+use Rattle.sched_model.specs.Opening.{joined_core}
+use Rattle.sched_model.specs.Machine.{is_action_enabled}
 use Rattle.sched_laws.proofs.Kept.{IsApart}
 use Rattle.sched_laws.proofs.Records.{IsNoFrame, same_changed}
 use Rattle.sched_model.specs.declared.config.Frame.{Frame}
@@ -44,48 +44,48 @@ use Rattle.sched_laws.proofs.RtdsUnits.{rtds_unit-same, rtds_unit-none, rtds_uni
 
 module _ (w : UnitId) where
   -- a change of an RTDS unit's parameters, which waits for the next replenishment
-  charged_change : (u : UnitId) (f : RtdsUnit → RtdsUnit) (domains : List (Option (List RtdsUnit))) → ((x : RtdsUnit) → charged (Some (f x)) ≡ charged (Some x)) → charged (rtds_unit (rtds.change_unit u f domains) w) ≡ charged (rtds_unit domains w)
+  charged_change : (u : UnitId) (f : RtdsUnit → RtdsUnit) (domains : List (Option (List RtdsUnit))) → ((x : RtdsUnit) → charged (Some (f x)) ≡ charged (Some x)) → charged (rtds_unit_at (rtds.change_unit u f domains) w) ≡ charged (rtds_unit_at domains w)
   charged_change u f domains same =
-      elim (same_unit u w) as (λ b. same_unit u w ≡ b → charged (rtds_unit (rtds.change_unit u f domains) w) ≡ charged (rtds_unit domains w)) [
-        | true ↦ λ is. subst (λ x. charged (rtds_unit (rtds.change_unit x f domains) w) ≡ charged (rtds_unit domains w)) (sym (same_unit_same u w is)) (here (rtds_unit domains w) refl)
+      elim (same_unit u w) as (λ b. same_unit u w ≡ b → charged (rtds_unit_at (rtds.change_unit u f domains) w) ≡ charged (rtds_unit_at domains w)) [
+        | true ↦ λ is. subst (λ x. charged (rtds_unit_at (rtds.change_unit x f domains) w) ≡ charged (rtds_unit_at domains w)) (sym (same_unit_same u w is)) (here (rtds_unit_at domains w) refl)
         | false ↦ λ is. ap charged (rtds_unit-other u w f domains is)
       ] refl
     where
-      here : (o : Option RtdsUnit) → rtds_unit domains w ≡ o → charged (rtds_unit (rtds.change_unit w f domains) w) ≡ charged (rtds_unit domains w)
+      here : (o : Option RtdsUnit) → rtds_unit_at domains w ≡ o → charged (rtds_unit_at (rtds.change_unit w f domains) w) ≡ charged (rtds_unit_at domains w)
       here None is = ap charged (rtds_unit-none w f domains is ∙ sym is)
       here (Some x) is = ap charged (rtds_unit-same w f domains x is) ∙ same x ∙ sym (ap charged is)
 
-  same_records : (change : ParamChange) (t : ℕ) (p : Pool) → IsNoFrame change → ((domains : List (Option (List RtdsUnit))) → (domains2 : List (Option (List RtdsUnit))) × (policy.changed_records (RtdsPool domains) change t ≡ RtdsPool domains2) × (charged (rtds_unit domains2 w) ≡ charged (rtds_unit domains w)))
+  same_records : (change : ParamChange) (t : ℕ) (p : Pool) → IsNoFrame change → ((domains : List (Option (List RtdsUnit))) → (domains2 : List (Option (List RtdsUnit))) × (policy.changed_records (RtdsPool domains) change t ≡ RtdsPool domains2) × (charged (rtds_unit_at domains2 w) ≡ charged (rtds_unit_at domains w)))
       → (affinity : _) → Same w p (record p { scheduler = record p.scheduler { affinity = affinity; records = policy.changed_records p.scheduler.records change t } })
   same_records change t p none same affinity =
-      same_of w _ _ (λ r. refl) (λ domains is. (let x = same domains in (x.0, ap (λ (y : Records). policy.changed_records y change t) is ∙ x.1, x.2))) refl (same_changed kind_of (λ a b. refl) (λ a b. refl) p.scheduler.records change t none)
+      same_of w _ _ (λ r. refl) (λ domains is. (let x = same domains in (x.0, ap (λ (y : Records). policy.changed_records y change t) is ∙ x.1, x.2))) refl (same_changed records_kind (λ a b. refl) (λ a b. refl) p.scheduler.records change t none)
 
-  kinds_framed : (frame : Frame) (t : ℕ) (records : Records) → kind_of (policy.changed_records records (changes.Frame frame) t) ≡ kind_of records
+  kinds_framed : (frame : Frame) (t : ℕ) (records : Records) → records_kind (policy.changed_records records (changes.Frame frame) t) ≡ records_kind records
   kinds_framed frame t (Credit2Pool records) = refl
   kinds_framed frame t records = refl
 
-  pub same_changes : (change : ParamChange) (t : ℕ) (p : Pool) → IsNoDom change → Same w p (set_params change t p)
+  pub same_changes : (change : ParamChange) (t : ℕ) (p : Pool) → IsNoDom change → Same w p (changed_pool change t p)
   same_changes (changes.Dom d weight limit) t p none = absurd none
   same_changes (changes.Rate limit) t p none = same_records (changes.Rate limit) t p tt (λ domains. (domains, refl, refl)) _
   same_changes (changes.«Unit» u period budget extra) t p none =
       same_records (changes.«Unit» u period budget extra) t p tt (λ domains. (rtds.change_unit u (λ x. record x { next_period = period.0; next_budget = budget.0; next_extra = extra }) domains, refl, charged_change u _ domains (λ x. refl))) _
   same_changes (changes.Frame frame) t p none =
-      same_change_each w (λ r c. set_pending c) p _ (λ n c. refl) (same_of w p (record p { scheduler = policy.set_params (changes.Frame frame) t p.scheduler }) (λ r. refl) (λ domains is. (domains, ap (λ x. policy.changed_records x (changes.Frame frame) t) is, refl)) refl (kinds_framed frame t p.scheduler.records))
+      same_change_each w (λ r c. pending_core c) p _ (λ n c. refl) (same_of w p (record p { scheduler = policy.changed_scheduler (changes.Frame frame) t p.scheduler }) (λ r. refl) (λ domains is. (domains, ap (λ x. policy.changed_records x (changes.Frame frame) t) is, refl)) refl (kinds_framed frame t p.scheduler.records))
   same_changes (changes.Pin d unit cores) t p none = same_records (changes.Pin d unit cores) t p tt (λ domains. (domains, refl, refl)) _
 
   -- a pool of Credit2 is none of RTDS
-  not_rtds : (q : Pool) (domains : List (Option (List RtdsUnit))) → is_kind kinds.Credit2 (kind_of q.scheduler.records) ≡ true → q.scheduler.records ≡ RtdsPool domains → ⊥
-  not_rtds q domains kind is = (let e : is_kind kinds.Credit2 (kind_of q.scheduler.records) ≡ false = ap (λ x. is_kind kinds.Credit2 (kind_of x)) is in cc)
+  not_rtds : (q : Pool) (domains : List (Option (List RtdsUnit))) → is_same_kind kinds.Credit2 (records_kind q.scheduler.records) ≡ true → q.scheduler.records ≡ RtdsPool domains → ⊥
+  not_rtds q domains kind is = (let e : is_same_kind kinds.Credit2 (records_kind q.scheduler.records) ≡ false = ap (λ x. is_same_kind kinds.Credit2 (records_kind x)) is in cc)
 
   -- a weight or a cap is set in a Credit2 pool
-  pub same_capped : (d : DomId) (weight limit : Option ℕ) (t : ℕ) (q : Pool) → is_kind kinds.Credit2 (kind_of q.scheduler.records) ≡ true → Same w q (set_params (changes.Dom d weight limit) t q)
+  pub same_capped : (d : DomId) (weight limit : Option ℕ) (t : ℕ) (q : Pool) → is_same_kind kinds.Credit2 (records_kind q.scheduler.records) ≡ true → Same w q (changed_pool (changes.Dom d weight limit) t q)
   same_capped d weight None t q kind = same_records (changes.Dom d weight None) t q tt (λ domains. (domains, refl, refl)) _
   same_capped d weight (Some n) t q kind = record {
-    curs = curs_each (λ r c. cond (is_of_domain d.0 c.cur) (record c { pending = true; due = Some (moment t) }) c) q.resources (λ k c. by_cond (λ (y : Resource). y.cur ≡ c.cur) (is_of_domain d.0 c.cur) _ _ (λ is. refl) (λ is. refl));
+    curs = curs_each (λ r c. cond (is_domain_unit d.0 c.cur) (record c { pending = true; due = Some (moment t) }) c) q.resources (λ k c. by_cond (λ (y : Resource). y.cur ≡ c.cur) (is_domain_unit d.0 c.cur) _ _ (λ is. refl) (λ is. refl));
     cores = λ domains is. absurd (not_rtds q domains kind is);
     records = λ domains is. absurd (not_rtds q domains kind is);
     there = refl;
-    kinds = same_changed kind_of (λ a b. refl) (λ a b. refl) q.scheduler.records (changes.Dom d weight (Some n)) t tt;
+    kinds = same_changed records_kind (λ a b. refl) (λ a b. refl) q.scheduler.records (changes.Dom d weight (Some n)) t tt;
   }
     where
       curs_each : (f : ℕ → Resource → Resource) (cores : List (Option Resource)) → ((k : ℕ) (c : Resource) → (f k c).cur ≡ c.cur) → (n : ℕ) → cur_in (at_place (change_each 0 f cores) n) ≡ cur_in (at_place cores n)
@@ -132,11 +132,11 @@ module _ (w : UnitId) (i : ℕ) (p : Pool) (has : test_at p.domains w.dom.0 (λ 
         unpauses = kept_unpause commands;
         sets = λ change q none a. same_trans w p q _ a (same_changes w change t q none);
         weights = λ e weight limit answer q kind any a. same_trans w p q _ a (same_capped w e weight limit t q kind);
-        core_comes = λ r ends q none a. same_trans w p q _ a (same_of w _ _ (seen_set r (Some (fresh_core ends)) q.resources refl (ap seen none)) (λ d is. (d, is, refl)) refl refl);
+        core_comes = λ r ends q none a. same_trans w p q _ a (same_of w _ _ (seen_set r (Some (joined_core ends)) q.resources refl (ap seen none)) (λ d is. (d, is, refl)) refl refl);
         core_goes = λ r c q at none a. same_trans w p q _ a (same_of w _ _ (seen_set r None q.resources refl (ap seen at ∙ ap (λ (o : Option UnitId). option_map (λ (u : UnitId). (u, c.due)) o) none)) (λ d is. (d, is, refl)) refl refl);
-        line = λ may line is. any_plan (verdict m s line);
+        line = λ may line is. any_plan (line_verdict m s line);
         no_move = λ e may. may;
       }
 
-  pub sat_after : (m : Machine) (t : ℕ) (action : Action) (s : State) → LeavesIt action → IsApart s → is_enabled m s t action ≡ true → SameAt s → SameAt (after m s t action)
+  pub sat_after : (m : Machine) (t : ℕ) (action : Action) (s : State) → LeavesIt action → IsApart s → is_action_enabled m s t action ≡ true → SameAt s → SameAt (after m s t action)
   sat_after m t action s leaves apart on a = at_after (same_at_home m s t) i action leaves apart on a

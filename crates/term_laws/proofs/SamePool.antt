@@ -10,9 +10,9 @@ use Rattle.sched_model.specs.declared.state.Pool.{Pool}
 use Rattle.sched_model.specs.declared.state.Scheduler.{Scheduler}
 use Rattle.sched_model.specs.declared.state.RtdsUnit.{RtdsUnit}
 use Rattle.sched_model.specs.declared.state.Records.TheVariants.{RtdsPool}
-use Rattle.sched_model.specs.EligibleUnits.{rtds_unit}
+use Rattle.sched_model.specs.EligibleUnits.{rtds_unit_at}
 use Rattle.sched_model.specs.Policy as policy
-use Rattle.sched_model.specs.Policy.{kind_of}
+use Rattle.sched_model.specs.Policy.{records_kind}
 use Rattle.sched_laws.proofs.Records.{same_refill as kinds_refill}
 use Rattle.sched_model.specs.Pool as pools
 use Rattle.sched_model.specs.declared.action.Action.{Action}
@@ -54,13 +54,13 @@ module _ (w : UnitId) where
     pub curs : (r : ℕ) → cur_in (at_place q.resources r) ≡ cur_in (at_place p.resources r)
     pub cores : (domains : List (Option (List RtdsUnit))) → p.scheduler.records ≡ RtdsPool domains → (r : ℕ) → seen (at_place q.resources r) ≡ seen (at_place p.resources r)
     pub records : (domains : List (Option (List RtdsUnit))) → p.scheduler.records ≡ RtdsPool domains
-        → (domains2 : List (Option (List RtdsUnit))) × (q.scheduler.records ≡ RtdsPool domains2) × (charged (rtds_unit domains2 w) ≡ charged (rtds_unit domains w))
+        → (domains2 : List (Option (List RtdsUnit))) × (q.scheduler.records ≡ RtdsPool domains2) × (charged (rtds_unit_at domains2 w) ≡ charged (rtds_unit_at domains w))
     pub there : test_at q.domains w.dom.0 (λ x. true) ≡ test_at p.domains w.dom.0 (λ x. true)
-    pub kinds : kind_of q.scheduler.records ≡ kind_of p.scheduler.records
+    pub kinds : records_kind q.scheduler.records ≡ records_kind p.scheduler.records
 
   pub same_of : (p q : Pool) → ((r : ℕ) → seen (at_place q.resources r) ≡ seen (at_place p.resources r))
-      → ((domains : List (Option (List RtdsUnit))) → p.scheduler.records ≡ RtdsPool domains → (domains2 : List (Option (List RtdsUnit))) × (q.scheduler.records ≡ RtdsPool domains2) × (charged (rtds_unit domains2 w) ≡ charged (rtds_unit domains w)))
-      → test_at q.domains w.dom.0 (λ x. true) ≡ test_at p.domains w.dom.0 (λ x. true) → kind_of q.scheduler.records ≡ kind_of p.scheduler.records → Same p q
+      → ((domains : List (Option (List RtdsUnit))) → p.scheduler.records ≡ RtdsPool domains → (domains2 : List (Option (List RtdsUnit))) × (q.scheduler.records ≡ RtdsPool domains2) × (charged (rtds_unit_at domains2 w) ≡ charged (rtds_unit_at domains w)))
+      → test_at q.domains w.dom.0 (λ x. true) ≡ test_at p.domains w.dom.0 (λ x. true) → records_kind q.scheduler.records ≡ records_kind p.scheduler.records → Same p q
   same_of p q cores records there kinds = record { kinds = kinds; curs = λ r. cur_of_seen (at_place q.resources r) (at_place p.resources r) (cores r); cores = λ domains is. cores; records = records; there = there }
 
   pub same_refl : (p : Pool) → Same p p
@@ -94,17 +94,17 @@ module _ (w : UnitId) where
 
   -- another queue, or other sets of cores
   same_scheduler : (scheduler : Scheduler) (p q : Pool) → scheduler.records ≡ q.scheduler.records → Same p q → Same p (record q { scheduler = scheduler })
-  same_scheduler scheduler p q same a = same_trans p q (record q { scheduler = scheduler }) a (same_of _ _ (λ r. refl) (λ domains is. (domains, same ∙ is, refl)) refl (ap kind_of same))
+  same_scheduler scheduler p q same a = same_trans p q (record q { scheduler = scheduler }) a (same_of _ _ (λ r. refl) (λ domains is. (domains, same ∙ is, refl)) refl (ap records_kind same))
 
-  same_refill : (t d : ℕ) (p : Pool) → Same p (pools.with_records (policy.refill p.scheduler.records t d) p)
-  same_refill t d p = same_of _ _ (λ r. refl) (λ domains is. (domains, ap (λ x. policy.refill x t d) is, refl)) refl (kinds_refill kind_of (λ a b. refl) (λ a b. refl) p.scheduler.records t d)
+  same_refill : (t d : ℕ) (p : Pool) → Same p (pools.with_records (policy.records_after_refill p.scheduler.records t d) p)
+  same_refill t d p = same_of _ _ (λ r. refl) (λ domains is. (domains, ap (λ x. policy.records_after_refill x t d) is, refl)) refl (kinds_refill records_kind (λ a b. refl) (λ a b. refl) p.scheduler.records t d)
 
   pub same_parts : (g t : ℕ) (p : Pool) → KeptByParts g t (λ pool action. IsPlain action) (Same p)
   same_parts g t p = record {
     cores = λ cores q like. same_like cores p q (like_map KeepsCore SameSeen q.resources cores keeps_seen like);
     domains = λ d f q count moving. same_change_domain d f p q;
-    queues = λ u q runs. same_scheduler (policy.enqueue u q.scheduler) p q refl;
-    dequeues = λ d q. same_scheduler (policy.dequeue_domain d q.scheduler) p q refl;
+    queues = λ u q runs. same_scheduler (policy.scheduler_with_queued u q.scheduler) p q refl;
+    dequeues = λ d q. same_scheduler (policy.scheduler_without_queued d q.scheduler) p q refl;
     decides = λ r c q at plain. absurd plain;
     saves = λ r c u q at is plain. same_like _ p q (like_change_at SameSeen r pools.saved_core q.resources (λ x. refl) (λ x there. refl));
     replenishes = λ u q plain. absurd plain;

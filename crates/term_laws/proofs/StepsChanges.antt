@@ -14,10 +14,10 @@ use Rattle.sched_model.specs.declared.state.Credit2Domain.{Credit2Domain}
 use Rattle.sched_model.specs.declared.state.Credit2Records.{Credit2Records}
 use Rattle.sched_model.specs.declared.state.Records.TheVariants.{Credit2Pool}
 use Rattle.sched_model.specs.Places.{at_place, change_at}
-use Rattle.sched_model.specs.Credit2.{max_weight, set_weight, set_cap, change_domain}
+use Rattle.sched_model.specs.Credit2.{most_weight, domain_with_weight, domain_with_cap, change_domain}
 use Rattle.sched_model.specs.Policy as policy
-use Rattle.sched_model.specs.Policy.{credit2_record, changed_records}
-use Rattle.sched_model.specs.Pool.{set_params, set_pending, is_of_domain}
+use Rattle.sched_model.specs.Policy.{domain_credit2_record, changed_records}
+use Rattle.sched_model.specs.Pool.{changed_pool, pending_core, is_domain_unit}
 use Rattle.sched_laws.proofs.EachPlace.{by_cond}
 use Rattle.term_laws.proofs.RtdsSteps.{at_place-change_at, at_place-change_at_other}
 use Rattle.term_laws.proofs.CapTracks.{number_in}
@@ -41,7 +41,7 @@ record_change e d f places goes =
     ]
 
 -- a new weight
-pub weight_goes : (weight : Option ℕ) (x : Credit2Domain) → RecordGoes x (set_weight weight x)
+pub weight_goes : (weight : Option ℕ) (x : Credit2Domain) → RecordGoes x (domain_with_weight weight x)
 weight_goes None x = record_same x
 weight_goes (Some weight) x = record {
   cap = refl;
@@ -55,16 +55,16 @@ SetsNoCap d (changes.Dom e weight (Some n)) = e.0 ≢ d
 SetsNoCap d _ = Unit {0}
 
 module _ (d t : ℕ) where
-  weighed : (e : ℕ) (weight : Option ℕ) (own : Credit2Records) → SameRecord (at_place own.domains d) (at_place (change_at e (set_weight weight) own.domains) d)
-  weighed e weight own = record_change e d (set_weight weight) own.domains (weight_goes weight)
+  weighed : (e : ℕ) (weight : Option ℕ) (own : Credit2Records) → SameRecord (at_place own.domains d) (at_place (change_at e (domain_with_weight weight) own.domains) d)
+  weighed e weight own = record_change e d (domain_with_weight weight) own.domains (weight_goes weight)
 
-  changed : (records : Records) (change : ParamChange) → SetsNoCap d change → SameRecord (credit2_record records d) (credit2_record (changed_records records change t) d)
+  changed : (records : Records) (change : ParamChange) → SetsNoCap d change → SameRecord (domain_credit2_record records d) (domain_credit2_record (changed_records records change t) d)
   changed (Credit2Pool own) (changes.Dom e weight None) none =
-      record_trans2 (at_place own.domains d) (at_place (change_at e.0 (set_weight weight) own.domains) d) _ (weighed e.0 weight own)
-      (record_change e.0 d (set_cap (max_weight (change_domain e.0 (set_weight weight) own)) t None) (change_at e.0 (set_weight weight) own.domains) (λ x. record_same x))
+      record_trans2 (at_place own.domains d) (at_place (change_at e.0 (domain_with_weight weight) own.domains) d) _ (weighed e.0 weight own)
+      (record_change e.0 d (domain_with_cap (most_weight (change_domain e.0 (domain_with_weight weight) own)) t None) (change_at e.0 (domain_with_weight weight) own.domains) (λ x. record_same x))
   changed (Credit2Pool own) (changes.Dom e weight (Some n)) other =
-      record_trans2 (at_place own.domains d) (at_place (change_at e.0 (set_weight weight) own.domains) d) _ (weighed e.0 weight own)
-      (same_record (at_place (change_at e.0 (set_weight weight) own.domains) d) _ (at_place-change_at_other e.0 d (set_cap (max_weight (change_domain e.0 (set_weight weight) own)) t (Some n)) (change_at e.0 (set_weight weight) own.domains) other))
+      record_trans2 (at_place own.domains d) (at_place (change_at e.0 (domain_with_weight weight) own.domains) d) _ (weighed e.0 weight own)
+      (same_record (at_place (change_at e.0 (domain_with_weight weight) own.domains) d) _ (at_place-change_at_other e.0 d (domain_with_cap (most_weight (change_domain e.0 (domain_with_weight weight) own)) t (Some n)) (change_at e.0 (domain_with_weight weight) own.domains) other))
   changed (Credit2Pool own) (changes.Rate limit) none = same_record (at_place own.domains d) (at_place own.domains d) refl
   changed (Credit2Pool own) (changes.«Unit» u period budget extra) none = same_record (at_place own.domains d) (at_place own.domains d) refl
   changed (Credit2Pool own) (changes.Frame frame) none = same_record (at_place own.domains d) (at_place own.domains d) refl
@@ -72,11 +72,11 @@ module _ (d t : ℕ) where
   changed records (changes.Frame frame) none = same_record None None refl
   changed records change none = same_record None None refl
 
-  by_scheduler : (change : ParamChange) (p : Pool) → SetsNoCap d change → Same d p (record p { scheduler = policy.set_params change t p.scheduler })
+  by_scheduler : (change : ParamChange) (p : Pool) → SetsNoCap d change → Same d p (record p { scheduler = policy.changed_scheduler change t p.scheduler })
   by_scheduler change p none = same_of d p _ (λ r. core_refl d (at_place p.resources r)) (changed p.scheduler.records change none) refl
 
   -- a core that has a unit of another domain
-  of_other : (e : ℕ) (cur : Option UnitId) (n : ℕ) → e ≢ d → is_of_domain e cur ≡ true → number_in d cur ≡ Some n → ⊥
+  of_other : (e : ℕ) (cur : Option UnitId) (n : ℕ) → e ≢ d → is_domain_unit e cur ≡ true → number_in d cur ≡ Some n → ⊥
   of_other e None n other is here = cc
   of_other e (Some u) n other is here = go (u.dom.0 == d) refl here
     where
@@ -84,15 +84,15 @@ module _ (d t : ℕ) where
       go true same h = other (grind (arith, is, same))
       go false same h = cc
 
-  marked_core : (e : ℕ) (c : Resource) → e ≢ d → SameCore d (Some c) (Some (cond (is_of_domain e c.cur) (record c { pending = true; due = Some (moment t) }) c))
+  marked_core : (e : ℕ) (c : Resource) → e ≢ d → SameCore d (Some c) (Some (cond (is_domain_unit e c.cur) (record c { pending = true; due = Some (moment t) }) c))
   marked_core e c other =
-      by_cond (λ (y : Resource). SameCore d (Some c) (Some y)) (is_of_domain e c.cur) (record c { pending = true; due = Some (moment t) }) c
+      by_cond (λ (y : Resource). SameCore d (Some c) (Some y)) (is_domain_unit e c.cur) (record c { pending = true; due = Some (moment t) }) c
       (λ is. record { cur = refl; due = λ n here. absurd (of_other e c.cur n other is here) })
       (λ is. core_refl d (Some c))
 
-  pub same_changes : (change : ParamChange) (p : Pool) → SetsNoCap d change → Same d p (set_params change t p)
+  pub same_changes : (change : ParamChange) (p : Pool) → SetsNoCap d change → Same d p (changed_pool change t p)
   same_changes (changes.Dom e weight (Some n)) p other =
-      same_change_each d (λ r c. cond (is_of_domain e.0 c.cur) (record c { pending = true; due = Some (moment t) }) c) p _ (λ r c. marked_core e.0 c other) (by_scheduler (changes.Dom e weight (Some n)) p other)
+      same_change_each d (λ r c. cond (is_domain_unit e.0 c.cur) (record c { pending = true; due = Some (moment t) }) c) p _ (λ r c. marked_core e.0 c other) (by_scheduler (changes.Dom e weight (Some n)) p other)
   same_changes (changes.«Unit» u period budget extra) p none = by_scheduler (changes.«Unit» u period budget extra) p tt
-  same_changes (changes.Frame frame) p none = same_change_each d (λ r c. set_pending c) p _ (λ r c. record { cur = refl; due = λ n is. refl }) (by_scheduler (changes.Frame frame) p tt)
+  same_changes (changes.Frame frame) p none = same_change_each d (λ r c. pending_core c) p _ (λ r c. record { cur = refl; due = λ n is. refl }) (by_scheduler (changes.Frame frame) p tt)
   same_changes other p none = by_scheduler other p tt

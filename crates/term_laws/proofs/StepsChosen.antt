@@ -3,12 +3,12 @@ use Rattle.sched_laws.proofs.Lists.{slice_get-change_item_other}
 use Rattle.std.proofs.Common.{◌≡◌, ◌≢◌, ◌<◌, ◌≤◌, ◌+◌, ◌-◌, ℕ, zero, suc, Bool, true, List, refl, arith, ap, subst, sym, ◌∙◌, cond, inl, inr}
 use Rattle.std.specs.Prelude.{Option, Some, None, slice_get, map, length, ◌==◌, ◌||◌, ℤ, pos, negsuc, ◌+ℤ◌, ◌-ℤ◌, ◌≤ℤ◌, int_lt}
 use Rattle.std.proofs.lemmas.Int.{ints, clamps}
-use Rattle.sched_base.specs.Credit2Numbers.{above_zero, raise, take, quota, total}
+use Rattle.sched_base.specs.Credit2Numbers.{positive_part, raised_credit, taken_budget, budget_quota, cap_budget}
 use Rattle.sched_model.specs.declared.state.Credit2Unit.{Credit2Unit}
 use Rattle.sched_model.specs.declared.state.Credit2Domain.{Credit2Domain}
 use Rattle.sched_model.specs.Places.{change_item}
-use Rattle.sched_model.specs.EligibleUnits.{has_budget}
-use Rattle.sched_model.specs.Credit2.{burn_unit, burn_units, give_back, take_budget}
+use Rattle.sched_model.specs.EligibleUnits.{has_cap_budget}
+use Rattle.sched_model.specs.Credit2.{burned_unit, burned_domain, domain_after_return, domain_after_take}
 use Rattle.sched_laws.proofs.EachPlace.{by_cond}
 use Rattle.state_ranges.proofs.Budgets.{taken_low}
 use Rattle.sched_laws.proofs.Sound.{read_change_item}
@@ -18,18 +18,18 @@ use Rattle.term_laws.proofs.StepsDomain.{item_at, ArePast, past_item, burned_now
 abbrev pub own_charged : ℕ → ℕ → Option ℕ → Credit2Domain → Credit2Domain
 own_charged most t None x = x
 own_charged most t (Some i) x =
-    let burned : Credit2Domain = record x { units = change_item i (burn_unit most t x) x.units } in
-    cond (burned.cap == 0) burned (give_back i burned)
+    let burned : Credit2Domain = record x { units = change_item i (burned_unit most t x) x.units } in
+    cond (burned.cap == 0) burned (domain_after_return i burned)
 
 -- the resets
 abbrev pub was_reset : ℕ → ℕ → ℕ → Credit2Domain → Credit2Domain
 was_reset most t zero x = x
-was_reset most t (suc k) x = (let burned : Credit2Domain = burn_units most t x in record burned { units = map (λ (y : Credit2Unit). record y { credit = raise y.credit (suc k) }) burned.units })
+was_reset most t (suc k) x = (let burned : Credit2Domain = burned_domain most t x in record burned { units = map (λ (y : Credit2Unit). record y { credit = raised_credit y.credit (suc k) }) burned.units })
 
 -- the chosen unit takes a part
 abbrev pub has_taken : Option ℕ → Credit2Domain → Credit2Domain
 has_taken None x = x
-has_taken (Some j) x = take_budget j x
+has_taken (Some j) x = domain_after_take j x
 
 -- a unit runs from a moment on, or no more
 abbrev pub now_from : Option ℕ → Option ℕ → Credit2Domain → Credit2Domain
@@ -42,7 +42,7 @@ chosen_domain most most2 t k had has x = now_from (Some t) has (now_from None ha
 
 -- what is taken
 abbrev pub part_of : Credit2Domain → ℤ
-part_of x = take x.budget (quota (total x.cap) (length x.units))
+part_of x = taken_budget x.budget (budget_quota (cap_budget x.cap) (length x.units))
 
 -- a unit holds so much, where it is there
 abbrev pub HoldsIt : ℕ → ℤ → List Credit2Unit → Type 0
@@ -52,10 +52,10 @@ module _ (most t : ℕ) where
   pub own_cap : (had : Option ℕ) (x : Credit2Domain) → (own_charged most t had x).cap ≡ x.cap
   own_cap None x = refl
   own_cap (Some i) x =
-      by_cond (λ (y : Credit2Domain). y.cap ≡ x.cap) (x.cap == 0) burned (give_back i burned) (λ is. refl) (λ is. gives (slice_get burned.units i))
+      by_cond (λ (y : Credit2Domain). y.cap ≡ x.cap) (x.cap == 0) burned (domain_after_return i burned) (λ is. refl) (λ is. gives (slice_get burned.units i))
     where
       burned : Credit2Domain
-      burned = record x { units = change_item i (burn_unit most t x) x.units }
+      burned = record x { units = change_item i (burned_unit most t x) x.units }
 
       gives : (o : Option Credit2Unit) → (elim o as (λ _. Credit2Domain) [ None ↦ burned | Some u ↦ record burned { budget = burned.budget +ℤ u.held; units = change_item i (λ y. record y { held = pos 0 }) burned.units } ]).cap ≡ x.cap
       gives None = refl
@@ -66,29 +66,29 @@ module _ (most t : ℕ) where
   given_by b u = u.held -ℤ pos (t - b)
 
   pub own_is : (i b : ℕ) (x : Credit2Domain) (u : Credit2Unit) → 0 < x.cap → slice_get x.units i ≡ Some u → u.burned ≡ Some b
-      → own_charged most t (Some i) x ≡ record x { budget = x.budget +ℤ given_by b u; units = change_item i (λ y. record y { held = pos 0 }) (change_item i (burn_unit most t x) x.units) }
+      → own_charged most t (Some i) x ≡ record x { budget = x.budget +ℤ given_by b u; units = change_item i (λ y. record y { held = pos 0 }) (change_item i (burned_unit most t x) x.units) }
   own_is i b x u some at is =
-      ap (λ (c : Bool). cond c burned (give_back i burned)) (is_capped x.cap some)
-      ∙ ap (λ (o : Option Credit2Unit). elim o as (λ _. Credit2Domain) [ None ↦ burned | Some v ↦ record burned { budget = burned.budget +ℤ v.held; units = change_item i (λ y. record y { held = pos 0 }) burned.units } ]) (item_at i (burn_unit most t x) x.units u at)
+      ap (λ (c : Bool). cond c burned (domain_after_return i burned)) (is_capped x.cap some)
+      ∙ ap (λ (o : Option Credit2Unit). elim o as (λ _. Credit2Domain) [ None ↦ burned | Some v ↦ record burned { budget = burned.budget +ℤ v.held; units = change_item i (λ y. record y { held = pos 0 }) burned.units } ]) (item_at i (burned_unit most t x) x.units u at)
       ∙ ap (λ (h : ℤ). record burned { budget = burned.budget +ℤ h; units = change_item i (λ y. record y { held = pos 0 }) burned.units }) (held_after most t b x u some is)
     where
       burned : Credit2Domain
-      burned = record x { units = change_item i (burn_unit most t x) x.units }
+      burned = record x { units = change_item i (burned_unit most t x) x.units }
 
   -- another unit of the domain
   pub own_other : (had : Option ℕ) (x : Credit2Domain) (n : ℕ) → (had ≡ Some n → ⊥) → slice_get (own_charged most t had x).units n ≡ slice_get x.units n
   own_other None x n other = refl
   own_other (Some i) x n other =
-      by_cond (λ (y : Credit2Domain). slice_get y.units n ≡ slice_get x.units n) (x.cap == 0) burned (give_back i burned) (λ is. first) (λ is. gives (slice_get burned.units i))
+      by_cond (λ (y : Credit2Domain). slice_get y.units n ≡ slice_get x.units n) (x.cap == 0) burned (domain_after_return i burned) (λ is. first) (λ is. gives (slice_get burned.units i))
     where
       burned : Credit2Domain
-      burned = record x { units = change_item i (burn_unit most t x) x.units }
+      burned = record x { units = change_item i (burned_unit most t x) x.units }
 
       ne : i ≢ n
       ne e = other (ap (λ (k : ℕ). Some k) e)
 
       first : slice_get burned.units n ≡ slice_get x.units n
-      first = slice_get-change_item_other i n (burn_unit most t x) x.units ne
+      first = slice_get-change_item_other i n (burned_unit most t x) x.units ne
 
       gives : (o : Option Credit2Unit) → slice_get (elim o as (λ _. Credit2Domain) [ None ↦ burned | Some u ↦ record burned { budget = burned.budget +ℤ u.held; units = change_item i (λ y. record y { held = pos 0 }) burned.units } ]).units n ≡ slice_get x.units n
       gives None = first
@@ -97,13 +97,13 @@ module _ (most t : ℕ) where
   pub own_past : (had : Option ℕ) (x : Credit2Domain) → ArePast t x.units → ArePast t (own_charged most t had x).units
   own_past None x past = past
   own_past (Some i) x past =
-      by_cond (λ (y : Credit2Domain). ArePast t y.units) (x.cap == 0) burned (give_back i burned) (λ is. first) (λ is. gives (slice_get burned.units i))
+      by_cond (λ (y : Credit2Domain). ArePast t y.units) (x.cap == 0) burned (domain_after_return i burned) (λ is. first) (λ is. gives (slice_get burned.units i))
     where
       burned : Credit2Domain
-      burned = record x { units = change_item i (burn_unit most t x) x.units }
+      burned = record x { units = change_item i (burned_unit most t x) x.units }
 
       first : ArePast t burned.units
-      first = past_item t i (burn_unit most t x) x.units (λ y b at is. (let e = burned_now most t b x y is in omega (arith, e))) past
+      first = past_item t i (burned_unit most t x) x.units (λ y b at is. (let e = burned_now most t b x y is in omega (arith, e))) past
 
       gives : (o : Option Credit2Unit) → ArePast t (elim o as (λ _. Credit2Domain) [ None ↦ burned | Some u ↦ record burned { budget = burned.budget +ℤ u.held; units = change_item i (λ y. record y { held = pos 0 }) burned.units } ]).units
       gives None = first
@@ -120,8 +120,8 @@ module _ (most t : ℕ) where
   pub reset_kept : (k : ℕ) (x : Credit2Domain) (n : ℕ) → ArePast t x.units → Kept x (was_reset most t k x) n
   reset_kept zero x n past = kept_same x x n refl
   reset_kept (suc k) x n past =
-      kept_trans x (burn_units most t x) (was_reset most t (suc k) x) n refl (kept_burned most t x n past)
-      (kept_map (λ (y : Credit2Unit). record y { credit = raise y.credit (suc k) }) (burn_units most t x) n (λ y. (refl, refl)))
+      kept_trans x (burned_domain most t x) (was_reset most t (suc k) x) n refl (kept_burned most t x n past)
+      (kept_map (λ (y : Credit2Unit). record y { credit = raised_credit y.credit (suc k) }) (burned_domain most t x) n (λ y. (refl, refl)))
 
 pub taken_cap : (has : Option ℕ) (x : Credit2Domain) → (has_taken has x).cap ≡ x.cap
 taken_cap None x = refl
@@ -130,7 +130,7 @@ taken_cap (Some j) x = by_cond (λ (y : Credit2Domain). y.cap ≡ x.cap) (x.cap 
 abbrev pub taken_of : ℕ → Credit2Domain → Credit2Domain
 taken_of j x = record x { budget = x.budget -ℤ part_of x; units = change_item j (λ (y : Credit2Unit). record y { held = part_of x }) x.units }
 
-pub taken_is : (j : ℕ) (x : Credit2Domain) → 0 < x.cap → take_budget j x ≡ taken_of j x
+pub taken_is : (j : ℕ) (x : Credit2Domain) → 0 < x.cap → domain_after_take j x ≡ taken_of j x
 taken_is j x some = ap (λ (c : Bool). cond c x (taken_of j x)) (is_capped x.cap some)
 
 pub taken_other : (has : Option ℕ) (x : Credit2Domain) (n : ℕ) → (has ≡ Some n → ⊥) → slice_get (has_taken has x).units n ≡ slice_get x.units n
@@ -144,7 +144,7 @@ holds_item j i h f units same it z at = elim (read_change_item i j f units z at)
   | inr r ↦ sym (ap (λ (w : Credit2Unit). w.held) r.3) ∙ same r.0 ∙ it r.0 (subst (λ k. slice_get units k ≡ Some r.0) (sym r.2) r.1)
 ]
 
-pub holds_taken : (j : ℕ) (x : Credit2Domain) → 0 < x.cap → HoldsIt j (part_of x) (take_budget j x).units
+pub holds_taken : (j : ℕ) (x : Credit2Domain) → 0 < x.cap → HoldsIt j (part_of x) (domain_after_take j x).units
 holds_taken j x some =
     subst (λ (y : Credit2Domain). HoldsIt j (part_of x) y.units) (sym (taken_is j x some))
     (λ z at. elim (read_change_item j j (λ (y : Credit2Unit). record y { held = part_of x }) x.units z at) [ inl was ↦ absurd (was.0 refl) | inr r ↦ sym (ap (λ (w : Credit2Unit). w.held) r.3) ])
@@ -169,17 +169,17 @@ pub from_burned : (t j : ℕ) (x : Credit2Domain) (z : Credit2Unit) → slice_ge
 from_burned t j x z at = elim (read_change_item j j (λ (y : Credit2Unit). record y { burned = Some t }) x.units z at) [ inl was ↦ absurd (was.0 refl) | inr r ↦ sym (ap (λ (w : Credit2Unit). w.burned) r.3) ]
 
 -- what is left of a budget, and the part that is taken of it
-above_sum : (a b : ℤ) → pos 0 ≤ℤ a → pos 0 ≤ℤ b → above_zero a + above_zero b ≤ above_zero (a +ℤ b)
+above_sum : (a b : ℤ) → pos 0 ≤ℤ a → pos 0 ≤ℤ b → positive_part a + positive_part b ≤ positive_part (a +ℤ b)
 above_sum (pos a) (pos b) la lb = omega arith
 above_sum (negsuc a) b la lb = absurd (omega (arith, ints, la))
 above_sum (pos a) (negsuc b) la lb = absurd (omega (arith, ints, lb))
 
-pub split_budget : (b : ℤ) (q : ℕ) → pos 0 ≤ℤ b → above_zero (b -ℤ take b q) + above_zero (take b q) ≤ above_zero b
+pub split_budget : (b : ℤ) (q : ℕ) → pos 0 ≤ℤ b → positive_part (b -ℤ taken_budget b q) + positive_part (taken_budget b q) ≤ positive_part b
 split_budget b q low =
     let p = taken_low b q low in
-    let r : pos 0 ≤ℤ (b -ℤ take b q) = omega (arith, ints, clamps, low) in
-    let e : (b -ℤ take b q) +ℤ take b q ≡ b = rejoin b (take b q) in
-    subst (λ (z : ℤ). above_zero (b -ℤ take b q) + above_zero (take b q) ≤ above_zero z) e (above_sum (b -ℤ take b q) (take b q) r p)
+    let r : pos 0 ≤ℤ (b -ℤ taken_budget b q) = omega (arith, ints, clamps, low) in
+    let e : (b -ℤ taken_budget b q) +ℤ taken_budget b q ≡ b = rejoin b (taken_budget b q) in
+    subst (λ (z : ℤ). positive_part (b -ℤ taken_budget b q) + positive_part (taken_budget b q) ≤ positive_part z) e (above_sum (b -ℤ taken_budget b q) (taken_budget b q) r p)
   where
     rejoin : (x y : ℤ) → (x -ℤ y) +ℤ y ≡ x
     rejoin x y = omega (arith, ints)
@@ -188,5 +188,5 @@ above_is : (b : ℤ) → int_lt (pos 0) b ≡ true → pos 0 ≤ℤ b
 above_is (pos n) is = omega (arith, ints)
 above_is (negsuc n) is = absurd (cc)
 
-pub budget_above : (x : Credit2Domain) → 0 < x.cap → has_budget x ≡ true → pos 0 ≤ℤ x.budget
+pub budget_above : (x : Credit2Domain) → 0 < x.cap → has_cap_budget x ≡ true → pos 0 ≤ℤ x.budget
 budget_above x some has = above_is x.budget (sym (ap (λ (c : Bool). c || int_lt (pos 0) x.budget) (is_capped x.cap some)) ∙ has)

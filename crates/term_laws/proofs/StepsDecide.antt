@@ -4,7 +4,7 @@ use Rattle.std.proofs.Common.{◌≡◌, ◌≢◌, ◌<◌, ℕ, true, refl, ar
 use Rattle.std.specs.Prelude.{Option, Some, None, option_map, is_some, slice_get, pos, ◌+ℤ◌}
 use Rattle.std.proofs.lemmas.Int.{ints}
 use Rattle.std.proofs.Math.Decide.{ℕ_discrete}
-use Rattle.sched_base.specs.Credit2Numbers.{above_zero}
+use Rattle.sched_base.specs.Credit2Numbers.{positive_part}
 use Rattle.sched_model.specs.declared.action.Action.TheVariants.{Decide}
 use Rattle.sched_model.specs.declared.machine.Machine.{Machine}
 use Rattle.sched_model.specs.declared.state.State.{State}
@@ -15,7 +15,7 @@ use Rattle.sched_model.specs.declared.state.Credit2Domain.{Credit2Domain}
 use Rattle.sched_model.specs.CheckedMachine.{IsChecked}
 use Rattle.sched_model.specs.Places.{at_place, test_at}
 use Rattle.sched_model.specs.EligibleUnits.{Decision}
-use Rattle.sched_model.specs.Policy.{credit2_record}
+use Rattle.sched_model.specs.Policy.{domain_credit2_record}
 use Rattle.sched_model.specs.Pool.{after_in, settled_pool, lateness}
 use Rattle.sched_model.specs.Machine.{after, event_of}
 use Rattle.sched_laws.proofs.EachPlace.{is_empty}
@@ -94,10 +94,10 @@ module _ (m : Machine) (checked : IsChecked m) (d : ℕ) (s : State) (n : ℕ) (
     pool_holds : PoolHolds d q
     pool_holds = holds_in m s k.known d dec.acts.j q dec.acts.at there holds
 
-    past : (x : Credit2Domain) → credit2_record q.scheduler.records d ≡ Some x → ArePast s.now x.units
+    past : (x : Credit2Domain) → domain_credit2_record q.scheduler.records d ≡ Some x → ArePast s.now x.units
     past x is = are_past m checked s k d dec.acts.j q dec.acts.at x is
 
-    recorded : (y : Credit2Domain) → credit2_record (the_unit).records d ≡ Some y → (r j : ℕ) → number_in d (cur_in (at_place next.resources r)) ≡ Some j → (z : Credit2Unit) × (slice_get y.units j ≡ Some z)
+    recorded : (y : Credit2Domain) → domain_credit2_record (the_unit).records d ≡ Some y → (r j : ℕ) → number_in d (cur_in (at_place next.resources r)) ≡ Some j → (z : Credit2Unit) × (slice_get y.units j ≡ Some z)
     recorded y is r j on = is_recorded m checked s2 k2 d dec.acts.j next at_next y is r j on
 
     one : (r k3 j : ℕ) → number_in d (cur_in (at_place q.resources r)) ≡ Some j → number_in d (cur_in (at_place q.resources k3)) ≡ Some j → r ≡ k3
@@ -107,9 +107,9 @@ module _ (m : Machine) (checked : IsChecked m) (d : ℕ) (s : State) (n : ℕ) (
     one_next r k3 j a b = on_one m s2 k2.known d dec.acts.j next at_next there r k3 j a b
 
     caps : cap_at s2 d ≡ cap_at s d
-    caps = ap cap_of (credit2_is m s2 k2.known d dec.acts.j next at_next there) ∙ go (credit2_record q.scheduler.records d) refl ∙ sym (ap cap_of (credit2_is m s k.known d dec.acts.j q dec.acts.at there))
+    caps = ap cap_of (credit2_is m s2 k2.known d dec.acts.j next at_next there) ∙ go (domain_credit2_record q.scheduler.records d) refl ∙ sym (ap cap_of (credit2_is m s k.known d dec.acts.j q dec.acts.at there))
       where
-        go : (o : Option Credit2Domain) → credit2_record q.scheduler.records d ≡ o → cap_of (credit2_record (the_unit).records d) ≡ cap_of (credit2_record q.scheduler.records d)
+        go : (o : Option Credit2Domain) → domain_credit2_record q.scheduler.records d ≡ o → cap_of (domain_credit2_record (the_unit).records d) ≡ cap_of (domain_credit2_record q.scheduler.records d)
         go None is = ap cap_of (none_after g s.now n dec.core q dec.has d is) ∙ sym (ap cap_of is)
         go (Some x) is = (let y = some_after g s.now n dec.core q dec.has d x is (past x is) pool_holds in ap cap_of y.1 ∙ y.2.decides.cap ∙ sym (ap cap_of is))
 
@@ -149,7 +149,7 @@ module _ (m : Machine) (checked : IsChecked m) (d : ℕ) (s : State) (n : ℕ) (
       taken = pos 0;
       gives_back = refl;
       takes = refl;
-      budget = (let e : x.budget +ℤ pos 0 ≡ x.budget = omega (arith, ints) in let e2 = ap above_zero e in omega (arith, e2));
+      budget = (let e : x.budget +ℤ pos 0 ≡ x.budget = omega (arith, ints) in let e2 = ap positive_part e in omega (arith, e2));
       others = λ j stop a b stops. stops;
     })
 
@@ -158,7 +158,7 @@ module _ (m : Machine) (checked : IsChecked m) (d : ℕ) (s : State) (n : ℕ) (
       tracks = record {
         stays = λ r is. on_after m d s s2 k.known k2.known i i p p at there at2 there r ∙ sym (on_before m d s s2 k.known k2.known i i p p at there at2 there r);
         decides = decides_here;
-        cap = caps_same m d s s2 k.known k2.known i i p p at there at2 there (same_record (credit2_record p.scheduler.records d) (credit2_record p.scheduler.records d) refl);
+        cap = caps_same m d s s2 k.known k2.known i i p p at there at2 there (same_record (domain_credit2_record p.scheduler.records d) (domain_credit2_record p.scheduler.records d) refl);
         moved = λ r is. absurd (cc);
         set_budget = λ percent y is y_is. absurd (cc);
         set_stops = λ percent y is y_is j stop stops. absurd (cc);

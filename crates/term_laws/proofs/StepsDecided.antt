@@ -3,10 +3,10 @@ use Rattle.std.proofs.Common.{◌≡◌, ◌<◌, ◌≤◌, ◌+◌, ◌-◌, �
 use Rattle.std.specs.Prelude.{Option, Some, None, slice_get, length, ℤ, pos, ◌+ℤ◌, ◌-ℤ◌, ◌≤ℤ◌}
 use Rattle.std.proofs.lemmas.Int.{ints}
 use Rattle.state_ranges.proofs.Budgets.{taken_low}
-use Rattle.sched_base.specs.Credit2Numbers.{above_zero, quota, total}
+use Rattle.sched_base.specs.Credit2Numbers.{positive_part, budget_quota, cap_budget}
 use Rattle.sched_model.specs.declared.state.Credit2Unit.{Credit2Unit}
 use Rattle.sched_model.specs.declared.state.Credit2Domain.{Credit2Domain}
-use Rattle.sched_model.specs.EligibleUnits.{has_budget}
+use Rattle.sched_model.specs.EligibleUnits.{has_cap_budget}
 use Rattle.term_laws.proofs.CapTracks.{Stops, HasLeft}
 use Rattle.term_laws.proofs.StepsDomain.{ArePast, Kept, kept_same, kept_trans}
 use Rattle.term_laws.proofs.StepsChosen.{own_charged, was_reset, has_taken, now_from, chosen_domain, part_of, given_by, own_cap, own_is, own_other, own_past, reset_cap, reset_budget, reset_kept, taken_cap, taken_is, taken_other, holds_taken, from_cap, from_budget, from_other, from_holds, from_burned, split_budget, budget_above}
@@ -17,7 +17,7 @@ pub record DomainDecides (t : ℕ) (had has : Option ℕ) (taken : ℤ) (x y : C
   pub others : (n : ℕ) → (had ≡ Some n → ⊥) → (has ≡ Some n → ⊥) → Kept x y n
   pub given : ℤ
   pub gives_back : 0 < x.cap → HasLeft t x given had
-  pub budget : 0 < x.cap → above_zero y.budget + above_zero taken ≤ above_zero (x.budget +ℤ given)
+  pub budget : 0 < x.cap → positive_part y.budget + positive_part taken ≤ positive_part (x.budget +ℤ given)
   pub nothing : has ≡ None → taken ≡ pos 0
   pub takes : (j : ℕ) → has ≡ Some j → (z : Credit2Unit) → slice_get y.units j ≡ Some z → (z.burned ≡ Some t) × (0 < x.cap → z.held ≡ taken)
   pub low : 0 < x.cap → pos 0 ≤ℤ taken
@@ -54,35 +54,35 @@ module _ (most most2 t k : ℕ) (x : Credit2Domain) (past : ArePast t x.units) w
       (kept_trans (own had) (again had) (chosen_domain most most2 t k had has x) n (reset_cap most2 t k (own had)) second (kept_same (again had) (chosen_domain most most2 t k had has x) n rest))
 
   abbrev Fits : ℤ → Option ℕ → Option ℕ → Type 0
-  Fits given had has = above_zero (chosen_domain most most2 t k had has x).budget + above_zero (taken_by has (again had)) ≤ above_zero (x.budget +ℤ given)
+  Fits given had has = positive_part (chosen_domain most most2 t k had has x).budget + positive_part (taken_by has (again had)) ≤ positive_part (x.budget +ℤ given)
 
   budget_none : (given : ℤ) (had : Option ℕ) → (own had).budget ≡ x.budget +ℤ given → Fits given had None
   budget_none given had is =
       let e : (chosen_domain most most2 t k had None x).budget ≡ x.budget +ℤ given = budgets had None ∙ reset_budget most2 t k (own had) ∙ is in
-      let e2 = ap above_zero e in
+      let e2 = ap positive_part e in
       omega (arith, e2)
 
-  budget_some : (given : ℤ) (had : Option ℕ) (j : ℕ) → 0 < x.cap → (own had).budget ≡ x.budget +ℤ given → has_budget (own had) ≡ true → Fits given had (Some j)
+  budget_some : (given : ℤ) (had : Option ℕ) (j : ℕ) → 0 < x.cap → (own had).budget ≡ x.budget +ℤ given → has_cap_budget (own had) ≡ true → Fits given had (Some j)
   budget_some given had j some is pays =
       let again_is : (again had).budget ≡ x.budget +ℤ given = reset_budget most2 t k (own had) ∙ is in
       let some2 : 0 < (again had).cap = subst (λ n. 0 < n) (sym (caps had)) some in
       let b : (chosen_domain most most2 t k had (Some j) x).budget ≡ (again had).budget -ℤ part_of (again had) = budgets had (Some j) ∙ ap (λ (y : Credit2Domain). y.budget) (taken_is j (again had) some2) in
       let low = pays_low had some pays in
-      let s = split_budget (again had).budget (quota (total (again had).cap) (length (again had).units)) low in
-      let e = ap above_zero b in
-      let e2 = ap above_zero again_is in
+      let s = split_budget (again had).budget (budget_quota (cap_budget (again had).cap) (length (again had).units)) low in
+      let e = ap positive_part b in
+      let e2 = ap positive_part again_is in
       omega (arith, s, e, e2)
     where
-      pays_low : (had : Option ℕ) → 0 < x.cap → has_budget (own had) ≡ true → pos 0 ≤ℤ (again had).budget
+      pays_low : (had : Option ℕ) → 0 < x.cap → has_cap_budget (own had) ≡ true → pos 0 ≤ℤ (again had).budget
       pays_low had some pays = subst (λ (b : ℤ). pos 0 ≤ℤ b) (sym (reset_budget most2 t k (own had))) (budget_above (own had) (subst (λ n. 0 < n) (sym (own_cap most t had x)) some) pays)
 
-  paid_low : (had has : Option ℕ) → 0 < x.cap → ((j : ℕ) → has ≡ Some j → has_budget (own had) ≡ true) → pos 0 ≤ℤ taken_by has (again had)
+  paid_low : (had has : Option ℕ) → 0 < x.cap → ((j : ℕ) → has ≡ Some j → has_cap_budget (own had) ≡ true) → pos 0 ≤ℤ taken_by has (again had)
   paid_low had None some pays = omega (arith, ints)
   paid_low had (Some j) some pays =
-      taken_low (again had).budget (quota (total (again had).cap) (length (again had).units))
+      taken_low (again had).budget (budget_quota (cap_budget (again had).cap) (length (again had).units))
       (subst (λ (b : ℤ). pos 0 ≤ℤ b) (sym (reset_budget most2 t k (own had))) (budget_above (own had) (subst (λ n. 0 < n) (sym (own_cap most t had x)) some) (pays j refl)))
 
-  fits : (given : ℤ) (had has : Option ℕ) → 0 < x.cap → ((j : ℕ) → has ≡ Some j → has_budget (own had) ≡ true) → (own had).budget ≡ x.budget +ℤ given → Fits given had has
+  fits : (given : ℤ) (had has : Option ℕ) → 0 < x.cap → ((j : ℕ) → has ≡ Some j → has_cap_budget (own had) ≡ true) → (own had).budget ≡ x.budget +ℤ given → Fits given had has
   fits given had None some pays is = budget_none given had is
   fits given had (Some j) some pays is = budget_some given had j some is (pays j refl)
 
@@ -100,7 +100,7 @@ module _ (most most2 t k : ℕ) (x : Credit2Domain) (past : ArePast t x.units) w
             (from_holds None had (has_taken (Some i) (again had)) i (part_of (again had)) (holds_taken i (again had) (subst (λ n. 0 < n) (sym (caps had)) some))) z at2,
       )
 
-  pub domain_decides : (had has : Option ℕ) → ((i : ℕ) → had ≡ Some i → (stop : ℤ) × Stops x i stop) → ((j : ℕ) → has ≡ Some j → has_budget (own had) ≡ true)
+  pub domain_decides : (had has : Option ℕ) → ((i : ℕ) → had ≡ Some i → (stop : ℤ) × Stops x i stop) → ((j : ℕ) → has ≡ Some j → has_cap_budget (own had) ≡ true)
       → DomainDecides t had has (taken_by has (again had)) x (chosen_domain most most2 t k had has x)
   domain_decides None has runs pays = record {
     cap = all_caps None has;

@@ -16,8 +16,8 @@ use Rattle.sched_model.specs.declared.state.Credit2Domain.{Credit2Domain}
 use Rattle.sched_model.specs.declared.state.Credit2Records.{Credit2Records}
 use Rattle.sched_model.specs.Places.{at_place}
 use Rattle.sched_model.specs.EligibleUnits.{Decision}
-use Rattle.sched_model.specs.Policy.{decision_of, decision_by, kind_of, credit2_record}
-use Rattle.sched_model.specs.Pool.{ask_of, after_decide, decided_core, same_choice, settled_pool, home_cores, reconsidered_core}
+use Rattle.sched_model.specs.Policy.{decision_of, decision_by, records_kind, domain_credit2_record}
+use Rattle.sched_model.specs.Pool.{core_ask, after_decide, decided_core, same_choice, settled_pool, pool_core_set, reconsidered_core}
 use Rattle.sched_laws.proofs.EachPlace.{by_test, at_place-change_each}
 use Rattle.sched_laws.proofs.OnePlace.{decided_cur}
 use Rattle.term_laws.proofs.RtdsSteps.{at_place-set_other}
@@ -37,16 +37,16 @@ due_decided t d c =
     by_test (λ (x : Resource). x.due ≡ d.due) (same_choice d.unit c.cur) (record c { due = d.due; pending = false; stage = Decided }) (record c { saving = c.cur; cur = d.unit; since = moment t; due = d.due; pending = false; stage = Decided }) (λ is. refl) (λ is. refl)
 
 -- records of another kind
-other_kind : (records : Records) (d : ℕ) (kind : SchedKind) → kind_of records ≡ kind → (kind ≡ kinds.Credit2 → ⊥) → credit2_record records d ≡ None
+other_kind : (records : Records) (d : ℕ) (kind : SchedKind) → records_kind records ≡ kind → (kind ≡ kinds.Credit2 → ⊥) → domain_credit2_record records d ≡ None
 other_kind (Credit2Pool own) d kind is other = absurd (other (sym is))
 other_kind records d kind is other = refl
 
 module _ (g t : ℕ) (n : ℕ) (c : Resource) (p : Pool) (at : at_place p.resources n ≡ Some c) (d : ℕ) where
   abbrev pub the_ask : Ask
-  the_ask = ask_of g t p n c
+  the_ask = core_ask g t p n c
 
   abbrev pub the_decision : Decision
-  the_decision = decision_of (ask_of g t p n c) p.scheduler
+  the_decision = decision_of (core_ask g t p n c) p.scheduler
 
   abbrev pub next_pool : Pool
   next_pool = settled_pool t (after_decide g t n c p)
@@ -66,8 +66,8 @@ module _ (g t : ℕ) (n : ℕ) (c : Resource) (p : Pool) (at : at_place p.resour
   pub core_next : (c2 : Resource) × (at_place next_pool.resources n ≡ Some c2)
   core_next =
       let next : Pool = after_decide g t n c p in
-      let f : Resource → Resource = reconsidered_core t (home_cores next) next.scheduler (0 + n) in
-      (f (decided_core t the_decision c), at_place-change_each 0 n (reconsidered_core t (home_cores next) next.scheduler) next.resources ∙ ap (option_map f) (at_place-put_at n (decided_core t the_decision c) c p.resources at))
+      let f : Resource → Resource = reconsidered_core t (pool_core_set next) next.scheduler (0 + n) in
+      (f (decided_core t the_decision c), at_place-change_each 0 n (reconsidered_core t (pool_core_set next) next.scheduler) next.resources ∙ ap (option_map f) (at_place-put_at n (decided_core t the_decision c) c p.resources at))
 
   core_there : (k : ℕ) → n ≢ k → at_place (after_decide g t n c p).resources k ≡ at_place p.resources k
   core_there k ne = at_place-set_other n k (Some (decided_core t the_decision c)) p.resources ne
@@ -76,61 +76,61 @@ module _ (g t : ℕ) (n : ℕ) (c : Resource) (p : Pool) (at : at_place p.resour
   cur_there k ne = settles.curs k ∙ ap cur_in (core_there k ne)
 
   -- the dues of the cores that have a unit of the domain
-  due_here : (y : Credit2Domain) (j : ℕ) → credit2_record the_decision.records d ≡ Some y → has ≡ Some j → due_in (at_place next_pool.resources n) ≡ the_decision.due
+  due_here : (y : Credit2Domain) (j : ℕ) → domain_credit2_record the_decision.records d ≡ Some y → has ≡ Some j → due_in (at_place next_pool.resources n) ≡ the_decision.due
   due_here y j is own =
       settles.dues y is n j (ap (number_in d) (ap cur_in (at_place-put_at n (decided_core t the_decision c) c p.resources at) ∙ decided_cur t the_decision c) ∙ own)
       ∙ ap due_in (at_place-put_at n (decided_core t the_decision c) c p.resources at) ∙ due_decided t the_decision c
 
-  due_there : (y : Credit2Domain) (k j : ℕ) → credit2_record the_decision.records d ≡ Some y → n ≢ k → number_in d (cur_in (at_place p.resources k)) ≡ Some j → due_in (at_place next_pool.resources k) ≡ due_in (at_place p.resources k)
+  due_there : (y : Credit2Domain) (k j : ℕ) → domain_credit2_record the_decision.records d ≡ Some y → n ≢ k → number_in d (cur_in (at_place p.resources k)) ≡ Some j → due_in (at_place next_pool.resources k) ≡ due_in (at_place p.resources k)
   due_there y k j is ne own = settles.dues y is k j (ap (λ (o : Option Resource). number_in d (cur_in o)) (core_there k ne) ∙ own) ∙ ap due_in (core_there k ne)
 
   -- what the decision does to the domain's record
   decides_in : (own : Credit2Records) → p.scheduler.records ≡ Credit2Pool own → PoolDecides d t had own the_decision
   decides_in own is = subst (PoolDecides d t had own) (sym (ap (λ (x : Records). decision_by x the_ask p.scheduler) is)) (pool_decides d the_ask p.scheduler own)
 
-  pub none_after : credit2_record p.scheduler.records d ≡ None → credit2_record the_decision.records d ≡ None
+  pub none_after : domain_credit2_record p.scheduler.records d ≡ None → domain_credit2_record the_decision.records d ≡ None
   none_after none = go p.scheduler.records refl
     where
-      kind : (records : Records) → p.scheduler.records ≡ records → kind_of the_decision.records ≡ kind_of records
-      kind records is = kind_decided the_ask p.scheduler ∙ ap kind_of is
+      kind : (records : Records) → p.scheduler.records ≡ records → records_kind the_decision.records ≡ records_kind records
+      kind records is = kind_decided the_ask p.scheduler ∙ ap records_kind is
 
-      go : (records : Records) → p.scheduler.records ≡ records → credit2_record the_decision.records d ≡ None
-      go (Credit2Pool own) is = (let x = decides_in own is in ap (λ (r : Records). credit2_record r d) x.is ∙ x.none (sym (ap (λ (r : Records). credit2_record r d) is) ∙ none))
+      go : (records : Records) → p.scheduler.records ≡ records → domain_credit2_record the_decision.records d ≡ None
+      go (Credit2Pool own) is = (let x = decides_in own is in ap (λ (r : Records). domain_credit2_record r d) x.is ∙ x.none (sym (ap (λ (r : Records). domain_credit2_record r d) is) ∙ none))
       go (RtdsPool domains) is = other_kind the_decision.records d kinds.Rtds (kind (RtdsPool domains) is) (λ e. cc)
       go (ArincPool records) is = other_kind the_decision.records d kinds.Arinc653 (kind (ArincPool records) is) (λ e. cc)
       go (NullPool kept) is = other_kind the_decision.records d kinds.Null (kind (NullPool kept) is) (λ e. cc)
 
-  pub some_after : (x : Credit2Domain) → credit2_record p.scheduler.records d ≡ Some x → ArePast t x.units → PoolHolds d p → (y : Credit2Domain) × (credit2_record the_decision.records d ≡ Some y) × RecordDecides d t had has the_decision.due x y
+  pub some_after : (x : Credit2Domain) → domain_credit2_record p.scheduler.records d ≡ Some x → ArePast t x.units → PoolHolds d p → (y : Credit2Domain) × (domain_credit2_record the_decision.records d ≡ Some y) × RecordDecides d t had has the_decision.due x y
   some_after x is past holds =
       let own = credit2_pool p.scheduler.records d x is in
       let e = decides_in own.0 own.1 in
       let z = e.some x own.2 past (λ i on. (let it = holds x is n i (ap (λ (o : Option Resource). number_in d (cur_in o)) at ∙ on) in (it.stop, it.stops))) in
-      (z.0, ap (λ (r : Records). credit2_record r d) e.is ∙ z.1, z.2)
+      (z.0, ap (λ (r : Records). domain_credit2_record r d) e.is ∙ z.1, z.2)
 
   -- what is known of the pool before, and of the next one
-  module _ (past : (x : Credit2Domain) → credit2_record p.scheduler.records d ≡ Some x → ArePast t x.units) (holds : PoolHolds d p)
-      (recorded : (y : Credit2Domain) → credit2_record the_decision.records d ≡ Some y → (r j : ℕ) → number_in d (cur_in (at_place next_pool.resources r)) ≡ Some j → (z : Credit2Unit) × (slice_get y.units j ≡ Some z))
+  module _ (past : (x : Credit2Domain) → domain_credit2_record p.scheduler.records d ≡ Some x → ArePast t x.units) (holds : PoolHolds d p)
+      (recorded : (y : Credit2Domain) → domain_credit2_record the_decision.records d ≡ Some y → (r j : ℕ) → number_in d (cur_in (at_place next_pool.resources r)) ≡ Some j → (z : Credit2Unit) × (slice_get y.units j ≡ Some z))
       (one : (r k j : ℕ) → number_in d (cur_in (at_place p.resources r)) ≡ Some j → number_in d (cur_in (at_place p.resources k)) ≡ Some j → r ≡ k)
       (one_next : (r k j : ℕ) → number_in d (cur_in (at_place next_pool.resources r)) ≡ Some j → number_in d (cur_in (at_place next_pool.resources k)) ≡ Some j → r ≡ k) where
     -- the records before and now
-    decides_known : (x y : Credit2Domain) → credit2_record p.scheduler.records d ≡ Some x → credit2_record the_decision.records d ≡ Some y → RecordDecides d t had has the_decision.due x y
+    decides_known : (x y : Credit2Domain) → domain_credit2_record p.scheduler.records d ≡ Some x → domain_credit2_record the_decision.records d ≡ Some y → RecordDecides d t had has the_decision.due x y
     decides_known x y is_x is =
         let z = some_after x is_x (past x is_x) holds in
         let e1 : Some z.0 ≡ Some y = sym z.1 ∙ is in
         let e2 : z.0 ≡ y = cc in
         subst (RecordDecides d t had has the_decision.due x) e2 z.2
 
-    pub before : (y : Credit2Domain) → credit2_record the_decision.records d ≡ Some y → (x : Credit2Domain) × (credit2_record p.scheduler.records d ≡ Some x) × RecordDecides d t had has the_decision.due x y
-    before y is = go (credit2_record p.scheduler.records d) refl
+    pub before : (y : Credit2Domain) → domain_credit2_record the_decision.records d ≡ Some y → (x : Credit2Domain) × (domain_credit2_record p.scheduler.records d ≡ Some x) × RecordDecides d t had has the_decision.due x y
+    before y is = go (domain_credit2_record p.scheduler.records d) refl
       where
-        go : (o : Option Credit2Domain) → credit2_record p.scheduler.records d ≡ o → (x : Credit2Domain) × (credit2_record p.scheduler.records d ≡ Some x) × RecordDecides d t had has the_decision.due x y
+        go : (o : Option Credit2Domain) → domain_credit2_record p.scheduler.records d ≡ o → (x : Credit2Domain) × (domain_credit2_record p.scheduler.records d ≡ Some x) × RecordDecides d t had has the_decision.due x y
         go None none = absurd (let e : None ≡ Some y = sym (none_after none) ∙ is in cc)
         go (Some x) some = (x, some, decides_known x y some is)
 
     on_here : (j : ℕ) → has ≡ Some j → number_in d (cur_in (at_place next_pool.resources n)) ≡ Some j
     on_here j is = ap (number_in d) cur_here ∙ is
 
-    held_here : (x y : Credit2Domain) (j : ℕ) → credit2_record the_decision.records d ≡ Some y → RecordDecides d t had has the_decision.due x y → has ≡ Some j → OnIt y j the_decision.due
+    held_here : (x y : Credit2Domain) (j : ℕ) → domain_credit2_record the_decision.records d ≡ Some y → RecordDecides d t had has the_decision.due x y → has ≡ Some j → OnIt y j the_decision.due
     held_here x y j is dec own =
         let z = recorded y is n j (on_here j own) in
         let w = dec.decides.takes j own z.0 z.1 in
@@ -145,7 +145,7 @@ module _ (g t : ℕ) (n : ℕ) (c : Resource) (p : Pool) (at : at_place p.resour
               subst (λ (h : ℤ). pos due.0 ≤ℤ (pos t +ℤ h)) (sym (w.1 some_x)) (due.2 some_x));
         }
 
-    held_there : (x y : Credit2Domain) (r j : ℕ) → credit2_record p.scheduler.records d ≡ Some x → credit2_record the_decision.records d ≡ Some y → RecordDecides d t had has the_decision.due x y → n ≢ r
+    held_there : (x y : Credit2Domain) (r j : ℕ) → domain_credit2_record p.scheduler.records d ≡ Some x → domain_credit2_record the_decision.records d ≡ Some y → RecordDecides d t had has the_decision.due x y → n ≢ r
         → number_in d (cur_in (at_place next_pool.resources r)) ≡ Some j → OnIt y j (due_in (at_place next_pool.resources r))
     held_there x y r j is_x is dec ne on =
         let on_p : number_in d (cur_in (at_place p.resources r)) ≡ Some j = sym (ap (number_in d) (cur_there r ne)) ∙ on in
@@ -164,7 +164,7 @@ module _ (g t : ℕ) (n : ℕ) (c : Resource) (p : Pool) (at : at_place p.resour
         ]
 
     -- the record of a capped domain
-    pub capped_decides : (x y : Credit2Domain) → credit2_record p.scheduler.records d ≡ Some x → 0 < x.cap → credit2_record the_decision.records d ≡ Some y → Decides t had has x y
+    pub capped_decides : (x y : Credit2Domain) → domain_credit2_record p.scheduler.records d ≡ Some x → 0 < x.cap → domain_credit2_record the_decision.records d ≡ Some y → Decides t had has x y
     capped_decides x y is_x some is =
         let dec = decides_known x y is_x is in
         record {

@@ -6,7 +6,7 @@ use Rattle.sched_base.specs.Credit2Numbers.{burned_credit, burned_residual}
 use Rattle.sched_model.specs.declared.state.Credit2Unit.{Credit2Unit}
 use Rattle.sched_model.specs.declared.state.Credit2Domain.{Credit2Domain}
 use Rattle.sched_model.specs.Places.{change_item}
-use Rattle.sched_model.specs.Credit2.{burn_unit, burn_units}
+use Rattle.sched_model.specs.Credit2.{burned_unit, burned_domain}
 use Rattle.sched_laws.proofs.Sound.{read_change_item}
 use Rattle.term_laws.proofs.CapTracks.{Stops}
 
@@ -40,14 +40,14 @@ burned_from most t from d u = record u {
   burned = Some t;
 }
 
-pub burn_some : (most t b : ℕ) (d : Credit2Domain) (u : Credit2Unit) → u.burned ≡ Some b → burn_unit most t d u ≡ burned_from most t b d u
+pub burn_some : (most t b : ℕ) (d : Credit2Domain) (u : Credit2Unit) → u.burned ≡ Some b → burned_unit most t d u ≡ burned_from most t b d u
 burn_some most t b d u is = ap (λ (o : Option ℕ). elim o as (λ _. Credit2Unit) [ None ↦ u | Some from ↦ burned_from most t from d u ]) is
 
-pub burn_none : (most t : ℕ) (d : Credit2Domain) (u : Credit2Unit) → u.burned ≡ None → burn_unit most t d u ≡ u
+pub burn_none : (most t : ℕ) (d : Credit2Domain) (u : Credit2Unit) → u.burned ≡ None → burned_unit most t d u ≡ u
 burn_none most t d u is = ap (λ (o : Option ℕ). elim o as (λ _. Credit2Unit) [ None ↦ u | Some from ↦ burned_from most t from d u ]) is
 
 -- a unit that is charged up to t was charged last at t
-pub burned_now : (most t b : ℕ) (d : Credit2Domain) (u : Credit2Unit) → (burn_unit most t d u).burned ≡ Some b → b ≡ t
+pub burned_now : (most t b : ℕ) (d : Credit2Domain) (u : Credit2Unit) → (burned_unit most t d u).burned ≡ Some b → b ≡ t
 burned_now most t b d u is = go u.burned refl
   where
     go : (o : Option ℕ) → u.burned ≡ o → b ≡ t
@@ -58,7 +58,7 @@ pub is_capped : (n : ℕ) → 0 < n → (n == 0) ≡ false
 is_capped n some = grind (arith, some)
 
 -- what the unit holds then
-pub held_after : (most t b : ℕ) (d : Credit2Domain) (u : Credit2Unit) → 0 < d.cap → u.burned ≡ Some b → (burn_unit most t d u).held ≡ u.held -ℤ pos (t - b)
+pub held_after : (most t b : ℕ) (d : Credit2Domain) (u : Credit2Unit) → 0 < d.cap → u.burned ≡ Some b → (burned_unit most t d u).held ≡ u.held -ℤ pos (t - b)
 held_after most t b d u some is = ap (λ (z : Credit2Unit). z.held) (burn_some most t b d u is) ∙ ap (λ (c : Bool). cond c u.held (u.held -ℤ pos (t - b))) (is_capped d.cap some)
 
 -- a unit that runs goes on, and where the domain is capped its end stays
@@ -96,13 +96,13 @@ charged_sum : (b t : ℕ) (held stop : ℤ) → b ≤ t → pos b +ℤ held ≡ 
 charged_sum b t held stop past sum = omega (arith, ints, past, sum)
 
 -- all running units charged
-pub kept_burned : (most t : ℕ) (x : Credit2Domain) (n : ℕ) → ArePast t x.units → Kept x (burn_units most t x) n
+pub kept_burned : (most t : ℕ) (x : Credit2Domain) (n : ℕ) → ArePast t x.units → Kept x (burned_domain most t x) n
 kept_burned most t x n past = record {
   goes = λ stop s. (
-    pos t +ℤ (burn_unit most t x s.unit).held,
+    pos t +ℤ (burned_unit most t x s.unit).held,
     record {
-      unit = burn_unit most t x s.unit;
-      at = get_of_map (burn_unit most t x) x.units n s.unit s.at;
+      unit = burned_unit most t x s.unit;
+      at = get_of_map (burned_unit most t x) x.units n s.unit s.at;
       from = t;
       burned = ap (λ (z : Credit2Unit). z.burned) (burn_some most t s.from x s.unit s.burned);
       sum = refl;

@@ -9,7 +9,7 @@ use Rattle.sched_model.specs.declared.state.State.{State}
 use Rattle.sched_model.specs.declared.state.Pool.{Pool}
 use Rattle.sched_model.specs.declared.state.Credit2Domain.{Credit2Domain}
 use Rattle.sched_model.specs.Places.{at_place, test_at}
-use Rattle.sched_model.specs.Policy.{credit2_record}
+use Rattle.sched_model.specs.Policy.{domain_credit2_record}
 use Rattle.sched_base.proofs.Bools.{clash}
 use Rattle.term_laws.specs.RtdsTerm.{late_of, moves}
 use Rattle.term_laws.proofs.SamePool.{cur_in}
@@ -30,7 +30,7 @@ pub record OnIt (x : Credit2Domain) (n : ℕ) (o : Option Moment) : Type 0 where
 
 -- each core of the pool, and of the state
 abbrev pub PoolHolds : ℕ → Pool → Type 0
-PoolHolds d p = (x : Credit2Domain) → credit2_record p.scheduler.records d ≡ Some x → (r n : ℕ) → number_in d (cur_in (at_place p.resources r)) ≡ Some n → OnIt x n (due_in (at_place p.resources r))
+PoolHolds d p = (x : Credit2Domain) → domain_credit2_record p.scheduler.records d ≡ Some x → (r n : ℕ) → number_in d (cur_in (at_place p.resources r)) ≡ Some n → OnIt x n (due_in (at_place p.resources r))
 
 abbrev pub StateHolds : ℕ → State → Type 0
 StateHolds d s = (x : Credit2Domain) → credit2_in s d ≡ Some x → (r n : ℕ) → on_core s d r ≡ Some n → OnIt x n (due_at s r)
@@ -70,7 +70,7 @@ record_before (Some x) o2 same y is =
 
 pub pool_holds_same : (d : ℕ) (p q : Pool) → Same d p q → PoolHolds d p → PoolHolds d q
 pool_holds_same d p q same h y is r n on =
-    let b = record_before (credit2_record p.scheduler.records d) (credit2_record q.scheduler.records d) same.record_is y is in
+    let b = record_before (domain_credit2_record p.scheduler.records d) (domain_credit2_record q.scheduler.records d) same.record_is y is in
     let on_p : number_in d (cur_in (at_place p.resources r)) ≡ Some n = ap (number_in d) (sym (same.curs r)) ∙ on in
     on_it_goes b.0 y n (due_in (at_place p.resources r)) (due_in (at_place q.resources r)) b.2 (same.dues b.0 b.1 r n on_p) (h b.0 b.1 r n on_p)
 
@@ -105,14 +105,14 @@ module _ (m : Machine) (d : ℕ) (s s2 : State) (k : Known m s) (k2 : Known m s2
   pub on_after : (r : ℕ) → on_core s2 d r ≡ number_in d (cur_in (at_place q.resources r))
   on_after r = on_is m s2 k2 d i2 q at2 there2 r
 
-  pub was : (x : Credit2Domain) → credit2_in s d ≡ Some x → credit2_record p.scheduler.records d ≡ Some x
+  pub was : (x : Credit2Domain) → credit2_in s d ≡ Some x → domain_credit2_record p.scheduler.records d ≡ Some x
   was x is = sym (credit2_is m s k d i p at there) ∙ is
 
-  pub is_now : (y : Credit2Domain) → credit2_in s2 d ≡ Some y → credit2_record q.scheduler.records d ≡ Some y
+  pub is_now : (y : Credit2Domain) → credit2_in s2 d ≡ Some y → domain_credit2_record q.scheduler.records d ≡ Some y
   is_now y is = sym (credit2_is m s2 k2 d i2 q at2 there2) ∙ is
 
-  pub caps_same : SameRecord (credit2_record p.scheduler.records d) (credit2_record q.scheduler.records d) → cap_at s2 d ≡ cap_at s d
-  caps_same same = ap cap_of (credit2_is m s2 k2 d i2 q at2 there2) ∙ cap_same (credit2_record p.scheduler.records d) (credit2_record q.scheduler.records d) same ∙ sym (ap cap_of (credit2_is m s k d i p at there))
+  pub caps_same : SameRecord (domain_credit2_record p.scheduler.records d) (domain_credit2_record q.scheduler.records d) → cap_at s2 d ≡ cap_at s d
+  caps_same same = ap cap_of (credit2_is m s2 k2 d i2 q at2 there2) ∙ cap_same (domain_credit2_record p.scheduler.records d) (domain_credit2_record q.scheduler.records d) same ∙ sym (ap cap_of (credit2_is m s k d i p at there))
 
   -- nothing is decided, set, refilled or moved
   pub none_tracks : (e : Event) → IsNone m d e → Same d p q → EventTracks m d e s s2
@@ -126,7 +126,7 @@ module _ (m : Machine) (d : ℕ) (s s2 : State) (k : Known m s) (k2 : Known m s2
     refilled = λ x y is x_is some y_is. absurd (clash (refills d e) is none.refill);
     decided = λ r late x y is x_is some y_is. absurd (let no = none.late r in cc);
     goes = λ x y ends late x_is some y_is. (
-        let b = record_before (credit2_record p.scheduler.records d) (credit2_record q.scheduler.records d) same.record_is y (is_now y y_is) in
+        let b = record_before (domain_credit2_record p.scheduler.records d) (domain_credit2_record q.scheduler.records d) same.record_is y (is_now y y_is) in
         let e1 : Some b.0 ≡ Some x = sym b.1 ∙ was x x_is in
         let e2 : b.0 ≡ x = cc in
         goes_on x y some (subst (λ (z : Credit2Domain). RecordGoes z y) e2 b.2));

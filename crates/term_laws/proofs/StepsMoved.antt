@@ -15,12 +15,12 @@ use Rattle.sched_model.specs.declared.state.Records.{Records}
 use Rattle.sched_model.specs.declared.state.Records.TheVariants.{Credit2Pool}
 use Rattle.sched_model.specs.declared.state.Credit2Domain.{Credit2Domain}
 use Rattle.sched_model.specs.Places.{at_place, put_at, test_at, change_at, numbers_from}
-use Rattle.sched_model.specs.Credit2.{fresh_domain}
-use Rattle.sched_model.specs.Policy.{default_dom_params, joined_records, credit2_record}
+use Rattle.sched_model.specs.Credit2.{fresh_credit2_domain}
+use Rattle.sched_model.specs.Policy.{standard_dom_params, joined_records, domain_credit2_record}
 use Rattle.sched_model.specs.Policy as policy
-use Rattle.sched_model.specs.Pool.{settled_pool, without_domain, is_of_domain, unit_count}
+use Rattle.sched_model.specs.Pool.{settled_pool, pool_without_domain, is_domain_unit, domain_unit_count}
 use Rattle.sched_model.specs.Actions.{change_pool}
-use Rattle.sched_model.specs.Machine.{after, event_of, left_by, joined_by, is_null}
+use Rattle.sched_model.specs.Machine.{after, event_of, left_by, joined_by, is_null_pool}
 use Rattle.sched_laws.proofs.EachPlace.{by_cond, at_place-put_at, read_change_at, read_put_at, place_below}
 use Rattle.sched_base.proofs.Bools.{or_right, clash}
 use Rattle.sched_laws.proofs.Lists.{test_at-some, some_is, test_at-clear_at_false}
@@ -41,24 +41,24 @@ put_is d x y places at = elim (read_put_at d d x places y at) [
   | inr here ↦ here.1
 ]
 
-joined_cap : (records : Records) (d count t : ℕ) (y : Credit2Domain) → credit2_record (joined_records records (default_dom_params records) d count t) d ≡ Some y → y.cap ≡ 0
-joined_cap (Credit2Pool own) d count t y is = sym (ap (λ (z : Credit2Domain). z.cap) (put_is d (fresh_domain 256 0 count t) y own.domains is))
+joined_cap : (records : Records) (d count t : ℕ) (y : Credit2Domain) → domain_credit2_record (joined_records records (standard_dom_params records) d count t) d ≡ Some y → y.cap ≡ 0
+joined_cap (Credit2Pool own) d count t y is = sym (ap (λ (z : Credit2Domain). z.cap) (put_is d (fresh_credit2_domain 256 0 count t) y own.domains is))
 joined_cap records d count t y is = absurd (cc)
 
 -- a domain's units that wait change no record
-joined_by_cap : (g t d : ℕ) (domain : Domain) (pool : Pool) (y : Credit2Domain) → credit2_record (joined_by g t d domain pool).scheduler.records d ≡ Some y → y.cap ≡ 0
+joined_by_cap : (g t d : ℕ) (domain : Domain) (pool : Pool) (y : Credit2Domain) → domain_credit2_record (joined_by g t d domain pool).scheduler.records d ≡ Some y → y.cap ≡ 0
 joined_by_cap g t d domain pool y is =
     let joining : Domain = record domain { moving = None } in
-    let count = unit_count g joining in
-    let put : Pool = record pool { domains = put_at d joining pool.domains; scheduler = policy.join d count (default_dom_params pool.scheduler.records) t pool.scheduler } in
-    joined_cap pool.scheduler.records d count t y (sym (ap (λ (x : Records). credit2_record x d) (queue_keeps g d (numbers_from 0 count) put)) ∙ is)
+    let count = domain_unit_count g joining in
+    let put : Pool = record pool { domains = put_at d joining pool.domains; scheduler = policy.joined_scheduler d count (standard_dom_params pool.scheduler.records) t pool.scheduler } in
+    joined_cap pool.scheduler.records d count t y (sym (ap (λ (x : Records). domain_credit2_record x d) (queue_keeps g d (numbers_from 0 count) put)) ∙ is)
 
 left_has_not : (t d : ℕ) (pool : Pool) → test_at (left_by t d pool).domains d (λ x. true) ≡ false
 left_has_not t d pool =
-    by_cond (λ (q : Pool). test_at q.domains d (λ x. true) ≡ false) (is_null pool.scheduler.records) (settled_pool t (without_domain d pool)) (without_domain d pool)
+    by_cond (λ (q : Pool). test_at q.domains d (λ x. true) ≡ false) (is_null_pool pool.scheduler.records) (settled_pool t (pool_without_domain d pool)) (pool_without_domain d pool)
     (λ is. test_at-clear_at_false d (λ x. true) pool.domains) (λ is. test_at-clear_at_false d (λ x. true) pool.domains)
 
-not_of_it : (d : ℕ) (o : Option UnitId) → is_of_domain d o ≡ false → number_in d o ≡ None
+not_of_it : (d : ℕ) (o : Option UnitId) → is_domain_unit d o ≡ false → number_in d o ≡ None
 not_of_it d None is = refl
 not_of_it d (Some u) is = ap (λ (b : Bool). cond b (Some u.n) None) is
 
@@ -132,9 +132,9 @@ module _ (m : Machine) (d : ℕ) (s : State) (k : Stands m s) (k2 : Stands m (af
           ]
 
   -- its record has no cap, if it has one
-  no_cap : (y : Credit2Domain) → credit2_record home2.pool.scheduler.records d ≡ Some y → y.cap ≡ 0
+  no_cap : (y : Credit2Domain) → domain_credit2_record home2.pool.scheduler.records d ≡ Some y → y.cap ≡ 0
   no_cap y is = elim (read_change_at (to).0.0 home2.home (joined_by g s.now d (the_mover).0) left home2.pool at_home) [
-    | inr x ↦ joined_by_cap g s.now d (the_mover).0 x.0 y (ap (λ (q : Pool). credit2_record q.scheduler.records d) x.3 ∙ is)
+    | inr x ↦ joined_by_cap g s.now d (the_mover).0 x.0 y (ap (λ (q : Pool). domain_credit2_record q.scheduler.records d) x.3 ∙ is)
     | inl was ↦ absurd (elim (read_change_at a.j home2.home (left_by s.now d) s.pools home2.pool was.1) [
       | inr x ↦ (
           let gone : test_at home2.pool.domains d (λ z. true) ≡ false = subst (λ (q : Pool). test_at q.domains d (λ z. true) ≡ false) x.3 (left_has_not s.now d x.0) in
@@ -144,9 +144,9 @@ module _ (m : Machine) (d : ℕ) (s : State) (k : Stands m s) (k2 : Stands m (af
   ]
 
   cap_now : cap_at s2 d ≡ 0
-  cap_now = ap cap_of (credit2_is m s2 k2.known d home2.home home2.pool home2.at home2.there) ∙ go (credit2_record home2.pool.scheduler.records d) refl
+  cap_now = ap cap_of (credit2_is m s2 k2.known d home2.home home2.pool home2.at home2.there) ∙ go (domain_credit2_record home2.pool.scheduler.records d) refl
     where
-      go : (o : Option Credit2Domain) → credit2_record home2.pool.scheduler.records d ≡ o → cap_of o ≡ 0
+      go : (o : Option Credit2Domain) → domain_credit2_record home2.pool.scheduler.records d ≡ o → cap_of o ≡ 0
       go None is = refl
       go (Some y) is = no_cap y is
 

@@ -19,9 +19,9 @@ use Rattle.sched_model.specs.declared.work.CommandLine.{CommandLine}
 use Rattle.sched_model.specs.declared.machine.Machine.{Machine}
 use Rattle.sched_model.specs.declared.state.State.{State}
 use Rattle.sched_model.specs.declared.action.Action.TheVariants.{Xl}
-use Rattle.sched_model.specs.Policy.{kind_of}
-use Rattle.sched_model.specs.Commands.{judge, is_kind, reply_of}
-use Rattle.sched_model.specs.Machine.{verdict, answer_of, event_of}
+use Rattle.sched_model.specs.Policy.{records_kind}
+use Rattle.sched_model.specs.Commands.{judged_command, is_same_kind, plan_reply}
+use Rattle.sched_model.specs.Machine.{line_verdict, answer_of, event_of}
 use Rattle.term_laws.specs.CapTerm.{cap_in_command, cap_in_line, cap_set}
 use Rattle.term_laws.proofs.StepsSameAt.{PlanLeaves}
 
@@ -38,26 +38,26 @@ module _ (m : Machine) (s : State) (d : ℕ) where
   abbrev C : Command → Plan → Type 0
   C c p = plan_cap d p ≡ cap_in_command m d c
 
-  judged_sets : (which : Which) (weight percent : Option ℕ) → IfOk (C (command.Credit2Dom which weight percent)) (judge m s (command.Credit2Dom which weight percent))
+  judged_sets : (which : Which) (weight percent : Option ℕ) → IfOk (C (command.Credit2Dom which weight percent)) (judged_command m s (command.Credit2Dom which weight percent))
   judged_sets which weight percent =
       let Q : Result Plan Refusal → Type 0 = IfOk (C (command.Credit2Dom which weight percent)) in
-      by_domain Q m s which _ tt (λ e i pool domain named home at has. by_demand Q (is_kind kinds.Credit2 (kind_of pool.scheduler.records)) _ _ tt (λ is. by_range Q weight 1 65535 _ _ tt (λ weighs. by_range Q percent 0 6400 _ _ tt
+      by_domain Q m s which _ tt (λ e i pool domain named home at has. by_demand Q (is_same_kind kinds.Credit2 (records_kind pool.scheduler.records)) _ _ tt (λ is. by_range Q weight 1 65535 _ _ tt (λ weighs. by_range Q percent 0 6400 _ _ tt
       (λ caps. sym (ap (λ (o : Option ℕ). elim o as (λ _. Option ℕ) [ None ↦ None | Some n ↦ cond (n == d) percent None ]) named)))))
 
   -- no other command has a plan that sets a cap
-  passed_sets : (c : Command) (p : Plan) → Passed m s c p → judge m s c ≡ Ok p → C c p
+  passed_sets : (c : Command) (p : Plan) → Passed m s c p → judged_command m s c ≡ Ok p → C c p
   passed_sets (command.Credit2Dom which weight percent) p passed is = subst (IfOk (C (command.Credit2Dom which weight percent))) is (judged_sets which weight percent)
   passed_sets c (plan.Credit2Dom e weight percent answer) passed is = (let asked = passed.2 in absurd (cc))
   passed_sets c p passed is = refl
 
   -- the same of a line, and of the event
-  line_sets : (line : CommandLine) (p : Plan) → verdict m s line ≡ Ok p → cap_in_line m d line ≡ plan_cap d p
+  line_sets : (line : CommandLine) (p : Plan) → line_verdict m s line ≡ Ok p → cap_in_line m d line ≡ plan_cap d p
   line_sets line p is =
       let passed = verdict_passed m s line p is in
       ap (λ (r : Result Command Syntax). elim r as (λ _. Option ℕ) [ Err fault ↦ None | Ok given ↦ cap_in_command m d given ]) passed.1 ∙ sym (passed_sets passed.0 p passed.2 passed.3)
 
-  pub event_sets : (t : ℕ) (line : CommandLine) → slice_get m.work.commands s.next_command ≡ Some line → cap_set m d (event_of m s t Xl) ≡ verdict_cap d (verdict m s line)
-  event_sets t line is = ap (λ (o : Option CommandLine). cap_set m d (event.Xl (suc s.next_command) (elim o as (λ _. Result Reply Refusal) [ None ↦ Ok reply.Done | Some x ↦ answer_of m s x ]))) is ∙ go (verdict m s line) refl
+  pub event_sets : (t : ℕ) (line : CommandLine) → slice_get m.work.commands s.next_command ≡ Some line → cap_set m d (event_of m s t Xl) ≡ verdict_cap d (line_verdict m s line)
+  event_sets t line is = ap (λ (o : Option CommandLine). cap_set m d (event.Xl (suc s.next_command) (elim o as (λ _. Result Reply Refusal) [ None ↦ Ok reply.Done | Some x ↦ answer_of m s x ]))) is ∙ go (line_verdict m s line) refl
     where
       back : suc s.next_command - 1 ≡ s.next_command
       back = omega arith
@@ -65,7 +65,7 @@ module _ (m : Machine) (s : State) (d : ℕ) where
       there : slice_get m.work.commands (suc s.next_command - 1) ≡ Some line
       there = ap (λ (n : ℕ). slice_get m.work.commands n) back ∙ is
 
-      go : (v : Result Plan Refusal) → verdict m s line ≡ v → cap_set m d (event.Xl (suc s.next_command) (elim v as (λ _. Result Reply Refusal) [ Err fault ↦ Err fault | Ok p ↦ Ok (reply_of p) ])) ≡ verdict_cap d v
+      go : (v : Result Plan Refusal) → line_verdict m s line ≡ v → cap_set m d (event.Xl (suc s.next_command) (elim v as (λ _. Result Reply Refusal) [ Err fault ↦ Err fault | Ok p ↦ Ok (plan_reply p) ])) ≡ verdict_cap d v
       go (Err fault) v_is = refl
       go (Ok p) v_is = ap (λ (o : Option CommandLine). elim o as (λ _. Option ℕ) [ None ↦ None | Some x ↦ cap_in_line m d x ]) there ∙ line_sets line p v_is
 

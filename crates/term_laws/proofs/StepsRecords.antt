@@ -5,7 +5,7 @@ use Rattle.std.proofs.lemmas.Int.{ints}
 use Rattle.std.proofs.Math.Decide.{ℕ_discrete}
 use Rattle.std.proofs.lemmas.Bool.{ne_eqb}
 use Rattle.sched_base.specs.Numbers.{moment}
-use Rattle.sched_base.specs.Credit2Numbers.{above_zero, raise, slice}
+use Rattle.sched_base.specs.Credit2Numbers.{positive_part, raised_credit, slice_length}
 use Rattle.sched_base.specs.declared.Moment.{Moment}
 use Rattle.sched_base.specs.declared.UnitId.{UnitId}
 use Rattle.sched_model.specs.declared.ask.Ask.{Ask}
@@ -15,8 +15,8 @@ use Rattle.sched_model.specs.declared.state.Credit2Domain.{Credit2Domain}
 use Rattle.sched_model.specs.declared.state.Credit2Records.{Credit2Records}
 use Rattle.sched_model.specs.declared.state.Records.TheVariants.{Credit2Pool}
 use Rattle.sched_model.specs.Places.{at_place, change_at, change_item}
-use Rattle.sched_model.specs.EligibleUnits.{Decision, has_budget}
-use Rattle.sched_model.specs.Credit2.{max_weight, burn_unit, burn_units, burn_all, change_domain, give_back, burn_cur, choice, domain_has_budget, reset, resets_for, take_budget, best_other, slice_of, set_running, switch_off, decide, credit2_decision}
+use Rattle.sched_model.specs.EligibleUnits.{Decision, has_cap_budget}
+use Rattle.sched_model.specs.Credit2.{most_weight, burned_unit, burned_domain, burn_all, change_domain, domain_after_return, own_burned_records, credit2_choice, has_domain_budget, reset_records, reset_count, domain_after_take, best_other_credit, chosen_slice, running_records, off_records, credit2_decision_for, credit2_decision}
 use Rattle.sched_laws.proofs.EachPlace.{at_place-change_each}
 use Rattle.sched_laws.specs.PoolFacts.{IfUnit}
 use Rattle.sched_laws.proofs.Sound.{change_at-twice}
@@ -54,76 +54,76 @@ change_seen {X} e d n f F places none some =
     ]
 
 module _ (d t : ℕ) where
-  burn_seen : (cur : Option UnitId) (own : Credit2Records) → at_place (burn_cur cur t own).domains d ≡ option_map (own_charged (max_weight own) t (number_in d cur)) (at_place own.domains d)
-  burn_seen None own = sym (map_same (own_charged (max_weight own) t None) (at_place own.domains d) (λ x. refl))
+  burn_seen : (cur : Option UnitId) (own : Credit2Records) → at_place (own_burned_records cur t own).domains d ≡ option_map (own_charged (most_weight own) t (number_in d cur)) (at_place own.domains d)
+  burn_seen None own = sym (map_same (own_charged (most_weight own) t None) (at_place own.domains d) (λ x. refl))
   burn_seen (Some u) own =
-      let most : ℕ = max_weight own in
-      ap (λ (places : List (Option Credit2Domain)). at_place places d) (change_at-twice u.dom.0 (λ (x : Credit2Domain). cond (x.cap == 0) x (give_back u.n x)) (λ (x : Credit2Domain). record x { units = change_item u.n (burn_unit most t x) x.units }) own.domains)
+      let most : ℕ = most_weight own in
+      ap (λ (places : List (Option Credit2Domain)). at_place places d) (change_at-twice u.dom.0 (λ (x : Credit2Domain). cond (x.cap == 0) x (domain_after_return u.n x)) (λ (x : Credit2Domain). record x { units = change_item u.n (burned_unit most t x) x.units }) own.domains)
       ∙ change_seen u.dom.0 d u.n (own_charged most t (Some u.n)) (own_charged most t) own.domains (λ x. refl) (λ x. refl)
 
-  reset_seen : (k : ℕ) (own : Credit2Records) → at_place (reset t k own).domains d ≡ option_map (was_reset (max_weight own) t k) (at_place own.domains d)
-  reset_seen zero own = sym (map_same (was_reset (max_weight own) t zero) (at_place own.domains d) (λ x. refl))
+  reset_seen : (k : ℕ) (own : Credit2Records) → at_place (reset_records t k own).domains d ≡ option_map (was_reset (most_weight own) t k) (at_place own.domains d)
+  reset_seen zero own = sym (map_same (was_reset (most_weight own) t zero) (at_place own.domains d) (λ x. refl))
   reset_seen (suc k) own =
-      let most : ℕ = max_weight own in
-      let raised : ℕ → Credit2Domain → Credit2Domain = λ n (x : Credit2Domain). record x { units = map (λ (y : Credit2Unit). record y { credit = raise y.credit (suc k) }) x.units } in
-      let burned : ℕ → Credit2Domain → Credit2Domain = λ n (x : Credit2Domain). burn_units most t x in
+      let most : ℕ = most_weight own in
+      let raised : ℕ → Credit2Domain → Credit2Domain = λ n (x : Credit2Domain). record x { units = map (λ (y : Credit2Unit). record y { credit = raised_credit y.credit (suc k) }) x.units } in
+      let burned : ℕ → Credit2Domain → Credit2Domain = λ n (x : Credit2Domain). burned_domain most t x in
       at_place-change_each 0 d raised (burn_all t own).domains ∙ ap (option_map (raised (0 + d))) (at_place-change_each 0 d burned own.domains) ∙ map_map (raised (0 + d)) (burned (0 + d)) (at_place own.domains d)
 
-  take_seen : (u : UnitId) (own : Credit2Records) → at_place (change_domain u.dom.0 (take_budget u.n) own).domains d ≡ option_map (has_taken (number_in d (Some u))) (at_place own.domains d)
-  take_seen u own = change_seen u.dom.0 d u.n (take_budget u.n) has_taken own.domains (λ x. refl) (λ x. refl)
+  take_seen : (u : UnitId) (own : Credit2Records) → at_place (change_domain u.dom.0 (domain_after_take u.n) own).domains d ≡ option_map (has_taken (number_in d (Some u))) (at_place own.domains d)
+  take_seen u own = change_seen u.dom.0 d u.n (domain_after_take u.n) has_taken own.domains (λ x. refl) (λ x. refl)
 
-  running_seen : (from : Option ℕ) (u : UnitId) (own : Credit2Records) → at_place (set_running from u own).domains d ≡ option_map (now_from from (number_in d (Some u))) (at_place own.domains d)
+  running_seen : (from : Option ℕ) (u : UnitId) (own : Credit2Records) → at_place (running_records from u own).domains d ≡ option_map (now_from from (number_in d (Some u))) (at_place own.domains d)
   running_seen from u own = change_seen u.dom.0 d u.n (now_from from (Some u.n)) (now_from from) own.domains (λ x. refl) (λ x. refl)
 
-  off_seen : (cur : Option UnitId) (own : Credit2Records) → at_place (switch_off cur own).domains d ≡ option_map (now_from None (number_in d cur)) (at_place own.domains d)
+  off_seen : (cur : Option UnitId) (own : Credit2Records) → at_place (off_records cur own).domains d ≡ option_map (now_from None (number_in d cur)) (at_place own.domains d)
   off_seen None own = sym (map_same (now_from None None) (at_place own.domains d) (λ x. refl))
   off_seen (Some w) own = running_seen None w own
 
   -- the records before the unit runs
   taken_seen : (cur : Option UnitId) (u : UnitId) (k : ℕ) (own : Credit2Records)
-      → at_place (change_domain u.dom.0 (take_budget u.n) (reset t k (burn_cur cur t own))).domains d
-      ≡ option_map (λ (x : Credit2Domain). has_taken (number_in d (Some u)) (was_reset (max_weight (burn_cur cur t own)) t k (own_charged (max_weight own) t (number_in d cur) x))) (at_place own.domains d)
+      → at_place (change_domain u.dom.0 (domain_after_take u.n) (reset_records t k (own_burned_records cur t own))).domains d
+      ≡ option_map (λ (x : Credit2Domain). has_taken (number_in d (Some u)) (was_reset (most_weight (own_burned_records cur t own)) t k (own_charged (most_weight own) t (number_in d cur) x))) (at_place own.domains d)
   taken_seen cur u k own =
-      let burned : Credit2Records = burn_cur cur t own in
-      let first : Credit2Domain → Credit2Domain = own_charged (max_weight own) t (number_in d cur) in
-      let second : Credit2Domain → Credit2Domain = was_reset (max_weight burned) t k in
-      take_seen u (reset t k burned) ∙ ap (option_map (has_taken (number_in d (Some u)))) (reset_seen k burned ∙ ap (option_map second) (burn_seen cur own) ∙ map_map second first (at_place own.domains d))
+      let burned : Credit2Records = own_burned_records cur t own in
+      let first : Credit2Domain → Credit2Domain = own_charged (most_weight own) t (number_in d cur) in
+      let second : Credit2Domain → Credit2Domain = was_reset (most_weight burned) t k in
+      take_seen u (reset_records t k burned) ∙ ap (option_map (has_taken (number_in d (Some u)))) (reset_seen k burned ∙ ap (option_map second) (burn_seen cur own) ∙ map_map second first (at_place own.domains d))
       ∙ map_map (has_taken (number_in d (Some u))) (λ (x : Credit2Domain). second (first x)) (at_place own.domains d)
 
   chosen_seen : (cur : Option UnitId) (u : UnitId) (k : ℕ) (own : Credit2Records)
-      → at_place (set_running (Some t) u (switch_off cur (change_domain u.dom.0 (take_budget u.n) (reset t k (burn_cur cur t own))))).domains d
-      ≡ option_map (chosen_domain (max_weight own) (max_weight (burn_cur cur t own)) t k (number_in d cur) (number_in d (Some u))) (at_place own.domains d)
+      → at_place (running_records (Some t) u (off_records cur (change_domain u.dom.0 (domain_after_take u.n) (reset_records t k (own_burned_records cur t own))))).domains d
+      ≡ option_map (chosen_domain (most_weight own) (most_weight (own_burned_records cur t own)) t k (number_in d cur) (number_in d (Some u))) (at_place own.domains d)
   chosen_seen cur u k own =
-      let taken : Credit2Records = change_domain u.dom.0 (take_budget u.n) (reset t k (burn_cur cur t own)) in
-      let third : Credit2Domain → Credit2Domain = λ (x : Credit2Domain). has_taken (number_in d (Some u)) (was_reset (max_weight (burn_cur cur t own)) t k (own_charged (max_weight own) t (number_in d cur) x)) in
+      let taken : Credit2Records = change_domain u.dom.0 (domain_after_take u.n) (reset_records t k (own_burned_records cur t own)) in
+      let third : Credit2Domain → Credit2Domain = λ (x : Credit2Domain). has_taken (number_in d (Some u)) (was_reset (most_weight (own_burned_records cur t own)) t k (own_charged (most_weight own) t (number_in d cur) x)) in
       let off : Credit2Domain → Credit2Domain = now_from None (number_in d cur) in
       let on : Credit2Domain → Credit2Domain = now_from (Some t) (number_in d (Some u)) in
-      running_seen (Some t) u (switch_off cur taken) ∙ ap (option_map on) (off_seen cur taken ∙ ap (option_map off) (taken_seen cur u k own) ∙ map_map off third (at_place own.domains d))
+      running_seen (Some t) u (off_records cur taken) ∙ ap (option_map on) (off_seen cur taken ∙ ap (option_map off) (taken_seen cur u k own) ∙ map_map off third (at_place own.domains d))
       ∙ map_map on (λ (x : Credit2Domain). off (third x)) (at_place own.domains d)
 
-  idle_seen : (cur : Option UnitId) (own : Credit2Records) → at_place (switch_off cur (burn_cur cur t own)).domains d ≡ option_map (chosen_domain (max_weight own) 0 t 0 (number_in d cur) None) (at_place own.domains d)
+  idle_seen : (cur : Option UnitId) (own : Credit2Records) → at_place (off_records cur (own_burned_records cur t own)).domains d ≡ option_map (chosen_domain (most_weight own) 0 t 0 (number_in d cur) None) (at_place own.domains d)
   idle_seen cur own =
-      off_seen cur (burn_cur cur t own) ∙ ap (option_map (now_from None (number_in d cur))) (burn_seen cur own) ∙ map_map (now_from None (number_in d cur)) (own_charged (max_weight own) t (number_in d cur)) (at_place own.domains d)
+      off_seen cur (own_burned_records cur t own) ∙ ap (option_map (now_from None (number_in d cur))) (burn_seen cur own) ∙ map_map (now_from None (number_in d cur)) (own_charged (most_weight own) t (number_in d cur)) (at_place own.domains d)
 
 -- the chosen unit of a capped domain runs for no longer than what it took
-slice_low : (ask : Ask) (scheduler : Scheduler) (records : Credit2Records) (u : UnitId) (x : Credit2Domain) (h : ℤ) → at_place records.domains u.dom.0 ≡ Some x → 0 < x.cap → HoldsIt u.n h x.units → slice_of ask scheduler records u ≤ above_zero h
+slice_low : (ask : Ask) (scheduler : Scheduler) (records : Credit2Records) (u : UnitId) (x : Credit2Domain) (h : ℤ) → at_place records.domains u.dom.0 ≡ Some x → 0 < x.cap → HoldsIt u.n h x.units → chosen_slice ask scheduler records u ≤ positive_part h
 slice_low ask scheduler records u x h at some holds =
-    subst (λ (n : ℕ). n ≤ above_zero h) (sym (ap (λ (o : Option Credit2Domain). of_domain o) at)) (by_unit (slice_get x.units u.n) refl)
+    subst (λ (n : ℕ). n ≤ positive_part h) (sym (ap (λ (o : Option Credit2Domain). of_domain o) at)) (by_unit (slice_get x.units u.n) refl)
   where
     long : Credit2Domain → Credit2Unit → ℕ
-    long d y = slice y.credit (best_other ask scheduler records u) d.weight (max_weight records) (records.limit * 1000)
+    long d y = slice_length y.credit (best_other_credit ask scheduler records u) d.weight (most_weight records) (records.limit * 1000)
 
     of_unit : Credit2Domain → Option Credit2Unit → ℕ
-    of_unit d o = elim o [ None ↦ 0 | Some y ↦ cond (d.cap == 0) (long d y) (min (long d y) (above_zero y.held)) ]
+    of_unit d o = elim o [ None ↦ 0 | Some y ↦ cond (d.cap == 0) (long d y) (min (long d y) (positive_part y.held)) ]
 
     of_domain : Option Credit2Domain → ℕ
     of_domain o = elim o [ None ↦ 0 | Some d ↦ of_unit d (slice_get d.units u.n) ]
 
-    by_unit : (o : Option Credit2Unit) → slice_get x.units u.n ≡ o → of_unit x o ≤ above_zero h
+    by_unit : (o : Option Credit2Unit) → slice_get x.units u.n ≡ o → of_unit x o ≤ positive_part h
     by_unit None is = omega arith
     by_unit (Some y) is =
-        let e : cond (x.cap == 0) (long x y) (min (long x y) (above_zero y.held)) ≡ min (long x y) (above_zero y.held) = ap (λ (c : Bool). cond c (long x y) (min (long x y) (above_zero y.held))) (is_capped x.cap some) in
-        let e2 : above_zero y.held ≡ above_zero h = ap above_zero (holds y is) in
+        let e : cond (x.cap == 0) (long x y) (min (long x y) (positive_part y.held)) ≡ min (long x y) (positive_part y.held) = ap (λ (c : Bool). cond c (long x y) (min (long x y) (positive_part y.held))) (is_capped x.cap some) in
+        let e2 : positive_part y.held ≡ positive_part h = ap positive_part (holds y is) in
         omega (arith, e, e2)
 
 -- what a decision does to the record of the domain d; the chosen unit is due when what it took is used up, if not before
@@ -151,75 +151,75 @@ module _ (d : ℕ) (ask : Ask) (scheduler : Scheduler) (own : Credit2Records) wh
   had = number_in d ask.cur
 
   abbrev burned : Credit2Records
-  burned = burn_cur ask.cur ask.at.0 own
+  burned = own_burned_records ask.cur ask.at.0 own
 
-  decides_idle : PoolDecides d ask.at.0 had own (decide ask scheduler burned None)
+  decides_idle : PoolDecides d ask.at.0 had own (credit2_decision_for ask scheduler burned None)
   decides_idle = record {
-    records = switch_off ask.cur burned;
+    records = off_records ask.cur burned;
     is = refl;
-    none = λ at. idle_seen d ask.at.0 ask.cur own ∙ ap (option_map (chosen_domain (max_weight own) 0 ask.at.0 0 had None)) at;
+    none = λ at. idle_seen d ask.at.0 ask.cur own ∙ ap (option_map (chosen_domain (most_weight own) 0 ask.at.0 0 had None)) at;
     some = λ x at past runs. (
-      chosen_domain (max_weight own) 0 ask.at.0 0 had None x,
-      idle_seen d ask.at.0 ask.cur own ∙ ap (option_map (chosen_domain (max_weight own) 0 ask.at.0 0 had None)) at,
+      chosen_domain (most_weight own) 0 ask.at.0 0 had None x,
+      idle_seen d ask.at.0 ask.cur own ∙ ap (option_map (chosen_domain (most_weight own) 0 ask.at.0 0 had None)) at,
       record {
         taken = pos 0;
-        decides = domain_decides (max_weight own) 0 ask.at.0 0 x past had None runs (λ j is. absurd (cc));
+        decides = domain_decides (most_weight own) 0 ask.at.0 0 x past had None runs (λ j is. absurd (cc));
         is_due = λ j is. absurd (cc);
       },
     );
   }
 
   -- the budget of the chosen unit's domain
-  pays_here : (u : UnitId) (x : Credit2Domain) → at_place own.domains d ≡ Some x → domain_has_budget burned u ≡ true → (j : ℕ) → number_in d (Some u) ≡ Some j → has_budget (own_charged (max_weight own) ask.at.0 had x) ≡ true
+  pays_here : (u : UnitId) (x : Credit2Domain) → at_place own.domains d ≡ Some x → has_domain_budget burned u ≡ true → (j : ℕ) → number_in d (Some u) ≡ Some j → has_cap_budget (own_charged (most_weight own) ask.at.0 had x) ≡ true
   pays_here u x at pays j is =
       let e = number_here d j u is in
-      let there : at_place burned.domains u.dom.0 ≡ Some (own_charged (max_weight own) ask.at.0 had x) =
-      ap (λ (k : ℕ). at_place burned.domains k) e.0 ∙ burn_seen d ask.at.0 ask.cur own ∙ ap (option_map (own_charged (max_weight own) ask.at.0 had)) at in
-      sym (ap (λ (o : Option Credit2Domain). elim o as (λ _. Bool) [ None ↦ false | Some z ↦ has_budget z ]) there) ∙ pays
+      let there : at_place burned.domains u.dom.0 ≡ Some (own_charged (most_weight own) ask.at.0 had x) =
+      ap (λ (k : ℕ). at_place burned.domains k) e.0 ∙ burn_seen d ask.at.0 ask.cur own ∙ ap (option_map (own_charged (most_weight own) ask.at.0 had)) at in
+      sym (ap (λ (o : Option Credit2Domain). elim o as (λ _. Bool) [ None ↦ false | Some z ↦ has_cap_budget z ]) there) ∙ pays
 
-  module _ (u : UnitId) (pays : domain_has_budget burned u ≡ true) where
+  module _ (u : UnitId) (pays : has_domain_budget burned u ≡ true) where
     abbrev k : ℕ
-    k = resets_for ask.at.0 u burned
+    k = reset_count ask.at.0 u burned
 
     abbrev taken : Credit2Records
-    taken = change_domain u.dom.0 (take_budget u.n) (reset ask.at.0 k burned)
+    taken = change_domain u.dom.0 (domain_after_take u.n) (reset_records ask.at.0 k burned)
 
     abbrev first : Credit2Domain → Credit2Domain
-    first = own_charged (max_weight own) ask.at.0 had
+    first = own_charged (most_weight own) ask.at.0 had
 
     abbrev second : Credit2Domain → Credit2Domain
-    second = was_reset (max_weight burned) ask.at.0 k
+    second = was_reset (most_weight burned) ask.at.0 k
 
     abbrev all : Credit2Domain → Credit2Domain
-    all = chosen_domain (max_weight own) (max_weight burned) ask.at.0 k had (number_in d (Some u))
+    all = chosen_domain (most_weight own) (most_weight burned) ask.at.0 k had (number_in d (Some u))
 
     due_low : (x : Credit2Domain) → at_place own.domains d ≡ Some x → (j : ℕ) → number_in d (Some u) ≡ Some j → 0 < x.cap → pos 0 ≤ℤ taken_by (number_in d (Some u)) (second (first x))
-        → pos (ask.at.0 + slice_of ask scheduler taken u) ≤ℤ (pos ask.at.0 +ℤ taken_by (number_in d (Some u)) (second (first x)))
+        → pos (ask.at.0 + chosen_slice ask scheduler taken u) ≤ℤ (pos ask.at.0 +ℤ taken_by (number_in d (Some u)) (second (first x)))
     due_low x at j is some low =
         let e = number_here d j u is in
         let is_n : number_in d (Some u) ≡ Some u.n = is ∙ ap (λ (n : ℕ). Some n) (sym e.1) in
         let z : Credit2Domain = second (first x) in
-        let caps : z.cap ≡ x.cap = reset_cap (max_weight burned) ask.at.0 k (first x) ∙ own_cap (max_weight own) ask.at.0 had x in
+        let caps : z.cap ≡ x.cap = reset_cap (most_weight burned) ask.at.0 k (first x) ∙ own_cap (most_weight own) ask.at.0 had x in
         let some_z : 0 < z.cap = subst (λ (n : ℕ). 0 < n) (sym caps) some in
-        let there : at_place taken.domains u.dom.0 ≡ Some (take_budget u.n z) =
+        let there : at_place taken.domains u.dom.0 ≡ Some (domain_after_take u.n z) =
         ap (λ (n : ℕ). at_place taken.domains n) e.0 ∙ taken_seen d ask.at.0 ask.cur u k own ∙ ap (option_map (λ (y : Credit2Domain). has_taken (number_in d (Some u)) (second (first y)))) at ∙ ap (λ (o : Option ℕ). Some (has_taken o z)) is_n in
-        let some_t : 0 < (take_budget u.n z).cap = subst (λ (n : ℕ). 0 < n) (sym (ap (λ (y : Credit2Domain). y.cap) (taken_is u.n z some_z))) some_z in
-        let s = slice_low ask scheduler taken u (take_budget u.n z) (part_of z) there some_t (holds_taken u.n z some_z) in
+        let some_t : 0 < (domain_after_take u.n z).cap = subst (λ (n : ℕ). 0 < n) (sym (ap (λ (y : Credit2Domain). y.cap) (taken_is u.n z some_z))) some_z in
+        let s = slice_low ask scheduler taken u (domain_after_take u.n z) (part_of z) there some_t (holds_taken u.n z some_z) in
         let taken_is_part : taken_by (number_in d (Some u)) z ≡ part_of z = ap (λ (o : Option ℕ). taken_by o z) is_n in
         let low2 : pos 0 ≤ℤ part_of z = subst (λ (h : ℤ). pos 0 ≤ℤ h) taken_is_part low in
-        subst (λ (h : ℤ). pos (ask.at.0 + slice_of ask scheduler taken u) ≤ℤ (pos ask.at.0 +ℤ h)) (sym taken_is_part) (within (slice_of ask scheduler taken u) (part_of z) s low2)
+        subst (λ (h : ℤ). pos (ask.at.0 + chosen_slice ask scheduler taken u) ≤ℤ (pos ask.at.0 +ℤ h)) (sym taken_is_part) (within (chosen_slice ask scheduler taken u) (part_of z) s low2)
       where
-        within : (n : ℕ) (h : ℤ) → n ≤ above_zero h → pos 0 ≤ℤ h → pos (ask.at.0 + n) ≤ℤ (pos ask.at.0 +ℤ h)
+        within : (n : ℕ) (h : ℤ) → n ≤ positive_part h → pos 0 ≤ℤ h → pos (ask.at.0 + n) ≤ℤ (pos ask.at.0 +ℤ h)
         within n (pos h) less low3 = omega (arith, ints, less)
         within n (negsuc h) less low3 = absurd (omega (arith, ints, low3))
 
     decided : (x : Credit2Domain) → at_place own.domains d ≡ Some x → ArePast ask.at.0 x.units → ((i : ℕ) → had ≡ Some i → (stop : ℤ) × Stops x i stop)
         → DomainDecides ask.at.0 had (number_in d (Some u)) (taken_by (number_in d (Some u)) (second (first x))) x (all x)
-    decided x at past runs = domain_decides (max_weight own) (max_weight burned) ask.at.0 k x past had (number_in d (Some u)) runs (pays_here u x at pays)
+    decided x at past runs = domain_decides (most_weight own) (most_weight burned) ask.at.0 k x past had (number_in d (Some u)) runs (pays_here u x at pays)
 
-    decides_unit : PoolDecides d ask.at.0 had own (decide ask scheduler burned (Some u))
+    decides_unit : PoolDecides d ask.at.0 had own (credit2_decision_for ask scheduler burned (Some u))
     decides_unit = record {
-      records = set_running (Some ask.at.0) u (switch_off ask.cur taken);
+      records = running_records (Some ask.at.0) u (off_records ask.cur taken);
       is = refl;
       none = λ at. chosen_seen d ask.at.0 ask.cur u k own ∙ ap (option_map all) at;
       some = λ x at past runs. (
@@ -228,14 +228,14 @@ module _ (d : ℕ) (ask : Ask) (scheduler : Scheduler) (own : Credit2Records) wh
         record {
           taken = taken_by (number_in d (Some u)) (second (first x));
           decides = decided x at past runs;
-          is_due = λ j is. (ask.at.0 + slice_of ask scheduler taken u, refl, λ some. due_low x at j is some ((decided x at past runs).low some));
+          is_due = λ j is. (ask.at.0 + chosen_slice ask scheduler taken u, refl, λ some. due_low x at j is some ((decided x at past runs).low some));
         },
       );
     }
 
   pub pool_decides : PoolDecides d ask.at.0 had own (credit2_decision ask scheduler own)
-  pool_decides = by_choice (choice ask scheduler burned) (choice_pays ask.at.0 (λ n k. Unit {0}) ask scheduler burned)
+  pool_decides = by_choice (credit2_choice ask scheduler burned) (choice_pays ask.at.0 (λ n k. Unit {0}) ask scheduler burned)
     where
-      by_choice : (c : Option UnitId) → IfUnit (λ u. domain_has_budget burned u ≡ true) c → PoolDecides d ask.at.0 had own (decide ask scheduler burned c)
+      by_choice : (c : Option UnitId) → IfUnit (λ u. has_domain_budget burned u ≡ true) c → PoolDecides d ask.at.0 had own (credit2_decision_for ask scheduler burned c)
       by_choice None pays = decides_idle
       by_choice (Some u) pays = decides_unit u pays

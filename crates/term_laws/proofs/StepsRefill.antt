@@ -5,7 +5,7 @@ use Rattle.std.specs.Prelude.{Option, Some, None, option_map, ◌==◌, ℤ, pos
 use Rattle.std.specs.Int.{int_min}
 use Rattle.std.proofs.lemmas.Int.{ints, clamps}
 use Rattle.std.proofs.lemmas.Bool.{eq-eqb}
-use Rattle.sched_base.specs.Credit2Numbers.{total}
+use Rattle.sched_base.specs.Credit2Numbers.{cap_budget}
 use Rattle.sched_model.specs.declared.action.Action.TheVariants.{Refill}
 use Rattle.sched_model.specs.declared.machine.Machine.{Machine}
 use Rattle.sched_model.specs.declared.state.State.{State}
@@ -16,9 +16,9 @@ use Rattle.sched_model.specs.declared.state.Credit2Unit.{Credit2Unit}
 use Rattle.sched_model.specs.declared.state.Credit2Domain.{Credit2Domain}
 use Rattle.sched_model.specs.CheckedMachine.{IsChecked}
 use Rattle.sched_model.specs.Places.{at_place, test_at}
-use Rattle.sched_model.specs.Credit2.{max_weight, burn_unit, burn_units, periods, held_by_running, refill_domain}
+use Rattle.sched_model.specs.Credit2.{most_weight, burned_unit, burned_domain, passed_periods, running_budget, domain_after_refill}
 use Rattle.sched_model.specs.Policy as policy
-use Rattle.sched_model.specs.Policy.{credit2_record}
+use Rattle.sched_model.specs.Policy.{domain_credit2_record}
 use Rattle.sched_model.specs.Pool.{after_in, settled_pool, with_records}
 use Rattle.sched_model.specs.Machine.{after, event_of}
 use Rattle.sched_base.proofs.Bools.{clash, or_left}
@@ -37,26 +37,26 @@ min_right : (a b : ℤ) → int_min a b ≤ℤ b
 min_right a b = omega (arith, ints, clamps)
 
 -- the record of the domain
-kept_refilled : (most t : ℕ) (x : Credit2Domain) (n : ℕ) → ArePast t x.units → Kept x (refill_domain most t x) n
+kept_refilled : (most t : ℕ) (x : Credit2Domain) (n : ℕ) → ArePast t x.units → Kept x (domain_after_refill most t x) n
 kept_refilled most t x n past = record {
   goes = λ stop s. (
       let k = (kept_burned most t x n past).goes stop s in
       (k.0, record { unit = k.1.unit; at = k.1.at; from = k.1.from; burned = k.1.burned; sum = k.1.sum }, k.2));
 }
 
-refills_it : (most t : ℕ) (x : Credit2Domain) → 0 < x.cap → ArePast t x.units → Refills t x (refill_domain most t x)
+refills_it : (most t : ℕ) (x : Credit2Domain) → 0 < x.cap → ArePast t x.units → Refills t x (domain_after_refill most t x)
 refills_it most t x some past = record {
-  charged = λ n b z at is. (let r = get_map (burn_unit most t x) x.units n z at in burned_now most t b x r.0 (ap (λ (w : Credit2Unit). w.burned) r.2 ∙ is));
-  others = λ n stop s. (let k = (kept_refilled most t x n past).goes stop s in subst (Stops (refill_domain most t x) n) (k.2 some) k.1);
-  budget = min_right (x.budget +ℤ pos (periods x t * total x.cap)) (pos (total x.cap) -ℤ pos (held_by_running (burn_units most t x)));
+  charged = λ n b z at is. (let r = get_map (burned_unit most t x) x.units n z at in burned_now most t b x r.0 (ap (λ (w : Credit2Unit). w.burned) r.2 ∙ is));
+  others = λ n stop s. (let k = (kept_refilled most t x n past).goes stop s in subst (Stops (domain_after_refill most t x) n) (k.2 some) k.1);
+  budget = min_right (x.budget +ℤ pos (passed_periods x t * cap_budget x.cap)) (pos (cap_budget x.cap) -ℤ pos (running_budget (burned_domain most t x)));
 }
 
-record_none : (records : Records) (t d : ℕ) → credit2_record records d ≡ None → credit2_record (policy.refill records t d) d ≡ None
-record_none (Credit2Pool own) t d is = at_place-change_at d (refill_domain (max_weight own) t) own.domains ∙ ap (option_map (refill_domain (max_weight own) t)) is
+record_none : (records : Records) (t d : ℕ) → domain_credit2_record records d ≡ None → domain_credit2_record (policy.records_after_refill records t d) d ≡ None
+record_none (Credit2Pool own) t d is = at_place-change_at d (domain_after_refill (most_weight own) t) own.domains ∙ ap (option_map (domain_after_refill (most_weight own) t)) is
 record_none records t d is = refl
 
-record_some : (records : Records) (t d : ℕ) (x : Credit2Domain) → credit2_record records d ≡ Some x → (most : ℕ) × (credit2_record (policy.refill records t d) d ≡ Some (refill_domain most t x))
-record_some (Credit2Pool own) t d x is = (max_weight own, at_place-change_at d (refill_domain (max_weight own) t) own.domains ∙ ap (option_map (refill_domain (max_weight own) t)) is)
+record_some : (records : Records) (t d : ℕ) (x : Credit2Domain) → domain_credit2_record records d ≡ Some x → (most : ℕ) × (domain_credit2_record (policy.records_after_refill records t d) d ≡ Some (domain_after_refill most t x))
+record_some (Credit2Pool own) t d x is = (most_weight own, at_place-change_at d (domain_after_refill (most_weight own) t) own.domains ∙ ap (option_map (domain_after_refill (most_weight own) t)) is)
 record_some records t d x is = absurd (cc)
 
 module _ (m : Machine) (checked : IsChecked m) (d : ℕ) (s : State) (k : Stands m s) (k2 : Stands m (after m s s.now (Refill (domain d)))) (a : ActsIn m s s.now (Refill (domain d))) (there : test_at a.pool.domains d (λ x. true) ≡ true) (holds : StateHolds d s) where
@@ -64,7 +64,7 @@ module _ (m : Machine) (checked : IsChecked m) (d : ℕ) (s : State) (k : Stands
   s2 = after m s s.now (Refill (domain d))
 
   abbrev mid : Pool
-  mid = with_records (policy.refill a.pool.scheduler.records s.now d) a.pool
+  mid = with_records (policy.records_after_refill a.pool.scheduler.records s.now d) a.pool
 
   abbrev next : Pool
   next = settled_pool s.now mid
@@ -77,28 +77,28 @@ module _ (m : Machine) (checked : IsChecked m) (d : ℕ) (s : State) (k : Stands
   settles : Same d mid next
   settles = same_settled d s.now mid mid (same_refl d mid)
 
-  past : (x : Credit2Domain) → credit2_record a.pool.scheduler.records d ≡ Some x → ArePast s.now x.units
+  past : (x : Credit2Domain) → domain_credit2_record a.pool.scheduler.records d ≡ Some x → ArePast s.now x.units
   past x is = are_past m checked s k d a.j a.pool a.at x is
 
   -- the record that is there now, and the one before
-  before : (y : Credit2Domain) → credit2_record next.scheduler.records d ≡ Some y → (x : Credit2Domain) × (credit2_record a.pool.scheduler.records d ≡ Some x) × (most : ℕ) × (refill_domain most s.now x ≡ y)
-  before y is = go (credit2_record a.pool.scheduler.records d) refl
+  before : (y : Credit2Domain) → domain_credit2_record next.scheduler.records d ≡ Some y → (x : Credit2Domain) × (domain_credit2_record a.pool.scheduler.records d ≡ Some x) × (most : ℕ) × (domain_after_refill most s.now x ≡ y)
+  before y is = go (domain_credit2_record a.pool.scheduler.records d) refl
     where
-      go : (o : Option Credit2Domain) → credit2_record a.pool.scheduler.records d ≡ o → (x : Credit2Domain) × (credit2_record a.pool.scheduler.records d ≡ Some x) × (most : ℕ) × (refill_domain most s.now x ≡ y)
+      go : (o : Option Credit2Domain) → domain_credit2_record a.pool.scheduler.records d ≡ o → (x : Credit2Domain) × (domain_credit2_record a.pool.scheduler.records d ≡ Some x) × (most : ℕ) × (domain_after_refill most s.now x ≡ y)
       go None none = absurd (let e : None ≡ Some y = sym (record_none a.pool.scheduler.records s.now d none) ∙ is in cc)
-      go (Some x) some = (let z = record_some a.pool.scheduler.records s.now d x some in let e : Some (refill_domain z.0 s.now x) ≡ Some y = sym z.1 ∙ is in (x, some, z.0, cc))
+      go (Some x) some = (let z = record_some a.pool.scheduler.records s.now d x some in let e : Some (domain_after_refill z.0 s.now x) ≡ Some y = sym z.1 ∙ is in (x, some, z.0, cc))
 
   pool_holds : PoolHolds d next
   pool_holds y is r n on =
       let b = before y is in
       let on_mid : number_in d (cur_in (at_place a.pool.resources r)) ≡ Some n = ap (number_in d) (sym (settles.curs r)) ∙ on in
-      let cap : (refill_domain b.2 s.now b.0).cap ≡ (b.0).cap = refl in
+      let cap : (domain_after_refill b.2 s.now b.0).cap ≡ (b.0).cap = refl in
       on_it_kept b.0 y n (due_in (at_place a.pool.resources r)) (due_in (at_place next.resources r)) (sym (ap (λ (z : Credit2Domain). z.cap) b.3) ∙ cap)
       (subst (λ (z : Credit2Domain). Kept b.0 z n) b.3 (kept_refilled b.2 s.now b.0 n (past b.0 b.1)))
       (settles.dues y is r n on_mid)
       (holds_in m s k.known d a.j a.pool a.at there holds b.0 b.1 r n on_mid)
 
-  caps : (o : Option Credit2Domain) → credit2_record a.pool.scheduler.records d ≡ o → cap_of (credit2_record next.scheduler.records d) ≡ cap_of (credit2_record a.pool.scheduler.records d)
+  caps : (o : Option Credit2Domain) → domain_credit2_record a.pool.scheduler.records d ≡ o → cap_of (domain_credit2_record next.scheduler.records d) ≡ cap_of (domain_credit2_record a.pool.scheduler.records d)
   caps None is = ap cap_of (record_none a.pool.scheduler.records s.now d is) ∙ sym (ap cap_of is)
   caps (Some x) is = (let z = record_some a.pool.scheduler.records s.now d x is in ap cap_of z.1 ∙ sym (ap cap_of is))
 
@@ -107,7 +107,7 @@ module _ (m : Machine) (checked : IsChecked m) (d : ℕ) (s : State) (k : Stands
     tracks = record {
       stays = λ r is. on_after m d s s2 k.known k2.known a.j a.j a.pool next a.at there at_next there r ∙ ap (number_in d) (settles.curs r) ∙ sym (on_before m d s s2 k.known k2.known a.j a.j a.pool next a.at there at_next there r);
       decides = λ r late is. absurd (cc);
-      cap = ap cap_of (credit2_is m s2 k2.known d a.j next at_next there) ∙ caps (credit2_record a.pool.scheduler.records d) refl ∙ sym (ap cap_of (credit2_is m s k.known d a.j a.pool a.at there));
+      cap = ap cap_of (credit2_is m s2 k2.known d a.j next at_next there) ∙ caps (domain_credit2_record a.pool.scheduler.records d) refl ∙ sym (ap cap_of (credit2_is m s k.known d a.j a.pool a.at there));
       moved = λ r is. absurd (cc);
       set_budget = λ percent y is y_is. absurd (cc);
       set_stops = λ percent y is y_is n stop stops. absurd (cc);

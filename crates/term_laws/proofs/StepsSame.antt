@@ -14,7 +14,7 @@ use Rattle.sched_model.specs.declared.state.Credit2Domain.{Credit2Domain}
 use Rattle.sched_model.specs.declared.state.Records.TheVariants.{Credit2Pool, RtdsPool}
 use Rattle.sched_model.specs.Places.{at_place, change_each, test_at}
 use Rattle.sched_model.specs.Policy as policy
-use Rattle.sched_model.specs.Policy.{credit2_record, rtds_record}
+use Rattle.sched_model.specs.Policy.{domain_credit2_record, unit_rtds_record}
 use Rattle.sched_model.specs.Pool as pools
 use Rattle.sched_model.specs.declared.action.Action.{Action}
 use Rattle.sched_model.specs.declared.action.Action.TheVariants.{Refill, Decide}
@@ -63,17 +63,17 @@ module _ (d : ℕ) where
   -- the second pool is as the first one, for the domain
   pub record Same (p q : Pool) : Type 0 where
     pub curs : (r : ℕ) → cur_in (at_place q.resources r) ≡ cur_in (at_place p.resources r)
-    pub dues : (x : Credit2Domain) → credit2_record p.scheduler.records d ≡ Some x → (r n : ℕ) → number_in d (cur_in (at_place p.resources r)) ≡ Some n → due_in (at_place q.resources r) ≡ due_in (at_place p.resources r)
-    pub record_is : SameRecord (credit2_record p.scheduler.records d) (credit2_record q.scheduler.records d)
+    pub dues : (x : Credit2Domain) → domain_credit2_record p.scheduler.records d ≡ Some x → (r n : ℕ) → number_in d (cur_in (at_place p.resources r)) ≡ Some n → due_in (at_place q.resources r) ≡ due_in (at_place p.resources r)
+    pub record_is : SameRecord (domain_credit2_record p.scheduler.records d) (domain_credit2_record q.scheduler.records d)
     pub there : test_at q.domains d (λ x. true) ≡ test_at p.domains d (λ x. true)
 
-  pub same_of : (p q : Pool) → ((r : ℕ) → SameCore (at_place p.resources r) (at_place q.resources r)) → SameRecord (credit2_record p.scheduler.records d) (credit2_record q.scheduler.records d)
+  pub same_of : (p q : Pool) → ((r : ℕ) → SameCore (at_place p.resources r) (at_place q.resources r)) → SameRecord (domain_credit2_record p.scheduler.records d) (domain_credit2_record q.scheduler.records d)
       → test_at q.domains d (λ x. true) ≡ test_at p.domains d (λ x. true) → Same p q
   same_of p q cores records there = record { curs = λ r. (cores r).cur; dues = λ x at r n is. (cores r).due n is; record_is = records; there = there }
 
   -- only cores, domains or the scheduler change
-  pub same_as : (p q : Pool) → ((r : ℕ) → SameCore (at_place p.resources r) (at_place q.resources r)) → credit2_record q.scheduler.records d ≡ credit2_record p.scheduler.records d → test_at q.domains d (λ x. true) ≡ test_at p.domains d (λ x. true) → Same p q
-  same_as p q cores records there = same_of p q cores (same_record (credit2_record p.scheduler.records d) (credit2_record q.scheduler.records d) records) there
+  pub same_as : (p q : Pool) → ((r : ℕ) → SameCore (at_place p.resources r) (at_place q.resources r)) → domain_credit2_record q.scheduler.records d ≡ domain_credit2_record p.scheduler.records d → test_at q.domains d (λ x. true) ≡ test_at p.domains d (λ x. true) → Same p q
+  same_as p q cores records there = same_of p q cores (same_record (domain_credit2_record p.scheduler.records d) (domain_credit2_record q.scheduler.records d) records) there
 
   pub same_refl : (p : Pool) → Same p p
   same_refl p = same_as p p (λ r. core_refl (at_place p.resources r)) refl refl
@@ -111,27 +111,27 @@ module _ (d : ℕ) where
 
   -- another queue, or other sets of cores
   pub same_scheduler : (scheduler : Scheduler) (p q : Pool) → scheduler.records ≡ q.scheduler.records → Same p q → Same p (record q { scheduler = scheduler })
-  same_scheduler scheduler p q same a = same_trans p q (record q { scheduler = scheduler }) a (same_as _ _ (λ r. core_refl (at_place q.resources r)) (ap (λ (x : Records). credit2_record x d) same) refl)
+  same_scheduler scheduler p q same a = same_trans p q (record q { scheduler = scheduler }) a (same_as _ _ (λ r. core_refl (at_place q.resources r)) (ap (λ (x : Records). domain_credit2_record x d) same) refl)
 
   -- the refill of another domain
-  refill_other : (t e : ℕ) (records : Records) → e ≢ d → credit2_record (policy.refill records t e) d ≡ credit2_record records d
+  refill_other : (t e : ℕ) (records : Records) → e ≢ d → domain_credit2_record (policy.records_after_refill records t e) d ≡ domain_credit2_record records d
   refill_other t e (Credit2Pool own) other = at_place-change_at_other e d _ own.domains other
   refill_other t e (RtdsPool domains) other = refl
   refill_other t e records other = refl
 
-  same_refill : (t e : ℕ) (p : Pool) → e ≢ d → Same p (pools.with_records (policy.refill p.scheduler.records t e) p)
+  same_refill : (t e : ℕ) (p : Pool) → e ≢ d → Same p (pools.with_records (policy.records_after_refill p.scheduler.records t e) p)
   same_refill t e p other = same_as _ _ (λ r. core_refl (at_place p.resources r)) (refill_other t e p.scheduler.records other) refl
 
   -- a replenishment, which changes no Credit2 pool
-  replenish_record : (t : ℕ) (u : UnitId) (records : Records) → credit2_record (policy.replenish records t u) d ≡ credit2_record records d
+  replenish_record : (t : ℕ) (u : UnitId) (records : Records) → domain_credit2_record (policy.records_after_replenish records t u) d ≡ domain_credit2_record records d
   replenish_record t u (Credit2Pool own) = refl
   replenish_record t u records = refl
 
-  no_rtds : (u : UnitId) (records : Records) (x : Credit2Domain) (y : RtdsUnit) → credit2_record records d ≡ Some x → rtds_record records u ≡ Some y → ⊥
+  no_rtds : (u : UnitId) (records : Records) (x : Credit2Domain) (y : RtdsUnit) → domain_credit2_record records d ≡ Some x → unit_rtds_record records u ≡ Some y → ⊥
   no_rtds u (Credit2Pool own) x y at is = cc
   no_rtds u records x y at is = cc
 
-  same_dues : (r t : ℕ) (u : UnitId) (x : RtdsUnit) (p q : Pool) → rtds_record q.scheduler.records u ≡ Some x → Same p q → Same p (change_core r (pools.due_within t x.budget) q)
+  same_dues : (r t : ℕ) (u : UnitId) (x : RtdsUnit) (p q : Pool) → unit_rtds_record q.scheduler.records u ≡ Some x → Same p q → Same p (change_core r (pools.due_within t x.budget) q)
   same_dues r t u x p q is a = record {
     curs = λ k. like_look (λ c e. e.cur ≡ c.cur) cur_in q.resources _ (λ c e same. same) (like_change_at (λ c e. e.cur ≡ c.cur) r (pools.due_within t x.budget) q.resources (λ c. refl) (λ c at. refl)) k ∙ a.curs k;
     dues = λ y at k n own. absurd (let z = a.record_is.some y at in no_rtds u q.scheduler.records z.0 x z.1 is);
@@ -144,8 +144,8 @@ module _ (d : ℕ) where
   same_parts On no_decide others g t p = record {
     cores = λ cores q like. same_like cores p q (like_map KeepsCore SameCores q.resources cores (λ c e keeps. record { cur = keeps.cur; due = λ n is. keeps.due }) like);
     domains = λ e f q count moving. same_change_domain e f p q;
-    queues = λ u q runs. same_scheduler (policy.enqueue u q.scheduler) p q refl;
-    dequeues = λ e q. same_scheduler (policy.dequeue_domain e q.scheduler) p q refl;
+    queues = λ u q runs. same_scheduler (policy.scheduler_with_queued u q.scheduler) p q refl;
+    dequeues = λ e q. same_scheduler (policy.scheduler_without_queued e q.scheduler) p q refl;
     decides = λ r c q at on. absurd (no_decide r on);
     saves = λ r c u q at is on. same_like _ p q (like_change_at SameCores r pools.saved_core q.resources (λ x. core_refl (Some x)) (λ x there. record { cur = refl; due = λ n own. refl }));
     replenishes = λ u q on a. same_trans p q _ a (same_as _ _ (λ r. core_refl (at_place q.resources r)) (replenish_record t u q.scheduler.records) refl);

@@ -12,8 +12,8 @@ use Rattle.sched_model.specs.declared.state.Pool.{Pool}
 use Rattle.sched_model.specs.declared.action.Action.{Action}
 use Rattle.sched_model.specs.declared.action.Action.TheVariants.{Xl, DomMoved, Refill, Decide}
 use Rattle.sched_model.specs.Places.{at_place, test_at}
-use Rattle.sched_model.specs.Opening.{fresh_core}
-use Rattle.sched_model.specs.Machine.{after, verdict, is_enabled}
+use Rattle.sched_model.specs.Opening.{joined_core}
+use Rattle.sched_model.specs.Machine.{after, line_verdict, is_action_enabled}
 use Rattle.sched_laws.proofs.Kept.{IsApart}
 use Rattle.term_laws.proofs.SamePool.{cur_in}
 use Rattle.term_laws.proofs.AtHome.{HoldsAt, KeptAtHome, IsNoDom, at_after, IfOk}
@@ -58,7 +58,7 @@ module _ (d i : ℕ) (p : Pool) (has : test_at p.domains d (λ x. true) ≡ true
   LeavesIt m s (Decide r) = ⊥
   LeavesIt m s (DomMoved e) = ⊥
   LeavesIt m s (Refill e) = e.0 ≢ d
-  LeavesIt m s Xl = (line : CommandLine) → slice_get m.work.commands s.next_command ≡ Some line → IfOk (PlanLeaves d) (verdict m s line)
+  LeavesIt m s Xl = (line : CommandLine) → slice_get m.work.commands s.next_command ≡ Some line → IfOk (PlanLeaves d) (line_verdict m s line)
   LeavesIt m s _ = Unit {0}
 
   same_at_home : (m : Machine) (s : State) (t : ℕ) → KeptAtHome m s t d (LeavesIt m s) (PlanLeaves d) (Same d p)
@@ -77,11 +77,11 @@ module _ (d i : ℕ) (p : Pool) (has : test_at p.domains d (λ x. true) ≡ true
         unpauses = kept_unpause commands;
         sets = λ change q none a. same_trans d p q _ a (same_changes d t change q (sets_no_cap d change none));
         weights = λ e weight limit answer q kind leaves a. same_trans d p q _ a (same_changes d t (changes.Dom e weight limit) q (sets_weight d e weight limit answer leaves));
-        core_comes = λ r ends q none a. same_trans d p q _ a (same_as d _ _ (core_set d r (Some (fresh_core ends)) q.resources refl (ap cur_in none)) refl refl);
+        core_comes = λ r ends q none a. same_trans d p q _ a (same_as d _ _ (core_set d r (Some (joined_core ends)) q.resources refl (ap cur_in none)) refl refl);
         core_goes = λ r c q at none a. same_trans d p q _ a (same_as d _ _ (core_set d r None q.resources refl (ap cur_in at ∙ none)) refl refl);
         line = λ leaves line. leaves line;
         no_move = λ e none. none;
       }
 
-  pub sat_after : (m : Machine) (t : ℕ) (action : Action) (s : State) → LeavesIt m s action → IsApart s → is_enabled m s t action ≡ true → SameAt s → SameAt (after m s t action)
+  pub sat_after : (m : Machine) (t : ℕ) (action : Action) (s : State) → LeavesIt m s action → IsApart s → is_action_enabled m s t action ≡ true → SameAt s → SameAt (after m s t action)
   sat_after m t action s leaves apart on a = at_after (same_at_home m s t) i action leaves apart on a

@@ -18,9 +18,9 @@ use Rattle.sched_model.specs.declared.state.Records.{Records}
 use Rattle.sched_model.specs.declared.state.Records.TheVariants.{Credit2Pool}
 use Rattle.sched_model.specs.Places.{at_place, test_at}
 use Rattle.sched_model.specs.CheckedMachine.{IsChecked}
-use Rattle.sched_model.specs.Opening.{core_count}
-use Rattle.sched_model.specs.Policy.{credit2_record}
-use Rattle.sched_model.specs.Actions.{home_of_core, home_of_domain}
+use Rattle.sched_model.specs.Opening.{machine_core_count}
+use Rattle.sched_model.specs.Policy.{domain_credit2_record}
+use Rattle.sched_model.specs.Actions.{home_pool_of_core, home_pool_of_domain}
 use Rattle.sched_model.specs.Runs.{Reached}
 use Rattle.sched_laws.specs.EachPlace.{EachPlace}
 use Rattle.sched_laws.proofs.Choices.{same_unit_same}
@@ -103,20 +103,20 @@ no_unit_there s d i k r p q c apart at there at_k own has ne = is_empty (number_
     ne (one_home s k i q p d apart at_k at (subst (λ e. test_at q.domains e (λ x. true) ≡ true) u.2 in_q) there)))
 
 module _ (m : Machine) (s : State) (k : Known m s) (d i : ℕ) (p : Pool) (at : at_place s.pools i ≡ Some p) (there : test_at p.domains d (λ x. true) ≡ true) where
-  pub home_is : home_of_domain s d ≡ Some i
+  pub home_is : home_pool_of_domain s d ≡ Some i
   home_is = domain_home s i d k.apart (has_domain s i d p at there)
 
-  pub credit2_is : credit2_in s d ≡ credit2_record p.scheduler.records d
+  pub credit2_is : credit2_in s d ≡ domain_credit2_record p.scheduler.records d
   credit2_is =
-      ap (λ (o : Option ℕ). elim o as (λ _. Option Credit2Domain) [ None ↦ None | Some j ↦ elim (at_place s.pools j) [ None ↦ None | Some pool ↦ credit2_record pool.scheduler.records d ] ]) home_is
-      ∙ ap (λ (o : Option Pool). elim o as (λ _. Option Credit2Domain) [ None ↦ None | Some pool ↦ credit2_record pool.scheduler.records d ]) at
+      ap (λ (o : Option ℕ). elim o as (λ _. Option Credit2Domain) [ None ↦ None | Some j ↦ elim (at_place s.pools j) [ None ↦ None | Some pool ↦ domain_credit2_record pool.scheduler.records d ] ]) home_is
+      ∙ ap (λ (o : Option Pool). elim o as (λ _. Option Credit2Domain) [ None ↦ None | Some pool ↦ domain_credit2_record pool.scheduler.records d ]) at
 
   -- the core of the pool, and one of another pool or of none
   cur_is : (r : ℕ) → number_in d (cur_in (core_in s r)) ≡ number_in d (cur_in (at_place p.resources r))
   cur_is r =
       elim (at_place p.resources r) as (λ o. at_place p.resources r ≡ o → number_in d (cur_in (core_in s r)) ≡ number_in d (cur_in o)) [
         | Some c ↦ λ is. ap (λ (o : Option Resource). number_in d (cur_in o)) (core_is_in s i r p c k.apart at is)
-        | None ↦ λ is. by_option (λ (o : Option Resource). number_in d (cur_in o) ≡ None) (home_of_core s r) None _ (λ none. refl)
+        | None ↦ λ is. by_option (λ (o : Option Resource). number_in d (cur_in o) ≡ None) (home_pool_of_core s r) None _ (λ none. refl)
             (λ j found. by_option (λ (o : Option Resource). number_in d (cur_in o) ≡ None) (at_place s.pools j) None (λ q. at_place q.resources r) (λ none. refl)
             (λ q at_j. elsewhere is j q at_j (at_place q.resources r) refl))
       ] refl
@@ -162,19 +162,19 @@ module _ (m : Machine) (s : State) (k : Known m s) (d i : ℕ) (p : Pool) (at : 
           let most = (k.one i p at).most u.0 in
           omega (arith, sum, one_c, one_e, most)
 
-  pub on_low : (r n : ℕ) → number_in d (cur_in (at_place p.resources r)) ≡ Some n → r < core_count m.config
+  pub on_low : (r n : ℕ) → number_in d (cur_in (at_place p.resources r)) ≡ Some n → r < machine_core_count m.config
   on_low r n is =
-      elim (at_place p.resources r) as (λ o. at_place p.resources r ≡ o → number_in d (cur_in o) ≡ Some n → r < core_count m.config) [
+      elim (at_place p.resources r) as (λ o. at_place p.resources r ≡ o → number_in d (cur_in o) ≡ Some n → r < machine_core_count m.config) [
         | None ↦ λ none is2. absurd (cc)
         | Some c ↦ λ has is2. (let low = place_below p.resources r c has in let count = (k.range.pools i p at).core_places in omega (arith, low, count))
       ] refl is
 
 -- the records of Credit2
-pub credit2_pool : (records : Records) (d : ℕ) (x : Credit2Domain) → credit2_record records d ≡ Some x → (own : Credit2Records) × (records ≡ Credit2Pool own) × (at_place own.domains d ≡ Some x)
+pub credit2_pool : (records : Records) (d : ℕ) (x : Credit2Domain) → domain_credit2_record records d ≡ Some x → (own : Credit2Records) × (records ≡ Credit2Pool own) × (at_place own.domains d ≡ Some x)
 credit2_pool (Credit2Pool own) d x is = (own, refl, is)
 credit2_pool records d x is = absurd (cc)
 
-module _ (m : Machine) (checked : IsChecked m) (s : State) (k : Stands m s) (d i : ℕ) (p : Pool) (at : at_place s.pools i ≡ Some p) (x : Credit2Domain) (is : credit2_record p.scheduler.records d ≡ Some x) where
+module _ (m : Machine) (checked : IsChecked m) (s : State) (k : Stands m s) (d i : ℕ) (p : Pool) (at : at_place s.pools i ≡ Some p) (x : Credit2Domain) (is : domain_credit2_record p.scheduler.records d ≡ Some x) where
   budget_fits : BudgetFits s.now (CountIs m d) Nobody Nobody x
   budget_fits = (let own = credit2_pool p.scheduler.records d x is in ((k.fit.pools i p at).credit own.0 own.1).budgets d x own.2)
 

@@ -17,9 +17,9 @@ use Rattle.sched_model.specs.declared.state.Pool.{Pool}
 use Rattle.sched_model.specs.declared.state.Resource.{Resource}
 use Rattle.sched_model.specs.declared.state.Credit2Domain.{Credit2Domain}
 use Rattle.sched_model.specs.Places.{at_place, test_at}
-use Rattle.sched_model.specs.Actions.{home_of_core, home_of_domain}
-use Rattle.sched_model.specs.Commands.{domain_of, domain_named}
-use Rattle.sched_model.specs.Runs.{action_of}
+use Rattle.sched_model.specs.Actions.{home_pool_of_core, home_pool_of_domain}
+use Rattle.sched_model.specs.Commands.{meant_domain, named_domain_number}
+use Rattle.sched_model.specs.Runs.{event_action}
 use Rattle.sched_base.proofs.Bools.{clash}
 use Rattle.sched_laws.specs.PoolFacts.{IfUnit}
 use Rattle.sched_laws.proofs.EachPlace.{by_option, by_cond, found_at, is_empty}
@@ -34,7 +34,7 @@ use Rattle.term_laws.proofs.StepsState.{unit_of_number, on_core_cur}
 use Rattle.term_laws.proofs.StepsHolds.{IsNone, cap_of, cap_stays}
 
 -- an entry without an action
-pub quiet_none : (m : Machine) (d : ℕ) (e : Event) → action_of e ≡ None → IsNone m d e
+pub quiet_none : (m : Machine) (d : ℕ) (e : Event) → event_action e ≡ None → IsNone m d e
 quiet_none m d (event.End next) is = record { late = λ r. refl; stays = refl; sets = refl; refill = refl }
 quiet_none m d event.Finish is = record { late = λ r. refl; stays = refl; sets = refl; refill = refl }
 quiet_none m d _ is = absurd (cc)
@@ -57,15 +57,15 @@ still_tracks m d e s s2 none on same = record {
 }
 
 -- a domain that a command names is one of the machine
-named_low : (n : ℕ) (name : List ℕ) (domains : List DomConfig) (d : ℕ) → domain_named n name domains ≡ Some d → d < n + length domains
+named_low : (n : ℕ) (name : List ℕ) (domains : List DomConfig) (d : ℕ) → named_domain_number n name domains ≡ Some d → d < n + length domains
 named_low n name [] d is = absurd (cc)
 named_low n name (domain ∷ domains) d is = go (λ is2. named_low (suc n) name domains d is2) (bytes_eq name domain.name) is
   where
-    go : (domain_named (suc n) name domains ≡ Some d → d < suc n + length domains) → (b : Bool) → elim b as (λ _. Option ℕ) [ true ↦ Some n | false ↦ domain_named (suc n) name domains ] ≡ Some d → d < n + length (domain ∷ domains)
+    go : (named_domain_number (suc n) name domains ≡ Some d → d < suc n + length domains) → (b : Bool) → elim b as (λ _. Option ℕ) [ true ↦ Some n | false ↦ named_domain_number (suc n) name domains ] ≡ Some d → d < n + length (domain ∷ domains)
     go later true is2 = (let e : n ≡ d = cc in omega (arith, e))
     go later false is2 = (let low = later is2 in omega (arith, low))
 
-domain_low : (m : Machine) (which : Which) (d : ℕ) → domain_of m which ≡ Some d → d < length m.config.domains
+domain_low : (m : Machine) (which : Which) (d : ℕ) → meant_domain m which ≡ Some d → d < length m.config.domains
 domain_low m (Name name) d is = (let low = named_low 0 name m.config.domains d is in omega (arith, low))
 domain_low m (Number n) d is = go (nat_lt n (length m.config.domains)) refl is
   where
@@ -75,9 +75,9 @@ domain_low m (Number n) d is = go (nat_lt n (length m.config.domains)) refl is
 
 module _ (m : Machine) (d : ℕ) where
   command_low : (c : Command) (n : ℕ) → cap_in_command m d c ≡ Some n → d < length m.config.domains
-  command_low (command.Credit2Dom which weight percent) n is = go (domain_of m which) refl is
+  command_low (command.Credit2Dom which weight percent) n is = go (meant_domain m which) refl is
     where
-      go : (o : Option ℕ) → domain_of m which ≡ o → elim o as (λ _. Option ℕ) [ None ↦ None | Some named ↦ cond (named == d) percent None ] ≡ Some n → d < length m.config.domains
+      go : (o : Option ℕ) → meant_domain m which ≡ o → elim o as (λ _. Option ℕ) [ None ↦ None | Some named ↦ cond (named == d) percent None ] ≡ Some n → d < length m.config.domains
       go None is2 e = absurd (cc)
       go (Some named) is2 e = here (named == d) refl e
         where
@@ -108,7 +108,7 @@ module _ (m : Machine) (d : ℕ) where
 
     pub no_record : (s : State) → Known m s → credit2_in s d ≡ None
     no_record s k =
-        by_option (λ (o : Option Credit2Domain). o ≡ None) (home_of_domain s d) None _ (λ none. refl)
+        by_option (λ (o : Option Credit2Domain). o ≡ None) (home_pool_of_domain s d) None _ (λ none. refl)
         (λ i found. absurd (
         let f = found_at i (λ p. is_some (at_place p.domains d)) s.pools found in
         let x = some_is (at_place f.0.domains d) f.2 in
@@ -117,7 +117,7 @@ module _ (m : Machine) (d : ℕ) where
     pub no_core : (s : State) → Known m s → (r : ℕ) → on_core s d r ≡ None
     no_core s k r =
         on_core_cur s d r
-        ∙ by_option (λ (o : Option Resource). number_in d (cur_in o) ≡ None) (home_of_core s r) None _ (λ none. refl)
+        ∙ by_option (λ (o : Option Resource). number_in d (cur_in o) ≡ None) (home_pool_of_core s r) None _ (λ none. refl)
         (λ i found. by_option (λ (o : Option Resource). number_in d (cur_in o) ≡ None) (at_place s.pools i) None (λ p. at_place p.resources r) (λ none. refl)
         (λ p at. here i p at (at_place p.resources r) refl))
       where

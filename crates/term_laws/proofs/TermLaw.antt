@@ -14,8 +14,8 @@ use Rattle.sched_model.specs.declared.machine.Machine.{Machine}
 use Rattle.sched_model.specs.declared.state.State.{State}
 use Rattle.sched_model.specs.Places.{same_unit}
 use Rattle.sched_model.specs.CheckedMachine.{IsChecked}
-use Rattle.sched_model.specs.Machine.{is_enabled, event_of, after}
-use Rattle.sched_model.specs.Runs.{Reached, action_of, end_of, after_quiet, after_event, after_entry, IsNext, IsNextEvent}
+use Rattle.sched_model.specs.Machine.{is_action_enabled, event_of, after}
+use Rattle.sched_model.specs.Runs.{Reached, event_action, named_next_moment, after_quiet, after_event, after_entry, IsNext, IsNextEvent}
 use Rattle.sched_laws.proofs.ApartKept.{apart_after}
 use Rattle.sched_laws.proofs.Choices.{same_unit_same}
 use Rattle.term_laws.specs.RtdsTerm.{Term, late_now, late_of, taken_by, moves, term_end, opened_by}
@@ -39,27 +39,27 @@ IsQuiet u e = ((r : ℕ) → late_of r e ≡ None) × (taken_by u e ≡ None) ×
 module _ (m : Machine) (checked : IsChecked m) (u : UnitId) where
   -- what holds of an entry and of the state after it, by the entry's action
   pub by_entry : (P : Entry → State → Type 0) (from : Reached) (entry : Entry) → IsNext m from entry → IsReached m from.state
-      → ((action : Action) → is_enabled m from.state from.state.now action ≡ true → IsOrdinary m u from.state from.state.now action → P (record { at = entry.at; event = event_of m from.state from.state.now action }) (after m from.state from.state.now action))
-      → ((n : ℕ) → is_enabled m from.state from.state.now (Decide (core_number n)) ≡ true → P (record { at = entry.at; event = event_of m from.state from.state.now (Decide (core_number n)) }) (after m from.state from.state.now (Decide (core_number n))))
-      → ((v : UnitId) → is_enabled m from.state from.state.now (Repl v) ≡ true → P (record { at = entry.at; event = event_of m from.state from.state.now (Repl v) }) (after m from.state from.state.now (Repl v)))
-      → ((d : ℕ) → is_enabled m from.state from.state.now (DomMoved (domain d)) ≡ true → IsReached m (after m from.state from.state.now (DomMoved (domain d))) → P (record { at = entry.at; event = event_of m from.state from.state.now (DomMoved (domain d)) }) (after m from.state from.state.now (DomMoved (domain d))))
+      → ((action : Action) → is_action_enabled m from.state from.state.now action ≡ true → IsOrdinary m u from.state from.state.now action → P (record { at = entry.at; event = event_of m from.state from.state.now action }) (after m from.state from.state.now action))
+      → ((n : ℕ) → is_action_enabled m from.state from.state.now (Decide (core_number n)) ≡ true → P (record { at = entry.at; event = event_of m from.state from.state.now (Decide (core_number n)) }) (after m from.state from.state.now (Decide (core_number n))))
+      → ((v : UnitId) → is_action_enabled m from.state from.state.now (Repl v) ≡ true → P (record { at = entry.at; event = event_of m from.state from.state.now (Repl v) }) (after m from.state from.state.now (Repl v)))
+      → ((d : ℕ) → is_action_enabled m from.state from.state.now (DomMoved (domain d)) ≡ true → IsReached m (after m from.state from.state.now (DomMoved (domain d))) → P (record { at = entry.at; event = event_of m from.state from.state.now (DomMoved (domain d)) }) (after m from.state from.state.now (DomMoved (domain d))))
       → (IsQuiet u entry.event → P entry from.state)
       → (IsQuiet u entry.event → (n : ℕ) → P entry (record from.state { now = n }))
       → P entry (after_entry m from entry).state
-  by_entry P from entry next reached ordinary decided replenished moved quiet passes = go (action_of entry.event) refl next.event
+  by_entry P from entry next reached ordinary decided replenished moved quiet passes = go (event_action entry.event) refl next.event
     where
-      by_view : (action : Action) → is_enabled m from.state from.state.now action ≡ true → IsReached m (after m from.state from.state.now action) → View m u from.state from.state.now action → P (record { at = entry.at; event = event_of m from.state from.state.now action }) (after m from.state from.state.now action)
+      by_view : (action : Action) → is_action_enabled m from.state from.state.now action ≡ true → IsReached m (after m from.state from.state.now action) → View m u from.state from.state.now action → P (record { at = entry.at; event = event_of m from.state from.state.now action }) (after m from.state from.state.now action)
       by_view action on r (inl o) = ordinary action on o
-      by_view action on r (inr (inl n)) = subst (λ a. is_enabled m from.state from.state.now a ≡ true → P (record { at = entry.at; event = event_of m from.state from.state.now a }) (after m from.state from.state.now a)) (sym n.1) (decided n.0) on
-      by_view action on r (inr (inr (inl v))) = subst (λ a. is_enabled m from.state from.state.now a ≡ true → P (record { at = entry.at; event = event_of m from.state from.state.now a }) (after m from.state from.state.now a)) (sym v.1) (replenished v.0) on
-      by_view action on r (inr (inr (inr d))) = subst (λ a. is_enabled m from.state from.state.now a ≡ true → IsReached m (after m from.state from.state.now a) → P (record { at = entry.at; event = event_of m from.state from.state.now a }) (after m from.state from.state.now a)) (sym d.1) (moved d.0) on r
+      by_view action on r (inr (inl n)) = subst (λ a. is_action_enabled m from.state from.state.now a ≡ true → P (record { at = entry.at; event = event_of m from.state from.state.now a }) (after m from.state from.state.now a)) (sym n.1) (decided n.0) on
+      by_view action on r (inr (inr (inl v))) = subst (λ a. is_action_enabled m from.state from.state.now a ≡ true → P (record { at = entry.at; event = event_of m from.state from.state.now a }) (after m from.state from.state.now a)) (sym v.1) (replenished v.0) on
+      by_view action on r (inr (inr (inr d))) = subst (λ a. is_action_enabled m from.state from.state.now a ≡ true → IsReached m (after m from.state from.state.now a) → P (record { at = entry.at; event = event_of m from.state from.state.now a }) (after m from.state from.state.now a)) (sym d.1) (moved d.0) on r
 
-      go_quiet : (end : Option ℕ) → action_of entry.event ≡ None → P entry (after_quiet end from).state
+      go_quiet : (end : Option ℕ) → event_action entry.event ≡ None → P entry (after_quiet end from).state
       go_quiet None is = quiet (quiet_event u entry.event is)
       go_quiet (Some n) is = passes (quiet_event u entry.event is) n
 
-      go : (o : Option Action) → action_of entry.event ≡ o → IsNextEvent m from.state entry.event o → P entry (after_event m entry.event o from).state
-      go None is ev = go_quiet (end_of entry.event) is
+      go : (o : Option Action) → event_action entry.event ≡ o → IsNextEvent m from.state entry.event o → P entry (after_event m entry.event o from).state
+      go None is ev = go_quiet (named_next_moment entry.event) is
       go (Some action) is ev =
           subst (λ e. P (record { at = entry.at; event = e }) (after m from.state from.state.now action)) (sym ev.1)
           (by_view action ev.0 (subst (λ o. IsReached m (after_event m entry.event o from).state) is (reached_next m from entry next reached)) (view m u from.state from.state.now action))
@@ -156,7 +156,7 @@ module _ (m : Machine) (checked : IsChecked m) (u : UnitId) (low : u.dom.0 < len
   never : {X : Type 0} (x : X) (o : Option X) → o ≡ None → o ≡ Some x → ⊥
   never x o none some = (let e : None ≡ Some x = sym none ∙ some in cc)
 
-  opens_own : (core : Option ℕ) (s : State) (k : Known m s) (at : Moment) (entries : List Entry) (term : Term) → at.0 ≡ s.now → term.extra ≡ false → Tracks u core s → is_enabled m s s.now (Repl u) ≡ true
+  opens_own : (core : Option ℕ) (s : State) (k : Known m s) (at : Moment) (entries : List Entry) (term : Term) → at.0 ≡ s.now → term.extra ≡ false → Tracks u core s → is_action_enabled m s s.now (Repl u) ≡ true
       → Opens core s.now entries term (record { at = at; event = event_of m s s.now (Repl u) }) (after m s s.now (Repl u))
   opens_own core s k at entries term moment_is plain w may opens =
       let a = acts_in m s s.now (Repl u) may in (
@@ -177,7 +177,7 @@ module _ (m : Machine) (checked : IsChecked m) (u : UnitId) (low : u.dom.0 < len
       (λ action may o h. absurd (never term _ (o.opens entry.at.0 entries) h))
       (λ n may h. absurd (never term None refl h))
       (λ v may h. elim (same_unit v u) as (λ b. same_unit v u ≡ b → (deadline : ℕ) × (term.from ≡ s.now) × (term.until ≡ term_end u.dom.0 deadline entries) × ((r : ℕ) → late_of r (event_of m s s.now (Repl v)) ≡ None) × (taken_by u (event_of m s s.now (Repl v)) ≡ None) × WithinTerm u deadline term.budget (begun_on s.now core) (after m s s.now (Repl v))) [
-        | true ↦ λ is. subst (λ x. is_enabled m s s.now (Repl x) ≡ true → Opens core s.now entries term (record { at = entry.at; event = event_of m s s.now (Repl x) }) (after m s s.now (Repl x))) (sym (same_unit_same v u is)) (opens_own core s k entry.at entries term next.moment plain w) may h
+        | true ↦ λ is. subst (λ x. is_action_enabled m s s.now (Repl x) ≡ true → Opens core s.now entries term (record { at = entry.at; event = event_of m s s.now (Repl x) }) (after m s s.now (Repl x))) (sym (same_unit_same v u is)) (opens_own core s k entry.at entries term next.moment plain w) may h
         | false ↦ λ is. absurd (never term _ (other_unit m checked u v entry.at.0 _ _ _ _ entries is) h)
       ] refl)
       (λ d may r2 h. absurd (never term None refl h))

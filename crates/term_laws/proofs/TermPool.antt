@@ -14,14 +14,14 @@ use Rattle.sched_model.specs.declared.state.Records.{Records}
 use Rattle.sched_model.specs.declared.state.RtdsUnit.{RtdsUnit}
 use Rattle.sched_model.specs.declared.state.Records.TheVariants.{RtdsPool}
 use Rattle.sched_model.specs.declared.ask.Ask.{Ask}
-use Rattle.sched_model.specs.EligibleUnits.{Decision, rtds_unit}
+use Rattle.sched_model.specs.EligibleUnits.{Decision, rtds_unit_at}
 use Rattle.sched_model.specs.Policy.{decision_of, decision_by}
 use Rattle.sched_model.specs.Rtds.{rtds_decision}
-use Rattle.sched_model.specs.Pool.{ask_of, after_decide, decided_core, same_choice}
+use Rattle.sched_model.specs.Pool.{core_ask, after_decide, decided_core, same_choice}
 use Rattle.sched_model.specs.Rtds as rtds
 use Rattle.sched_model.specs.Policy as policy
-use Rattle.sched_model.specs.Policy.{rtds_record}
-use Rattle.sched_model.specs.Pool.{core_of, after_replenish, due_within, with_records}
+use Rattle.sched_model.specs.Policy.{unit_rtds_record}
+use Rattle.sched_model.specs.Pool.{unit_core, after_replenish, due_within, with_records}
 use Rattle.std.specs.Prelude.{min}
 use Rattle.sched_laws.proofs.EachPlace.{by_option, none_found, found_at, at_place-put_at as put_within, place_below}
 use Rattle.sched_laws.proofs.Choices.{same_unit_same, is_unit_same, decision_has}
@@ -35,10 +35,10 @@ use Rattle.term_laws.proofs.RtdsSteps.{Recorded, recorded_other, Chosen, Passed,
 use Rattle.term_laws.proofs.SamePool.{Same, seen, charged}
 
 -- the record is still there, and as much is charged of it
-recorded_same : (u : UnitId) (left deadline : ℕ) (burned : Option ℕ) (domains domains2 : List (Option (List RtdsUnit))) → charged (rtds_unit domains2 u) ≡ charged (rtds_unit domains u) → Recorded u left deadline burned domains → Recorded u left deadline burned domains2
-recorded_same u left deadline burned domains domains2 same r = from (rtds_unit domains2 u) refl (same ∙ ap charged r.at)
+recorded_same : (u : UnitId) (left deadline : ℕ) (burned : Option ℕ) (domains domains2 : List (Option (List RtdsUnit))) → charged (rtds_unit_at domains2 u) ≡ charged (rtds_unit_at domains u) → Recorded u left deadline burned domains → Recorded u left deadline burned domains2
+recorded_same u left deadline burned domains domains2 same r = from (rtds_unit_at domains2 u) refl (same ∙ ap charged r.at)
   where
-    from : (o : Option RtdsUnit) → rtds_unit domains2 u ≡ o → charged o ≡ charged (Some r.unit) → Recorded u left deadline burned domains2
+    from : (o : Option RtdsUnit) → rtds_unit_at domains2 u ≡ o → charged o ≡ charged (Some r.unit) → Recorded u left deadline burned domains2
     from None is e = absurd (cc)
     from (Some y) is e =
         let t1 : ℕ × Bool × ℕ × Option ℕ = (y.left, y.extra, y.deadline, y.burned) in
@@ -139,11 +139,11 @@ not_itself u (Some w) due d other is = (let t1 : UnitId × Option Moment = (w, d
 -- what a core's decision tells of a unit that is on no other core: it is chosen, or it is on none
 decided_pool : (g t : ℕ) (u : UnitId) (left deadline r : ℕ) (burned : Option ℕ) (c : Resource) (p : Pool) → at_place p.resources r ≡ Some c → test_at p.domains u.dom.0 (λ x. true) ≡ true
     → ((n : ℕ) (due : Option Moment) → r ≢ n → seen (at_place p.resources n) ≡ Some (u, due) → ⊥)
-    → Chosen u left deadline t (decision_of (ask_of g t p r c) p.scheduler) ⊎ Passed u left deadline burned (decision_of (ask_of g t p r c) p.scheduler)
-    → ((decision_of (ask_of g t p r c) p.scheduler).unit ≡ Some u) × OnPool u left deadline r t (after_decide g t r c p)
-    ⊎ (is_unit (decision_of (ask_of g t p r c) p.scheduler).unit u ≡ false) × OffPool u left deadline (after_decide g t r c p)
+    → Chosen u left deadline t (decision_of (core_ask g t p r c) p.scheduler) ⊎ Passed u left deadline burned (decision_of (core_ask g t p r c) p.scheduler)
+    → ((decision_of (core_ask g t p r c) p.scheduler).unit ≡ Some u) × OnPool u left deadline r t (after_decide g t r c p)
+    ⊎ (is_unit (decision_of (core_ask g t p r c) p.scheduler).unit u ≡ false) × OffPool u left deadline (after_decide g t r c p)
 decided_pool g t u left deadline r burned c p at there apart decides =
-    let d : Decision = decision_of (ask_of g t p r c) p.scheduler in
+    let d : Decision = decision_of (core_ask g t p r c) p.scheduler in
     let there_is : at_place (put_at r (decided_core t d c) p.resources) r ≡ Some (decided_core t d c) = at_place-put_at r (decided_core t d c) c p.resources at in
     let others : (n : ℕ) (due : Option Moment) → r ≢ n → seen (at_place (put_at r (decided_core t d c) p.resources) n) ≡ Some (u, due) → ⊥ =
     λ n due ne is. apart n due ne (sym (ap seen (at_place-set_other r n (Some (decided_core t d c)) p.resources ne)) ∙ is) in
@@ -179,13 +179,13 @@ decided_pool g t u left deadline r burned c p at there apart decides =
 
 -- the core that has the unit decides: it is chosen again, from now on, or it is on no core
 pub on_decides : (g t : ℕ) (u : UnitId) (left deadline r b : ℕ) (c : Resource) (p : Pool) → at_place p.resources r ≡ Some c → OnPool u left deadline r b p
-    → ((decision_of (ask_of g t p r c) p.scheduler).unit ≡ Some u) × OnPool u (left - (t - b)) deadline r t (after_decide g t r c p)
-    ⊎ (is_unit (decision_of (ask_of g t p r c) p.scheduler).unit u ≡ false) × OffPool u (left - (t - b)) deadline (after_decide g t r c p)
+    → ((decision_of (core_ask g t p r c) p.scheduler).unit ≡ Some u) × OnPool u (left - (t - b)) deadline r t (after_decide g t r c p)
+    ⊎ (is_unit (decision_of (core_ask g t p r c) p.scheduler).unit u ≡ false) × OffPool u (left - (t - b)) deadline (after_decide g t r c p)
 on_decides g t u left deadline r b c p at a =
     let cur : c.cur ≡ Some u = (seen_of c u (Some (moment a.due)) (sym (ap seen at) ∙ a.at)).0 in
-    let same : rtds_decision (ask_of g t p r c) p.scheduler a.domains ≡ decision_of (ask_of g t p r c) p.scheduler = sym (ap (λ (x : Records). decision_by x (ask_of g t p r c) p.scheduler) a.is_rtds) in
+    let same : rtds_decision (core_ask g t p r c) p.scheduler a.domains ≡ decision_of (core_ask g t p r c) p.scheduler = sym (ap (λ (x : Records). decision_by x (core_ask g t p r c) p.scheduler) a.is_rtds) in
     decided_pool g t u (left - (t - b)) deadline r None c p at a.there (λ n due ne is. ne (sym (a.only n due is)))
-    (subst (λ (y : Decision). Chosen u (left - (t - b)) deadline t y ⊎ Passed u (left - (t - b)) deadline None y) same (decides_on u left deadline b (ask_of g t p r c) p.scheduler a.domains cur a.recorded))
+    (subst (λ (y : Decision). Chosen u (left - (t - b)) deadline t y ⊎ Passed u (left - (t - b)) deadline None y) same (decides_on u left deadline b (core_ask g t p r c) p.scheduler a.domains cur a.recorded))
 
 -- a core of which the unit is not the own one
 pub not_cur : (u : UnitId) (c : Resource) → ((due : Option Moment) → seen (Some c) ≡ Some (u, due) → ⊥) → is_unit c.cur u ≡ false
@@ -200,19 +200,19 @@ not_cur u c none = from c.cur refl
 
 -- a core decides while the unit is on none: it is chosen, or it stays so
 pub off_decides : (g t : ℕ) (u : UnitId) (left deadline r : ℕ) (c : Resource) (p : Pool) → at_place p.resources r ≡ Some c → OffPool u left deadline p
-    → ((decision_of (ask_of g t p r c) p.scheduler).unit ≡ Some u) × OnPool u left deadline r t (after_decide g t r c p)
-    ⊎ (is_unit (decision_of (ask_of g t p r c) p.scheduler).unit u ≡ false) × OffPool u left deadline (after_decide g t r c p)
+    → ((decision_of (core_ask g t p r c) p.scheduler).unit ≡ Some u) × OnPool u left deadline r t (after_decide g t r c p)
+    ⊎ (is_unit (decision_of (core_ask g t p r c) p.scheduler).unit u ≡ false) × OffPool u left deadline (after_decide g t r c p)
 off_decides g t u left deadline r c p at a =
     let other : is_unit c.cur u ≡ false = not_cur u c (λ due is. a.none r due (ap seen at ∙ is)) in
-    let same : rtds_decision (ask_of g t p r c) p.scheduler a.domains ≡ decision_of (ask_of g t p r c) p.scheduler = sym (ap (λ (x : Records). decision_by x (ask_of g t p r c) p.scheduler) a.is_rtds) in
+    let same : rtds_decision (core_ask g t p r c) p.scheduler a.domains ≡ decision_of (core_ask g t p r c) p.scheduler = sym (ap (λ (x : Records). decision_by x (core_ask g t p r c) p.scheduler) a.is_rtds) in
     decided_pool g t u left deadline r a.burned c p at a.there (λ n due ne. a.none n due)
-    (subst (λ (y : Decision). Chosen u left deadline t y ⊎ Passed u left deadline a.burned y) same (decides_off u left deadline (ask_of g t p r c) p.scheduler a.domains a.burned other a.recorded))
+    (subst (λ (y : Decision). Chosen u left deadline t y ⊎ Passed u left deadline a.burned y) same (decides_off u left deadline (core_ask g t p r c) p.scheduler a.domains a.burned other a.recorded))
 
 -- another core than the unit's decides, and not for the unit
-pub other_decides : (g t : ℕ) (u : UnitId) (left deadline r b n : ℕ) (c : Resource) (p : Pool) → at_place p.resources n ≡ Some c → n ≢ r → is_unit (decision_of (ask_of g t p n c) p.scheduler).unit u ≡ false
+pub other_decides : (g t : ℕ) (u : UnitId) (left deadline r b n : ℕ) (c : Resource) (p : Pool) → at_place p.resources n ≡ Some c → n ≢ r → is_unit (decision_of (core_ask g t p n c) p.scheduler).unit u ≡ false
     → OnPool u left deadline r b p → OnPool u left deadline r b (after_decide g t n c p)
 other_decides g t u left deadline r b n c p at ne not_u a =
-    let ask : Ask = ask_of g t p n c in
+    let ask : Ask = core_ask g t p n c in
     let d : Decision = decision_of ask p.scheduler in
     let other : is_unit c.cur u ≡ false = not_cur u c (λ due is. ne (a.only n due (ap seen at ∙ is))) in
     let same : rtds_decision ask p.scheduler a.domains ≡ d = sym (ap (λ (x : Records). decision_by x ask p.scheduler) a.is_rtds) in
@@ -238,22 +238,22 @@ other_decides g t u left deadline r b n c p at ne not_u a =
     ]
 
 -- charged up to t, a running unit runs from t
-pub burned_to : (b t : ℕ) (x : RtdsUnit) → x.burned ≡ Some b → (rtds.burn_to t x).burned ≡ Some t
+pub burned_to : (b t : ℕ) (x : RtdsUnit) → x.burned ≡ Some b → (rtds.unit_burned_to t x).burned ≡ Some t
 burned_to b t x is =
-    subst (λ (o : Option ℕ). (elim o as (λ _. RtdsUnit) [ None ↦ x | Some from ↦ rtds.burn (t - from) (record x { burned = Some t }) ]).burned ≡ Some t) (sym is) (burned_kept (t - b) (record x { burned = Some t }))
+    subst (λ (o : Option ℕ). (elim o as (λ _. RtdsUnit) [ None ↦ x | Some from ↦ rtds.unit_after_span (t - from) (record x { burned = Some t }) ]).burned ≡ Some t) (sym is) (burned_kept (t - b) (record x { burned = Some t }))
 
 -- a unit that is on a core r is replenished without extra time: its term begins, and its due falls to what is left at the latest
-pub on_replenished : (t : ℕ) (u : UnitId) (r b due : ℕ) (x : RtdsUnit) (domains : List (Option (List RtdsUnit))) (p : Pool) → p.scheduler.records ≡ RtdsPool domains → rtds_unit domains u ≡ Some x → x.burned ≡ Some b → test_at p.domains u.dom.0 (λ d. true) ≡ true
-    → seen (at_place p.resources r) ≡ Some (u, Some (moment due)) → OnlyCore u r p → (rtds.replenish t x).extra ≡ false
-    → OnPool u (rtds.replenish t x).budget (rtds.replenish t x).deadline r t (after_replenish t u p)
+pub on_replenished : (t : ℕ) (u : UnitId) (r b due : ℕ) (x : RtdsUnit) (domains : List (Option (List RtdsUnit))) (p : Pool) → p.scheduler.records ≡ RtdsPool domains → rtds_unit_at domains u ≡ Some x → x.burned ≡ Some b → test_at p.domains u.dom.0 (λ d. true) ≡ true
+    → seen (at_place p.resources r) ≡ Some (u, Some (moment due)) → OnlyCore u r p → (rtds.unit_after_replenish t x).extra ≡ false
+    → OnPool u (rtds.unit_after_replenish t x).budget (rtds.unit_after_replenish t x).deadline r t (after_replenish t u p)
 on_replenished t u r b due x domains p is_rtds is runs there at only plain =
-    let y : RtdsUnit = rtds.replenish t x in
-    let records2 : Records = policy.replenish p.scheduler.records t u in
-    let e : records2 ≡ RtdsPool (rtds.change_unit u (rtds.replenish t) domains) = ap (λ (z : Records). policy.replenish z t u) is_rtds in
-    let new : rtds_record records2 u ≡ Some y = ap (λ (z : Records). rtds_record z u) e ∙ rtds_unit-same u (rtds.replenish t) domains x is in
-    by_option (OnPool u y.budget y.deadline r t) (core_of p u) _ _
+    let y : RtdsUnit = rtds.unit_after_replenish t x in
+    let records2 : Records = policy.records_after_replenish p.scheduler.records t u in
+    let e : records2 ≡ RtdsPool (rtds.change_unit u (rtds.unit_after_replenish t) domains) = ap (λ (z : Records). policy.records_after_replenish z t u) is_rtds in
+    let new : unit_rtds_record records2 u ≡ Some y = ap (λ (z : Records). unit_rtds_record z u) e ∙ rtds_unit-same u (rtds.unit_after_replenish t) domains x is in
+    by_option (OnPool u y.budget y.deadline r t) (unit_core p u) _ _
     (λ none. absurd (let c = core_seen (at_place p.resources r) u (Some (moment due)) at in let f = none_found 0 r (λ c. is_unit c.cur u) p.resources c.0 none c.1 in let s = same_unit_refl u in let g : is_unit (Some u) u ≡ false = subst (λ o. is_unit o u ≡ false) c.2 f in cc))
-    (λ n found. by_option (OnPool u y.budget y.deadline r t) (rtds_record records2 u) _ _
+    (λ n found. by_option (OnPool u y.budget y.deadline r t) (unit_rtds_record records2 u) _ _
     (λ none. absurd (cc))
     (λ z is_z. (
     let same_z : z ≡ y = cc in
@@ -265,9 +265,9 @@ on_replenished t u r b due x domains p is_rtds is runs there at only plain =
     subst (λ k. at_place (change_at k (due_within t z.budget) p.resources) r ≡ Some (due_within t z.budget c.0)) (sym n_is_r) (at_place-change_at r (due_within t z.budget) p.resources ∙ ap (option_map (due_within t z.budget)) c.1) in
     let budgets : z.budget ≡ y.budget = ap (λ (v : RtdsUnit). v.budget) same_z in
     record {
-      domains = rtds.change_unit u (rtds.replenish t) domains;
+      domains = rtds.change_unit u (rtds.unit_after_replenish t) domains;
       is_rtds = e;
-      recorded = record { unit = y; at = rtds_unit-same u (rtds.replenish t) domains x is; has = record { few = (let q : y.left ≡ y.budget = refl in omega (arith, q)); plain = plain; ends = refl }; burned_is = burned_to b t x runs };
+      recorded = record { unit = y; at = rtds_unit-same u (rtds.unit_after_replenish t) domains x is; has = record { few = (let q : y.left ≡ y.budget = refl in omega (arith, q)); plain = plain; ends = refl }; burned_is = burned_to b t x runs };
       there = there;
       due = min (t + z.budget) due;
       at = ap seen changed ∙ ap (λ (o : Option UnitId). option_map {U = UnitId × Option Moment} (λ (v : UnitId). (v, (due_within t z.budget c.0).due)) o) c.2
@@ -280,16 +280,16 @@ on_replenished t u r b due x domains p is_rtds is runs there at only plain =
     })))
 
 -- a unit that is on no core is replenished
-pub off_replenished : (t : ℕ) (u : UnitId) (x : RtdsUnit) (domains : List (Option (List RtdsUnit))) (p : Pool) → p.scheduler.records ≡ RtdsPool domains → rtds_unit domains u ≡ Some x → test_at p.domains u.dom.0 (λ d. true) ≡ true
-    → NoCore u p → (rtds.replenish t x).extra ≡ false → OffPool u (rtds.replenish t x).budget (rtds.replenish t x).deadline (after_replenish t u p)
+pub off_replenished : (t : ℕ) (u : UnitId) (x : RtdsUnit) (domains : List (Option (List RtdsUnit))) (p : Pool) → p.scheduler.records ≡ RtdsPool domains → rtds_unit_at domains u ≡ Some x → test_at p.domains u.dom.0 (λ d. true) ≡ true
+    → NoCore u p → (rtds.unit_after_replenish t x).extra ≡ false → OffPool u (rtds.unit_after_replenish t x).budget (rtds.unit_after_replenish t x).deadline (after_replenish t u p)
 off_replenished t u x domains p is_rtds is there none plain =
-    let y : RtdsUnit = rtds.replenish t x in
-    by_option (OffPool u y.budget y.deadline) (core_of p u) _ _
+    let y : RtdsUnit = rtds.unit_after_replenish t x in
+    by_option (OffPool u y.budget y.deadline) (unit_core p u) _ _
     (λ nobody. record {
-      domains = rtds.change_unit u (rtds.replenish t) domains;
-      is_rtds = ap (λ (z : Records). policy.replenish z t u) is_rtds;
+      domains = rtds.change_unit u (rtds.unit_after_replenish t) domains;
+      is_rtds = ap (λ (z : Records). policy.records_after_replenish z t u) is_rtds;
       burned = y.burned;
-      recorded = record { unit = y; at = rtds_unit-same u (rtds.replenish t) domains x is; has = record { few = (let q : y.left ≡ y.budget = refl in omega (arith, q)); plain = plain; ends = refl }; burned_is = refl };
+      recorded = record { unit = y; at = rtds_unit-same u (rtds.unit_after_replenish t) domains x is; has = record { few = (let q : y.left ≡ y.budget = refl in omega (arith, q)); plain = plain; ends = refl }; burned_is = refl };
       there = there;
       none = none;
     })
@@ -312,15 +312,15 @@ none_queued u (v ∷ units) none =
 
 -- where a unit is on one core, another core does not decide for it
 pub not_chosen : (g t : ℕ) (u : UnitId) (r n : ℕ) (due : Option Moment) (c : Resource) (p : Pool) → places p u ≤ 1 → seen (at_place p.resources r) ≡ Some (u, due) → OnlyCore u r p → at_place p.resources n ≡ Some c → n ≢ r
-    → is_unit (decision_of (ask_of g t p n c) p.scheduler).unit u ≡ false
+    → is_unit (decision_of (core_ask g t p n c) p.scheduler).unit u ≡ false
 not_chosen g t u r n due c p most at only has ne =
     let x = core_seen (at_place p.resources r) u due at in
     let placed = total_at (core_places u) r x.0 p.resources x.1 in
     let own : one_at u x.0.cur ≡ 1 = ap (λ (o : Option UnitId). one_at u o) x.2 ∙ ap (λ (b : Bool). cond b 1 0) (same_unit_refl u) in
     let waiting = none_queued u p.scheduler.queue (omega (arith, most, placed, own)) in
     let other : is_unit c.cur u ≡ false = not_cur u c (λ due2 is. ne (only n due2 (ap seen has ∙ is))) in
-    not_it (decision_of (ask_of g t p n c) p.scheduler).unit
-    (decision_has (λ v. same_unit v u ≡ false) (ask_of g t p n c) p.scheduler waiting (λ v is runs. subst (λ (o : Option UnitId). is_unit o u ≡ false) is other))
+    not_it (decision_of (core_ask g t p n c) p.scheduler).unit
+    (decision_has (λ v. same_unit v u ≡ false) (core_ask g t p n c) p.scheduler waiting (λ v is runs. subst (λ (o : Option UnitId). is_unit o u ≡ false) is other))
   where
     not_it : (o : Option UnitId) → IfUnit (λ v. same_unit v u ≡ false) o → is_unit o u ≡ false
     not_it None is = refl
@@ -340,18 +340,18 @@ unseen_change u n f c cores keeps at other k due is =
 -- another unit is replenished
 pub on_other_replenished : (t : ℕ) (u v : UnitId) (left deadline r b : ℕ) (p : Pool) → same_unit v u ≡ false → OnPool u left deadline r b p → OnPool u left deadline r b (after_replenish t v p)
 on_other_replenished t u v left deadline r b p other a =
-    let next : OnPool u left deadline r b (with_records (policy.replenish p.scheduler.records t v) p) = record {
-      domains = rtds.change_unit v (rtds.replenish t) a.domains;
-      is_rtds = ap (λ (z : Records). policy.replenish z t v) a.is_rtds;
-      recorded = recorded_other u left deadline v (rtds.replenish t) (Some b) a.domains other a.recorded;
+    let next : OnPool u left deadline r b (with_records (policy.records_after_replenish p.scheduler.records t v) p) = record {
+      domains = rtds.change_unit v (rtds.unit_after_replenish t) a.domains;
+      is_rtds = ap (λ (z : Records). policy.records_after_replenish z t v) a.is_rtds;
+      recorded = recorded_other u left deadline v (rtds.unit_after_replenish t) (Some b) a.domains other a.recorded;
       there = a.there;
       due = a.due;
       at = a.at;
       low = a.low;
       only = a.only;
     } in
-    by_option (OnPool u left deadline r b) (core_of p v) _ _ (λ none. next)
-    (λ n found. by_option (OnPool u left deadline r b) (rtds_record (policy.replenish p.scheduler.records t v) v) _ _ (λ none. next)
+    by_option (OnPool u left deadline r b) (unit_core p v) _ _ (λ none. next)
+    (λ n found. by_option (OnPool u left deadline r b) (unit_rtds_record (policy.records_after_replenish p.scheduler.records t v) v) _ _ (λ none. next)
     (λ x is. (
     let f = found_at n (λ c. is_unit c.cur v) p.resources found in
     let cur : f.0.cur ≡ Some v = is_unit_same f.0.cur v f.2 in
@@ -370,16 +370,16 @@ on_other_replenished t u v left deadline r b p other a =
 
 pub off_other_replenished : (t : ℕ) (u v : UnitId) (left deadline : ℕ) (p : Pool) → same_unit v u ≡ false → OffPool u left deadline p → OffPool u left deadline (after_replenish t v p)
 off_other_replenished t u v left deadline p other a =
-    let next : OffPool u left deadline (with_records (policy.replenish p.scheduler.records t v) p) = record {
-      domains = rtds.change_unit v (rtds.replenish t) a.domains;
-      is_rtds = ap (λ (z : Records). policy.replenish z t v) a.is_rtds;
+    let next : OffPool u left deadline (with_records (policy.records_after_replenish p.scheduler.records t v) p) = record {
+      domains = rtds.change_unit v (rtds.unit_after_replenish t) a.domains;
+      is_rtds = ap (λ (z : Records). policy.records_after_replenish z t v) a.is_rtds;
       burned = a.burned;
-      recorded = recorded_other u left deadline v (rtds.replenish t) a.burned a.domains other a.recorded;
+      recorded = recorded_other u left deadline v (rtds.unit_after_replenish t) a.burned a.domains other a.recorded;
       there = a.there;
       none = a.none;
     } in
-    by_option (OffPool u left deadline) (core_of p v) _ _ (λ none. next)
-    (λ n found. by_option (OffPool u left deadline) (rtds_record (policy.replenish p.scheduler.records t v) v) _ _ (λ none. next)
+    by_option (OffPool u left deadline) (unit_core p v) _ _ (λ none. next)
+    (λ n found. by_option (OffPool u left deadline) (unit_rtds_record (policy.records_after_replenish p.scheduler.records t v) v) _ _ (λ none. next)
     (λ x is. (
     let f = found_at n (λ c. is_unit c.cur v) p.resources found in
     let cur : f.0.cur ≡ Some v = is_unit_same f.0.cur v f.2 in

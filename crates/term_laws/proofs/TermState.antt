@@ -3,9 +3,9 @@ use Rattle.std.proofs.Common.{◌≡◌, ◌≢◌, ◌≤◌, ℕ, true, false,
 use Rattle.std.specs.Prelude.{Option, Some, None, is_some, option_map, unwrap_or, ◌-◌}
 use Rattle.sched_base.specs.Numbers.{moment, core as core_number}
 use Rattle.sched_model.specs.EligibleUnits.{Decision}
-use Rattle.sched_model.specs.Opening.{no_pool}
+use Rattle.sched_model.specs.Opening.{absent_pool}
 use Rattle.sched_model.specs.Policy.{decision_of}
-use Rattle.sched_model.specs.Pool.{after_in, after_decide, ask_of, decision_at, settled_pool}
+use Rattle.sched_model.specs.Pool.{after_in, after_decide, core_ask, decision_at, settled_pool}
 use Rattle.sched_model.specs.Actions.{change_pool}
 use Rattle.sched_model.specs.Machine.{home_pool}
 use Rattle.term_laws.proofs.RtdsSteps.{at_place-change_at, at_place-change_at_other}
@@ -16,7 +16,7 @@ use Rattle.sched_model.specs.declared.machine.Machine.{Machine}
 use Rattle.sched_model.specs.declared.state.State.{State}
 use Rattle.sched_model.specs.declared.state.Pool.{Pool}
 use Rattle.sched_model.specs.declared.action.Action.TheVariants.{Decide}
-use Rattle.sched_model.specs.Actions.{home_of_core}
+use Rattle.sched_model.specs.Actions.{home_pool_of_core}
 use Rattle.sched_model.specs.Machine.{after}
 use Rattle.term_laws.specs.RtdsTerm.{core_in}
 use Rattle.sched_laws.specs.StateLaws.{has_domain_at}
@@ -47,7 +47,7 @@ WithinTerm u deadline left None s = PoolHas (OffPool u left deadline) s
 WithinTerm u deadline left (Some leg) s = PoolHas (OnPool u left deadline leg.0 leg.1) s
 
 -- the home of a core
-home_of_core_is : (s : State) (i r : ℕ) (pool : Pool) (c : Resource) → IsApart s → at_place s.pools i ≡ Some pool → at_place pool.resources r ≡ Some c → home_of_core s r ≡ Some i
+home_of_core_is : (s : State) (i r : ℕ) (pool : Pool) (c : Resource) → IsApart s → at_place s.pools i ≡ Some pool → at_place pool.resources r ≡ Some c → home_pool_of_core s r ≡ Some i
 home_of_core_is s i r pool c apart at has = core_home s i r apart (test_at-some s.pools i (λ p. is_some (at_place p.resources r)) pool at (is_some_at (at_place pool.resources r) c has))
 
 -- the core is found in the state, since no core is in two pools
@@ -74,7 +74,7 @@ within_decides m u deadline left r b s t apart w =
     let h = w.has in
     let seen_core = core_seen (at_place p.resources r) u (Some (moment h.due)) h.at in
     let c = seen_core.0 in
-    let home : home_of_core s r ≡ Some w.home = home_of_core_is s w.home r p c apart w.at seen_core.1 in
+    let home : home_pool_of_core s r ≡ Some w.home = home_of_core_is s w.home r p c apart w.at seen_core.1 in
     let next : Pool = after_decide g t r c p in
     let in_pool : after_in g t p (Decide (core_number r)) ≡ next = ap (λ (o : Option Resource). elim o as (λ _. Pool) [ None ↦ p | Some x ↦ after_decide g t r x p ]) seen_core.1 in
     let state : after m s t (Decide (core_number r)) ≡ change_pool w.home (λ pool. settled_pool t (after_in g t pool (Decide (core_number r)))) s =
@@ -82,9 +82,9 @@ within_decides m u deadline left r b s t apart w =
     let there : at_place (change_at w.home (λ pool. settled_pool t (after_in g t pool (Decide (core_number r)))) s.pools) w.home ≡ Some (settled_pool t next) =
     at_place-change_at w.home (λ pool. settled_pool t (after_in g t pool (Decide (core_number r)))) s.pools ∙ ap (option_map (λ pool. settled_pool t (after_in g t pool (Decide (core_number r))))) w.at ∙ ap (λ x. Some (settled_pool t x)) in_pool in
     let pool_is : home_pool m s (Decide (core_number r)) ≡ p =
-    ap (λ (o : Option ℕ). elim o as (λ _. Pool) [ None ↦ no_pool m.config | Some i ↦ unwrap_or (at_place s.pools i) (no_pool m.config) ]) home ∙ ap (λ o. unwrap_or o (no_pool m.config)) w.at in
-    let unit_is : decision_of (ask_of g t p r c) p.scheduler ≡ decision_at g t (home_pool m s (Decide (core_number r))) r =
-    sym (ap (λ x. decision_at g t x r) pool_is ∙ ap (λ (o : Option Resource). elim o as (λ _. Decision) [ None ↦ record { unit = None; due = None; reset = 0; records = p.scheduler.records } | Some x ↦ decision_of (ask_of g t p r x) p.scheduler ]) seen_core.1) in
+    ap (λ (o : Option ℕ). elim o as (λ _. Pool) [ None ↦ absent_pool m.config | Some i ↦ unwrap_or (at_place s.pools i) (absent_pool m.config) ]) home ∙ ap (λ o. unwrap_or o (absent_pool m.config)) w.at in
+    let unit_is : decision_of (core_ask g t p r c) p.scheduler ≡ decision_at g t (home_pool m s (Decide (core_number r))) r =
+    sym (ap (λ x. decision_at g t x r) pool_is ∙ ap (λ (o : Option Resource). elim o as (λ _. Decision) [ None ↦ record { unit = None; due = None; reset = 0; records = p.scheduler.records } | Some x ↦ decision_of (core_ask g t p r x) p.scheduler ]) seen_core.1) in
     elim (on_decides g t u left deadline r b c p seen_core.1 h) [
       | inl again ↦ inl (subst (λ (d : Decision). d.unit ≡ Some u) unit_is again.0, subst (λ x. WithinTerm u deadline (left - (t - b)) (Some (r, t)) x) (sym state) (record { home = w.home; pool = settled_pool t next; at = there; has = on_same u (left - (t - b)) deadline r t next (settled_pool t next) (same_settled u t next next (same_refl u next)) again.1 }))
       | inr idles ↦ inr (subst (λ (d : Decision). is_unit d.unit u ≡ false) unit_is idles.0, subst (λ x. WithinTerm u deadline (left - (t - b)) None x) (sym state) (record { home = w.home; pool = settled_pool t next; at = there; has = off_same u (left - (t - b)) deadline next (settled_pool t next) (same_settled u t next next (same_refl u next)) idles.1 }))
@@ -94,26 +94,26 @@ within_decides m u deadline left r b s t apart w =
 pub record DecidesAt (m : Machine) (s : State) (t j n : ℕ) (q : Pool) (c : Resource) : Type 0 where
   pub state : after m s t (Decide (core_number n)) ≡ change_pool j (λ pool. settled_pool t (after_in m.config.granularity t pool (Decide (core_number n)))) s
   pub pool : after_in m.config.granularity t q (Decide (core_number n)) ≡ after_decide m.config.granularity t n c q
-  pub unit : decision_of (ask_of m.config.granularity t q n c) q.scheduler ≡ decision_at m.config.granularity t (home_pool m s (Decide (core_number n))) n
+  pub unit : decision_of (core_ask m.config.granularity t q n c) q.scheduler ≡ decision_at m.config.granularity t (home_pool m s (Decide (core_number n))) n
 
 pub decides_at : (m : Machine) (s : State) (t j n : ℕ) (q : Pool) (c : Resource) → IsApart s → at_place s.pools j ≡ Some q → at_place q.resources n ≡ Some c → DecidesAt m s t j n q c
 decides_at m s t j n q c apart at has =
     let g = m.config.granularity in
-    let home : home_of_core s n ≡ Some j = home_of_core_is s j n q c apart at has in
+    let home : home_pool_of_core s n ≡ Some j = home_of_core_is s j n q c apart at has in
     let pool_is : home_pool m s (Decide (core_number n)) ≡ q =
-    ap (λ (o : Option ℕ). elim o as (λ _. Pool) [ None ↦ no_pool m.config | Some i ↦ unwrap_or (at_place s.pools i) (no_pool m.config) ]) home ∙ ap (λ o. unwrap_or o (no_pool m.config)) at in
+    ap (λ (o : Option ℕ). elim o as (λ _. Pool) [ None ↦ absent_pool m.config | Some i ↦ unwrap_or (at_place s.pools i) (absent_pool m.config) ]) home ∙ ap (λ o. unwrap_or o (absent_pool m.config)) at in
     record {
       state = ap (λ (o : Option ℕ). elim o as (λ _. State) [ None ↦ s | Some i ↦ change_pool i (λ pool. settled_pool t (after_in g t pool (Decide (core_number n)))) s ]) home;
       pool = ap (λ (o : Option Resource). elim o as (λ _. Pool) [ None ↦ q | Some x ↦ after_decide g t n x q ]) has;
-      unit = sym (ap (λ x. decision_at g t x n) pool_is ∙ ap (λ (o : Option Resource). elim o as (λ _. Decision) [ None ↦ record { unit = None; due = None; reset = 0; records = q.scheduler.records } | Some x ↦ decision_of (ask_of g t q n x) q.scheduler ]) has);
+      unit = sym (ap (λ x. decision_at g t x n) pool_is ∙ ap (λ (o : Option Resource). elim o as (λ _. Decision) [ None ↦ record { unit = None; due = None; reset = 0; records = q.scheduler.records } | Some x ↦ decision_of (core_ask g t q n x) q.scheduler ]) has);
     }
 
 -- a core of another pool does not decide for the unit
-pub foreign_not_chosen : (g t : ℕ) (u : UnitId) (n : ℕ) (c : Resource) (q : Pool) → UnitsAreOwn q → at_place q.resources n ≡ Some c → (IsThere q.domains u → ⊥) → is_unit (decision_of (ask_of g t q n c) q.scheduler).unit u ≡ false
+pub foreign_not_chosen : (g t : ℕ) (u : UnitId) (n : ℕ) (c : Resource) (q : Pool) → UnitsAreOwn q → at_place q.resources n ≡ Some c → (IsThere q.domains u → ⊥) → is_unit (decision_of (core_ask g t q n c) q.scheduler).unit u ≡ false
 foreign_not_chosen g t u n c q own has foreign =
     let core = own.cores n c has in
-    not_it (decision_of (ask_of g t q n c) q.scheduler).unit
-    (decision_has (IsThere q.domains) (ask_of g t q n c) q.scheduler (AllByRecursion-map (IsStaying q.domains) (IsThere q.domains) (λ v staying. there_if_staying q.domains v staying) q.scheduler.queue own.queue)
+    not_it (decision_of (core_ask g t q n c) q.scheduler).unit
+    (decision_has (IsThere q.domains) (core_ask g t q n c) q.scheduler (AllByRecursion-map (IsStaying q.domains) (IsThere q.domains) (λ v staying. there_if_staying q.domains v staying) q.scheduler.queue own.queue)
     (λ v is runs. subst (IfUnit (IsThere q.domains)) is core.cur))
   where
     not_it : (o : Option UnitId) → IfUnit (IsThere q.domains) o → is_unit o u ≡ false

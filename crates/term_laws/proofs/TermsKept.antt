@@ -15,10 +15,10 @@ use Rattle.sched_model.specs.declared.state.RtdsUnit.{RtdsUnit}
 use Rattle.sched_model.specs.declared.state.Records.{Records}
 use Rattle.sched_model.specs.declared.state.Records.TheVariants.{RtdsPool}
 use Rattle.sched_model.specs.Places.{at_place, test_at, same_unit}
-use Rattle.sched_model.specs.EligibleUnits.{rtds_unit}
-use Rattle.sched_model.specs.Policy.{rtds_record}
+use Rattle.sched_model.specs.EligibleUnits.{rtds_unit_at}
+use Rattle.sched_model.specs.Policy.{unit_rtds_record}
 use Rattle.sched_model.specs.Opening.{opening}
-use Rattle.sched_model.specs.Actions.{home_of_domain}
+use Rattle.sched_model.specs.Actions.{home_pool_of_domain}
 use Rattle.sched_model.specs.CheckedMachine.{IsChecked}
 use Rattle.sched_model.specs.Machine.{event_of}
 use Rattle.sched_model.specs.Runs.{Reached, run_start, after_entry, IsNext, IsRunFrom, IsRun}
@@ -40,7 +40,7 @@ use Rattle.term_laws.proofs.Beginning.{nobody_runs, tracks_opening, full_opening
 use Rattle.term_laws.proofs.TermLaw.{by_entry, other_unit, steps, tracks}
 
 -- the record of a unit is among those of its pool
-rtds_of : (u : UnitId) (x : RtdsUnit) (records : Records) → rtds_record records u ≡ Some x → (domains : List (Option (List RtdsUnit))) × (records ≡ RtdsPool domains) × (rtds_unit domains u ≡ Some x)
+rtds_of : (u : UnitId) (x : RtdsUnit) (records : Records) → unit_rtds_record records u ≡ Some x → (domains : List (Option (List RtdsUnit))) × (records ≡ RtdsPool domains) × (rtds_unit_at domains u ≡ Some x)
 rtds_of u x (RtdsPool domains) is = (domains, refl, is)
 rtds_of u x any is = absurd (cc)
 
@@ -52,22 +52,22 @@ pub record HasRtds (s : State) (u : UnitId) (x : RtdsUnit) : Type 0 where
   pub there : test_at pool.domains u.dom.0 (λ y. true) ≡ true
   pub domains : List (Option (List RtdsUnit))
   pub is_rtds : pool.scheduler.records ≡ RtdsPool domains
-  pub unit : rtds_unit domains u ≡ Some x
+  pub unit : rtds_unit_at domains u ≡ Some x
 
 has_rtds : (s : State) (u : UnitId) (x : RtdsUnit) → rtds_in s u ≡ Some x → HasRtds s u x
-has_rtds s u x is = by_home (home_of_domain s u.dom.0) refl is
+has_rtds s u x is = by_home (home_pool_of_domain s u.dom.0) refl is
   where
-    by_pool : (i : ℕ) (p : Pool) → at_place s.pools i ≡ Some p → is_some (at_place p.domains u.dom.0) ≡ true → rtds_record p.scheduler.records u ≡ Some x → HasRtds s u x
+    by_pool : (i : ℕ) (p : Pool) → at_place s.pools i ≡ Some p → is_some (at_place p.domains u.dom.0) ≡ true → unit_rtds_record p.scheduler.records u ≡ Some x → HasRtds s u x
     by_pool i p at there is2 =
         let r = rtds_of u x p.scheduler.records is2 in
         let d = some_is (at_place p.domains u.dom.0) there in
         record { home = i; pool = p; at = at; there = test_at-some p.domains u.dom.0 (λ y. true) d.0 d.1 refl; domains = r.0; is_rtds = r.1; unit = r.2 }
 
-    by_home : (o : Option ℕ) → home_of_domain s u.dom.0 ≡ o → elim o as (λ _. Option RtdsUnit) [ None ↦ None | Some i ↦ elim (at_place s.pools i) [ None ↦ None | Some pool ↦ rtds_record pool.scheduler.records u ] ] ≡ Some x → HasRtds s u x
+    by_home : (o : Option ℕ) → home_pool_of_domain s u.dom.0 ≡ o → elim o as (λ _. Option RtdsUnit) [ None ↦ None | Some i ↦ elim (at_place s.pools i) [ None ↦ None | Some pool ↦ unit_rtds_record pool.scheduler.records u ] ] ≡ Some x → HasRtds s u x
     by_home None home is2 = absurd (cc)
     by_home (Some i) home is2 =
         let f = found_at i (λ (p : Pool). is_some (at_place p.domains u.dom.0)) s.pools home in
-        by_pool i f.0 f.1 f.2 (sym (ap (λ (o : Option Pool). elim o as (λ _. Option RtdsUnit) [ None ↦ None | Some pool ↦ rtds_record pool.scheduler.records u ]) f.1) ∙ is2)
+        by_pool i f.0 f.1 f.2 (sym (ap (λ (o : Option Pool). elim o as (λ _. Option RtdsUnit) [ None ↦ None | Some pool ↦ unit_rtds_record pool.scheduler.records u ]) f.1) ∙ is2)
 
 -- a domain that a pool has is one of the machine
 domain_below : (m : Machine) (s : State) (k : Known m s) (i d : ℕ) (p : Pool) → at_place s.pools i ≡ Some p → test_at p.domains d (λ y. true) ≡ true → d < length m.config.domains

@@ -1,7 +1,7 @@
 -- The terms of a domain's cap, and the time for which its units are on cores in one.
 use Rattle.std.specs.Prelude.{ℕ, suc, ◌+◌, ◌-◌, ◌==◌, ◌&&◌, ◌||◌, ◌≡◌, ◌≤◌, Bool, true, false, not, List, [], ◌∷◌, Option, Some, None, Ok, Err, is_some, min, max, nat_lt, slice_get, sum_by, if◌then◌else◌}
 use Rattle.std.specs.List.{list_any}
-use Rattle.sched_base.specs.Credit2Numbers.{total}
+use Rattle.sched_base.specs.Credit2Numbers.{cap_budget}
 use Rattle.sched_model.specs.declared.command.Command.{Command}
 use Rattle.sched_model.specs.declared.command.Command.TheVariants as command
 use Rattle.sched_model.specs.declared.event.Event.{Event}
@@ -12,10 +12,10 @@ use Rattle.sched_model.specs.declared.work.CommandLine.{CommandLine}
 use Rattle.sched_model.specs.declared.state.State.{State}
 use Rattle.sched_model.specs.declared.state.Credit2Domain.{Credit2Domain}
 use Rattle.sched_model.specs.Places.{at_place}
-use Rattle.sched_model.specs.Policy.{credit2_record}
+use Rattle.sched_model.specs.Policy.{domain_credit2_record}
 use Rattle.sched_model.specs.Opening.{opening}
-use Rattle.sched_model.specs.Actions.{home_of_domain}
-use Rattle.sched_model.specs.Commands.{domain_of}
+use Rattle.sched_model.specs.Actions.{home_pool_of_domain}
+use Rattle.sched_model.specs.Commands.{meant_domain}
 use Rattle.term_laws.specs.RtdsTerm.{Leg, late_of, leg_from, moves}
 
 -- Entries are numbered from 0, in their order. What is said of before and after is said of these numbers, since several entries have one moment.
@@ -47,7 +47,7 @@ domain_legs s d n (entry ∷ entries) =
 
 -- the cap that a command gives the domain
 abbrev pub cap_in_command : Machine → ℕ → Command → Option ℕ
-cap_in_command m d (command.Credit2Dom which weight cap) = elim (domain_of m which) [ None ↦ None | Some named ↦ (if named == d then cap else None) ]
+cap_in_command m d (command.Credit2Dom which weight cap) = elim (meant_domain m which) [ None ↦ None | Some named ↦ (if named == d then cap else None) ]
 cap_in_command m d _ = None
 
 -- the cap that a line of the workload gives the domain
@@ -93,10 +93,10 @@ pub record CapTerm : Type 0 where
 -- the term that begins at a moment with this cap, where these entries follow, the first with the number n, and lead to the state s: it ends with the
 -- next refill, setting of the cap or move of the domain, or it is open now
 abbrev pub term_from : Machine → State → ℕ → ℕ → ℕ → ℕ → List Entry → CapTerm
-term_from m s d cap from n [] = record { from = from; until = s.now; budget = total cap; last = n; ends_by_setting = false }
+term_from m s d cap from n [] = record { from = from; until = s.now; budget = cap_budget cap; last = n; ends_by_setting = false }
 term_from m s d cap from n (entry ∷ entries) =
     elim (ends_term m d entry.event) [
-      | true ↦ record { from = from; until = entry.at.0; budget = total cap; last = n; ends_by_setting = is_some (cap_set m d entry.event) }
+      | true ↦ record { from = from; until = entry.at.0; budget = cap_budget cap; last = n; ends_by_setting = is_some (cap_set m d entry.event) }
       | false ↦ term_from m s d cap from (suc n) entries
     ]
 
@@ -112,7 +112,7 @@ terms_begun m s d cap n (entry ∷ entries) =
 
 -- the domain's Credit2 record, where it is in a Credit2 pool
 abbrev pub credit2_in : State → ℕ → Option Credit2Domain
-credit2_in s d = elim (home_of_domain s d) [ None ↦ None | Some i ↦ elim (at_place s.pools i) [ None ↦ None | Some pool ↦ credit2_record pool.scheduler.records d ] ]
+credit2_in s d = elim (home_pool_of_domain s d) [ None ↦ None | Some i ↦ elim (at_place s.pools i) [ None ↦ None | Some pool ↦ domain_credit2_record pool.scheduler.records d ] ]
 
 -- the cap with which the domain begins
 abbrev pub first_cap : Machine → ℕ → ℕ

@@ -10,9 +10,9 @@ use Rattle.sched_model.specs.declared.machine.Machine.{Machine}
 use Rattle.sched_model.specs.declared.state.State.{State}
 use Rattle.sched_model.specs.declared.state.RtdsUnit.{RtdsUnit}
 use Rattle.sched_model.specs.Opening.{opening}
-use Rattle.sched_model.specs.Policy.{rtds_record}
+use Rattle.sched_model.specs.Policy.{unit_rtds_record}
 use Rattle.sched_model.specs.Pool.{lateness}
-use Rattle.sched_model.specs.Actions.{home_of_core, home_of_domain}
+use Rattle.sched_model.specs.Actions.{home_pool_of_core, home_pool_of_domain}
 
 -- a leg of a unit on a core: it begins where the core decides for the unit and ends where the core decides next, so much later than it was due
 pub record Leg : Type 0 where
@@ -22,7 +22,7 @@ pub record Leg : Type 0 where
 
 -- the core, where a pool has it
 abbrev pub core_in : State → ℕ → Option Resource
-core_in s r = elim (home_of_core s r) [ None ↦ None | Some i ↦ elim (at_place s.pools i) [ None ↦ None | Some pool ↦ at_place pool.resources r ] ]
+core_in s r = elim (home_pool_of_core s r) [ None ↦ None | Some i ↦ elim (at_place s.pools i) [ None ↦ None | Some pool ↦ at_place pool.resources r ] ]
 
 -- how late the core would be if it decided now
 abbrev pub late_now : State → ℕ → ℕ
@@ -80,7 +80,7 @@ opened_terms u (entry ∷ entries) = elim (opened_by u entry.at.0 entry.event en
 
 -- the unit's RTDS record, where its domain is in an RTDS pool
 abbrev pub rtds_in : State → UnitId → Option RtdsUnit
-rtds_in s u = elim (home_of_domain s u.dom.0) [ None ↦ None | Some i ↦ elim (at_place s.pools i) [ None ↦ None | Some pool ↦ rtds_record pool.scheduler.records u ] ]
+rtds_in s u = elim (home_pool_of_domain s u.dom.0) [ None ↦ None | Some i ↦ elim (at_place s.pools i) [ None ↦ None | Some pool ↦ unit_rtds_record pool.scheduler.records u ] ]
 
 -- the unit's terms in a run: the first, where it begins in an RTDS pool, and those that the entries open
 abbrev pub terms : Machine → UnitId → List Entry → List Term

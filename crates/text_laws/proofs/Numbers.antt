@@ -18,10 +18,10 @@ use Rattle.sched_model.specs.declared.state.Resource.{Resource}
 use Rattle.sched_model.specs.declared.state.FreeCore.{FreeCore}
 use Rattle.sched_model.specs.declared.state.Vcpu.{Vcpu}
 use Rattle.sched_model.specs.Places.{at_place, numbered_items}
-use Rattle.sched_model.specs.Opening.{core_count}
+use Rattle.sched_model.specs.Opening.{machine_core_count}
 use Rattle.sched_model.specs.CheckedMachine.{IsChecked, IsCheckedDomain, most_span}
-use Rattle.sched_model.specs.Actions.{home_of_core}
-use Rattle.sched_model.specs.Pool.{vcpu_of}
+use Rattle.sched_model.specs.Actions.{home_pool_of_core}
+use Rattle.sched_model.specs.Pool.{pool_vcpu}
 use Rattle.sched_laws.proofs.EachPlace.{place_below, found_at, by_option}
 use Rattle.state_ranges.specs.Ranges.{IsUnitOf, PoolInRange, StateInRange}
 use Rattle.state_ranges.proofs.RangesLaw.{StateFits}
@@ -44,13 +44,13 @@ module _ (m : Machine) (checked : IsChecked m) where
   pub times_few : (n : ℕ) → n ≤ 64 → n * m.config.granularity ≤ 256
   times_few n low = by_granularity (λ g. n * g ≤ 256) m.config.granularity checked.config.granularity (omega (arith, low)) (omega (arith, low)) (omega (arith, low))
 
-  pub cores_few : core_count m.config ≤ 64
+  pub cores_few : machine_core_count m.config ≤ 64
   cores_few =
       let most = checked.config.processors.most in
       by_granularity (λ g. m.config.processors / g ≤ 64) m.config.granularity checked.config.granularity (omega (arith, most)) (omega (arith, most)) (omega (arith, most))
 
   -- a processor of a core
-  pub processor_low : (p : ℕ) → p / m.config.granularity < core_count m.config → p < 64
+  pub processor_low : (p : ℕ) → p / m.config.granularity < machine_core_count m.config → p < 64
   processor_low p low =
       let most = checked.config.processors.most in
       by_granularity (λ g. p / g < m.config.processors / g → p < 64) m.config.granularity checked.config.granularity (λ l. omega (arith, most, l)) (λ l. omega (arith, most, l)) (λ l. omega (arith, most, l)) low
@@ -76,14 +76,14 @@ module _ (m : Machine) (checked : IsChecked m) where
     pub domain_low : (d : ℕ) (x : Domain) → at_place pool.domains d ≡ Some x → d < 64
     domain_low d x at = (let b = place_below pool.domains d x at in let e = range.domain_places in let few = checked.config.few_domains in omega (arith, b, e, few))
 
-    pub core_inside : (r : ℕ) (c : Resource) → at_place pool.resources r ≡ Some c → r < core_count m.config
+    pub core_inside : (r : ℕ) (c : Resource) → at_place pool.resources r ≡ Some c → r < machine_core_count m.config
     core_inside r c at = (let b = place_below pool.resources r c at in let e = range.core_places in omega (arith, b, e))
 
     pub core_low : (r : ℕ) (c : Resource) → at_place pool.resources r ≡ Some c → r < 64
     core_low r c at = (let b = core_inside r c at in let few = cores_few in omega (arith, b, few))
 
     -- a vCPU that the pool has
-    pub vcpu_low : (v : VcpuId) (x : Vcpu) → vcpu_of pool v ≡ Some x → IsVcpu v
+    pub vcpu_low : (v : VcpuId) (x : Vcpu) → pool_vcpu pool v ≡ Some x → IsVcpu v
     vcpu_low v x is =
         by_option (λ (o : Option Vcpu). o ≡ Some x → IsVcpu v) (at_place pool.domains v.dom.0) None (λ d. slice_get d.vcpus v.n)
         (λ none e. absurd (cc))
@@ -101,7 +101,7 @@ module _ (m : Machine) (checked : IsChecked m) where
     pub pool_low : (i : ℕ) (pool : Pool) → at_place s.pools i ≡ Some pool → i < 16
     pool_low i pool at = (let b = place_below s.pools i pool at in let e = known.range.pool_places in omega (arith, b, e))
 
-    pub home_low : (r i : ℕ) → home_of_core s r ≡ Some i → i < 16
+    pub home_low : (r i : ℕ) → home_pool_of_core s r ≡ Some i → i < 16
     home_low r i is = let f = found_at i (λ (pool : Pool). is_some (at_place pool.resources r)) s.pools is in pool_low i f.0 f.1
 
     there_low : (i : ℕ) → is_some (at_place s.pools i) ≡ true → i < 16

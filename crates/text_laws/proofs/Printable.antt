@@ -26,12 +26,12 @@ use Rattle.sched_model.specs.declared.state.FreeCore.{FreeCore}
 use Rattle.sched_model.specs.declared.work.StallLine.{StallLine}
 use Rattle.sched_model.specs.declared.work.CommandLine.{CommandLine}
 use Rattle.sched_model.specs.Places.{at_place, test_at}
-use Rattle.sched_model.specs.Opening.{no_pool}
+use Rattle.sched_model.specs.Opening.{absent_pool}
 use Rattle.sched_model.specs.CheckedMachine.{IsChecked, IsCheckedStall, IsCheckedCommandLine, most_span}
-use Rattle.sched_model.specs.Actions.{home_of, home_of_core}
+use Rattle.sched_model.specs.Actions.{home_pool_of_action, home_pool_of_core}
 use Rattle.sched_model.specs.Pool.{enabled_in, event_in}
-use Rattle.sched_model.specs.Machine.{is_enabled, is_move_under_way, enabled_at_home, free_ready, home_pool, event_of, answer_of, stall_end_of, next_in_horizon, next_moment}
-use Rattle.sched_model.specs.Runs.{Reached, IsNext, IsNextEvent, IsRun, IsRunFrom, action_of, end_of, run_start, after_entry, after_entries}
+use Rattle.sched_model.specs.Machine.{is_action_enabled, has_move_under_way, enabled_at_home, is_free_core_ready, home_pool, event_of, answer_of, later_stall_end, next_in_horizon, least_later_moment}
+use Rattle.sched_model.specs.Runs.{Reached, IsNext, IsNextEvent, IsRun, IsRunFrom, event_action, named_next_moment, run_start, after_entry, after_entries}
 use Rattle.sched_model.proofs.RunLemmas.{IsRunFrom-append, after_entries-append}
 use Rattle.sched_laws.proofs.EachPlace.{by_option, place_below}
 use Rattle.sched_laws.proofs.Lists.{some-test_at}
@@ -71,16 +71,16 @@ module _ (m : Machine) (checked : IsChecked m) where
       is : home_pool m s action ≡ pool
 
     abbrev pool_by_home : Option ℕ → Pool
-    pool_by_home o = elim o [ None ↦ no_pool m.config | Some i ↦ unwrap_or (at_place s.pools i) (no_pool m.config) ]
+    pool_by_home o = elim o [ None ↦ absent_pool m.config | Some i ↦ unwrap_or (at_place s.pools i) (absent_pool m.config) ]
 
     home_of_action : (action : Action) → enabled_at_home m s t action ≡ true → Home action
-    home_of_action action on = by_home (home_of m.config.granularity s action) refl on
+    home_of_action action on = by_home (home_pool_of_action m.config.granularity s action) refl on
       where
-        by_home : (o : Option ℕ) → home_of m.config.granularity s action ≡ o → elim o as (λ _. Bool) [ None ↦ false | Some i ↦ test_at s.pools i (λ pool. enabled_in m.config.granularity t pool action) ] ≡ true → Home action
+        by_home : (o : Option ℕ) → home_pool_of_action m.config.granularity s action ≡ o → elim o as (λ _. Bool) [ None ↦ false | Some i ↦ test_at s.pools i (λ pool. enabled_in m.config.granularity t pool action) ] ≡ true → Home action
         by_home None same may = absurd (cc)
         by_home (Some i) same may =
             let x = some-test_at s.pools i (λ pool. enabled_in m.config.granularity t pool action) may in
-            record { i = i; pool = x.0; at = x.1; enabled = x.2; is = ap pool_by_home same ∙ ap (λ (o : Option Pool). unwrap_or o (no_pool m.config)) x.1 }
+            record { i = i; pool = x.0; at = x.1; enabled = x.2; is = ap pool_by_home same ∙ ap (λ (o : Option Pool). unwrap_or o (absent_pool m.config)) x.1 }
 
     home_printable : (action : Action) → enabled_at_home m s t action ≡ true → IsPrintableEvent (event_in m.config.granularity t (home_pool m s action) action)
     home_printable action on =
@@ -89,11 +89,11 @@ module _ (m : Machine) (checked : IsChecked m) where
         (pool_printable m checked t h.pool (now_low m checked s known) (known.range.pools h.i h.pool h.at) (known.fits.pools h.i h.pool h.at).fits (λ d x j has moves. mover_low m checked s known h.i h.pool d x j h.at has moves) action h.enabled)
 
     -- the end of a stall
-    end_low : (p end : ℕ) → end ≤ t + most_span → stall_end_of m.config.granularity s p end ≤ t + most_span
+    end_low : (p end : ℕ) → end ≤ t + most_span → later_stall_end m.config.granularity s p end ≤ t + most_span
     end_low p end near =
         let g : ℕ = m.config.granularity in
         let Q : ℕ → Type 0 = λ n. n ≤ t + most_span in
-        by_option Q (home_of_core s (p / g)) _ _
+        by_option Q (home_pool_of_core s (p / g)) _ _
         (λ none. by_option Q (at_place s.free (p / g)) _ _ (λ none2. near)
         (λ c at. by_option Q (slice_get c.stall_ends (p % g)) _ _ (λ none3. near)
         (λ old has. max_low old.0 end (t + most_span) (each_get (IsNear t) c.stall_ends (p % g) old (recursion_from_All (IsNear t) c.stall_ends (known.range.free (p / g) c at).stalls) has) near)))
@@ -112,10 +112,10 @@ module _ (m : Machine) (checked : IsChecked m) where
         line_is : (line : StallLine) → slice_get m.work.stalls s.next_stall ≡ Some line → IsCheckedStall m.config line
         line_is line is = each_get (IsCheckedStall m.config) m.work.stalls s.next_stall line (recursion_from_All (IsCheckedStall m.config) m.work.stalls checked.work.stalls) is
 
-    command_printable : is_enabled m s t Xl ≡ true → IsPrintableEvent (event_of m s t Xl)
+    command_printable : is_action_enabled m s t Xl ≡ true → IsPrintableEvent (event_of m s t Xl)
     command_printable on = by_line (slice_get m.work.commands s.next_command) refl on
       where
-        by_line : (o : Option CommandLine) → slice_get m.work.commands s.next_command ≡ o → elim o as (λ _. Bool) [ None ↦ false | Some line ↦ nat_le line.at.0 t && not (is_move_under_way s) ] ≡ true
+        by_line : (o : Option CommandLine) → slice_get m.work.commands s.next_command ≡ o → elim o as (λ _. Bool) [ None ↦ false | Some line ↦ nat_le line.at.0 t && not (has_move_under_way s) ] ≡ true
             → IsPrintableEvent (event.Xl (suc s.next_command) (elim o as (λ _. Result Reply Refusal) [ None ↦ Ok reply.Done | Some line ↦ answer_of m s line ]))
         by_line None at may = absurd (cc)
         by_line (Some line) at may =
@@ -124,10 +124,10 @@ module _ (m : Machine) (checked : IsChecked m) where
             let good = each_get IsCheckedCommandLine m.work.commands s.next_command line (recursion_from_All IsCheckedCommandLine m.work.commands checked.work.commands) at in
             answer_printable (suc s.next_command) (answer_of m s line) (omega arith, omega (arith, inside, few)) (answered m checked s known line good.command good.place)
 
-    moved_printable : (r : ℕ) → is_enabled m s t (Moved (core r)) ≡ true → IsPrintableEvent (event_of m s t (Moved (core r)))
+    moved_printable : (r : ℕ) → is_action_enabled m s t (Moved (core r)) ≡ true → IsPrintableEvent (event_of m s t (Moved (core r)))
     moved_printable r on = (
-      elim (or_cases (test_at s.free r (free_ready t)) (enabled_at_home m s t (Moved (core r))) on) [
-        | inl free ↦ (let x = some-test_at s.free r (free_ready t) free in let b = place_below s.free r x.0 x.1 in let e = known.range.free_places in let few = cores_few m checked in omega (arith, b, e, few))
+      elim (or_cases (test_at s.free r (is_free_core_ready t)) (enabled_at_home m s t (Moved (core r))) on) [
+        | inl free ↦ (let x = some-test_at s.free r (is_free_core_ready t) free in let b = place_below s.free r x.0 x.1 in let e = known.range.free_places in let few = cores_few m checked in omega (arith, b, e, few))
         | inr home ↦ (home_printable (Moved (core r)) home).0
       ],
       by_option (λ (o : Option PoolId). IfSome o IsPool) (at_place s.free r) _ _ (λ none. tt) (λ c at. aimed c at c.target refl),
@@ -137,7 +137,7 @@ module _ (m : Machine) (checked : IsChecked m) where
         aimed c at None is = tt
         aimed c at (Some i) is = target_low m checked s known r c i at is
 
-    action_printable : (action : Action) → is_enabled m s t action ≡ true → IsPrintableEvent (event_of m s t action)
+    action_printable : (action : Action) → is_action_enabled m s t action ≡ true → IsPrintableEvent (event_of m s t action)
     action_printable Stall on = stall_printable
     action_printable Xl on = command_printable on
     action_printable (Moved r) on = moved_printable r.0 on
@@ -146,7 +146,7 @@ module _ (m : Machine) (checked : IsChecked m) where
     -- the next moment that an End names is within the horizon
     next_low : (next : ℕ) → next_in_horizon m s ≡ Some next → next < 2 ^ 63
     next_low next is =
-        by_option (λ (o : Option ℕ). o ≡ Some next → next < 2 ^ 63) (next_moment m s s.now) None (λ n. cond (nat_le n m.config.horizon.0) (Some n) None)
+        by_option (λ (o : Option ℕ). o ≡ Some next → next < 2 ^ 63) (least_later_moment m s s.now) None (λ n. cond (nat_le n m.config.horizon.0) (Some n) None)
         (λ none e. absurd (cc))
         (λ n at e. within n (nat_le n m.config.horizon.0) refl e) is
       where
@@ -154,7 +154,7 @@ module _ (m : Machine) (checked : IsChecked m) where
         within n true passes e = (let same : n ≡ next = cc in let most = checked.config.horizon.most in let l : n ≤ m.config.horizon.0 = grind (arith, passes) in omega (arith, same, most, l))
         within n false fails e = absurd (cc)
 
-    quiet_printable : (e : Event) → action_of e ≡ None → next_in_horizon m s ≡ end_of e → IsPrintableEvent e
+    quiet_printable : (e : Event) → event_action e ≡ None → next_in_horizon m s ≡ named_next_moment e → IsPrintableEvent e
     quiet_printable (event.End next) quiet is = next_low next.0 is
     quiet_printable event.Finish quiet is = tt
     quiet_printable (event.Stall p until) quiet is = absurd (cc)
@@ -171,7 +171,7 @@ module _ (m : Machine) (checked : IsChecked m) where
     quiet_printable (event.Leave p v) quiet is = absurd (cc)
     quiet_printable (event.Save r u queued) quiet is = absurd (cc)
 
-    event_printable : (e : Event) (o : Option Action) → action_of e ≡ o → IsNextEvent m s e o → IsPrintableEvent e
+    event_printable : (e : Event) (o : Option Action) → event_action e ≡ o → IsNextEvent m s e o → IsPrintableEvent e
     event_printable e None quiet next = quiet_printable e quiet next.1
     event_printable e (Some action) is next = subst IsPrintableEvent (sym next.1) (action_printable action next.0)
 
@@ -179,7 +179,7 @@ module _ (m : Machine) (checked : IsChecked m) where
   entry_printable from entry known next =
       let at = next.moment in
       let low = now_low m checked from.state known in
-      (omega (arith, at, low), event_printable from.state known entry.event (action_of entry.event) refl next.event)
+      (omega (arith, at, low), event_printable from.state known entry.event (event_action entry.event) refl next.event)
 
   rest_printable : (done rest : List Entry) (from : Reached) → after_entries m (run_start m) done ≡ from → IsRun m done → IsRunFrom m from rest → AllByRecursion IsPrintable rest
   rest_printable done [] from is run goes = tt

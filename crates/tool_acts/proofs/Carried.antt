@@ -16,8 +16,8 @@ use Rattle.sched_model.specs.declared.plan.Plan.TheVariants as plan
 use Rattle.sched_model.specs.declared.state.Pool.{Pool}
 use Rattle.sched_model.specs.declared.state.State.{State}
 use Rattle.sched_model.specs.declared.work.CommandLine.{CommandLine}
-use Rattle.sched_model.specs.Commands.{pool_of_plan, reply_of}
-use Rattle.sched_model.specs.Machine.{after, after_command, answer_of, event_of, is_enabled, verdict}
+use Rattle.sched_model.specs.Commands.{plan_pool, plan_reply}
+use Rattle.sched_model.specs.Machine.{after, after_command, answer_of, event_of, is_action_enabled, line_verdict}
 use Rattle.sched_model.specs.Places.{at_place}
 use Rattle.sched_model.specs.Pool.{settled_pool}
 use Rattle.cpupool.specs.Tool.{Tool, tool_of}
@@ -33,7 +33,7 @@ use Rattle.tool_acts.specs.Acts.{Begins, told_event}
 use Rattle.tool_acts.specs.CarriedPlans.{HasCarried, KeepsPools, carried_slot, changed_slot, xl_told}
 use Rattle.tool_acts.proofs.Acting.{acted-alone, acted-on, parts-alone, parts-on, stands-changed, suits-seen}
 
-module _ (w : Told) (slots : List (Option Seen)) (tool : Tool) (parts : AreParts w slots tool) (enabled : is_enabled w.input (state_of w) (state_of w).now Xl ≡ true) where
+module _ (w : Told) (slots : List (Option Seen)) (tool : Tool) (parts : AreParts w slots tool) (enabled : is_action_enabled w.input (state_of w) (state_of w).now Xl ≡ true) where
   abbrev m : Machine
   m = w.input
 
@@ -54,13 +54,13 @@ module _ (w : Told) (slots : List (Option Seen)) (tool : Tool) (parts : AreParts
     steps : CommandSteps m s s.now line
     steps = (tool_steps m s s.now).command line is
 
-    pub parts-refused : (fault : Refusal) (new : Tool) → verdict m s line ≡ Err fault → new ≡ tool_of m (after_command m s.now line s) → AreParts (xl_told w) slots new
+    pub parts-refused : (fault : Refusal) (new : Tool) → line_verdict m s line ≡ Err fault → new ≡ tool_of m (after_command m s.now line s) → AreParts (xl_told w) slots new
     parts-refused fault new says told = parts-alone w slots parts.stand (xl_told w) new refl (acted-alone w tool s.now Xl begins _ refl new (steps.refused fault says) (known new told))
 
-    parts-homeless : (p : Plan) (new : Tool) → verdict m s line ≡ Ok p → pool_of_plan s p ≡ None → new ≡ tool_of m (after_command m s.now line s) → AreParts (xl_told w) slots new
+    parts-homeless : (p : Plan) (new : Tool) → line_verdict m s line ≡ Ok p → plan_pool s p ≡ None → new ≡ tool_of m (after_command m s.now line s) → AreParts (xl_told w) slots new
     parts-homeless p new says home told = parts-alone w slots parts.stand (xl_told w) new refl (acted-alone w tool s.now Xl begins _ refl new (steps.none p says home) (known new told))
 
-    pub parts-carried : (p : Plan) (i : ℕ) (next : List (Option Seen)) (new : Tool) → i < 16 → verdict m s line ≡ Ok p → pool_of_plan s p ≡ Some i → HasCarried w s.now p i slots next → new ≡ tool_of m (after_command m s.now line s)
+    pub parts-carried : (p : Plan) (i : ℕ) (next : List (Option Seen)) (new : Tool) → i < 16 → line_verdict m s line ≡ Ok p → plan_pool s p ≡ Some i → HasCarried w s.now p i slots next → new ≡ tool_of m (after_command m s.now line s)
         → AreParts (xl_told w) next new
     parts-carried p i next new low says home carried told =
         let changes : ChangesPlace s (after m s s.now Xl) i (carried_at m s.now p) = steps.own p i says home in
@@ -70,7 +70,7 @@ module _ (w : Told) (slots : List (Option Seen)) (tool : Tool) (parts : AreParts
         (parts-on w slots parts.stand (xl_told w) new refl i carried.slot (acted-on w tool s.now Xl begins _ refl i (carried_at m s.now p) new changes (known new told)) stands)
 
     -- the same where the plan may have a home, of which this is told
-    pub parts-changed : (p : Plan) (home : Option PoolId) (next : List (Option Seen)) (new : Tool) → ((i : ℕ) → pool_of_plan s p ≡ Some i → i < 16) → verdict m s line ≡ Ok p → home ≡ option_map pool_number (pool_of_plan s p)
+    pub parts-changed : (p : Plan) (home : Option PoolId) (next : List (Option Seen)) (new : Tool) → ((i : ℕ) → plan_pool s p ≡ Some i → i < 16) → line_verdict m s line ≡ Ok p → home ≡ option_map pool_number (plan_pool s p)
         → ForSome home (λ i. HasCarried w s.now p i.0 slots next) → (home ≡ None → next ≡ slots) → new ≡ tool_of m (after_command m s.now line s) → AreParts (xl_told w) next new
     parts-changed p None next new low says lives carried stays told = subst (λ (xs : List (Option Seen)). AreParts (xl_told w) xs new) (sym (stays refl)) (parts-homeless p new says (no-number _ (sym lives)) told)
     parts-changed p (Some i) next new low says lives carried stays told = (let home = number-of _ i (sym lives) in parts-carried p i.0 next new (low i.0 home) says home (carried i refl) told)
@@ -83,8 +83,8 @@ module _ (m : Machine) (s : State) (line : CommandLine) (is : slice_get m.work.c
       ap (λ n. event.Xl n answer) next ∙ ap (λ a. event.Xl (suc s.next_command) a) same ∙ sym (ap of_line is)
 
 -- the answer to a line, by its verdict
-pub answer-is : (m : Machine) (s : State) (line : CommandLine) (v : Result Plan Refusal) → verdict m s line ≡ v → answer_of m s line ≡ (elim v as (λ _. Result Reply Refusal) [ Err fault ↦ Err fault | Ok p ↦ Ok (reply_of p) ])
-answer-is m s line v says = ap (λ (r : Result Plan Refusal). elim r as (λ _. Result Reply Refusal) [ Err fault ↦ Err fault | Ok p ↦ Ok (reply_of p) ]) says
+pub answer-is : (m : Machine) (s : State) (line : CommandLine) (v : Result Plan Refusal) → line_verdict m s line ≡ v → answer_of m s line ≡ (elim v as (λ _. Result Reply Refusal) [ Err fault ↦ Err fault | Ok p ↦ Ok (plan_reply p) ])
+answer-is m s line v says = ap (λ (r : Result Plan Refusal). elim r as (λ _. Result Reply Refusal) [ Err fault ↦ Err fault | Ok p ↦ Ok (plan_reply p) ]) says
 
 -- what a plan that keeps the pools makes of what stands at its place
 carried-keeps : (m : Machine) (t : ℕ) (p : Plan) → KeepsPools p → (o : Option Pool) → carried_at m t p o ≡ option_map (λ (pool : Pool). settled_pool t (changed_by m t p pool)) o

@@ -16,8 +16,8 @@ use Rattle.sched_model.specs.declared.state.FreeCore.{FreeCore}
 use Rattle.sched_model.specs.declared.state.Pool.{Pool}
 use Rattle.sched_model.specs.declared.state.Resource.{Resource}
 use Rattle.sched_model.specs.declared.state.State.{State}
-use Rattle.sched_model.specs.Actions.{home_of_core}
-use Rattle.sched_model.specs.Machine.{after, enabled_at_home, event_of, free_ready, is_enabled}
+use Rattle.sched_model.specs.Actions.{home_pool_of_core}
+use Rattle.sched_model.specs.Machine.{after, enabled_at_home, event_of, is_free_core_ready, is_action_enabled}
 use Rattle.sched_model.specs.Places.{at_place, clear_at, put_at, test_at}
 use Rattle.sched_model.specs.Pool.{enabled_in, settled_pool}
 use Rattle.sched_model.proofs.PlaceLemmas.{at_place-map}
@@ -25,16 +25,16 @@ use Rattle.sched_laws.specs.StateLaws.{PoolsKeepTheirOwn}
 use Rattle.sched_laws.proofs.EachPlace.{found_at, is_empty, none_found, place_below}
 use Rattle.sched_laws.proofs.Lists.{some_is, none_without}
 use Rattle.sched_laws.proofs.PoolsLaw.{pools_keep_their_own}
-use Rattle.journal_core.specs.Parts.{ToolPart, UnderWay, core_to, under_way_of}
+use Rattle.journal_core.specs.Parts.{ToolPart, UnderWay, core_to, state_under_way}
 use Rattle.pool_records.specs.Cores as shared
 use Rattle.cpupool.specs.ToolArrival.{EndsTheMove, but_for_free}
 use Rattle.cpupool.specs.Steps.{move_of}
-use Rattle.cpupool.specs.Tool.{Tool, ends_of, tool_of}
+use Rattle.cpupool.specs.Tool.{Tool, free_core_ends, tool_of}
 use Rattle.cpupool.specs.declared.moves.Move.{Move}
 use Rattle.cpupool.specs.declared.moves.Move.TheVariants as move
 use Rattle.cpupool.proofs.ArrivedLemmas.{core_joins}
 use Rattle.cpupool.proofs.SubjectLemmas.{length-map}
-use Rattle.composition_laws.specs.WholeFirst.{move_first}
+use Rattle.composition_laws.specs.WholeFirst.{first_tool_move}
 use Rattle.composition_laws.specs.Moves.{HasOneMove}
 use Rattle.composition_laws.proofs.MoveLaw.{has_one_move}
 use Rattle.sched_model.specs.Machine as machine
@@ -56,7 +56,7 @@ use Rattle.tool_acts.proofs.Arriving.{keeps-moved}
 use Rattle.tool_acts.proofs.Stalling.{known-of, place-has}
 
 -- an action that may come begins where the parts stand
-pub parts-begin : (w : Told) (slots : List (Option Seen)) (tool : Tool) → AreParts w slots tool → (t : ℕ) (action : Action) → t ≡ (state_of w).now → is_enabled w.input (state_of w) (state_of w).now action ≡ true → Begins w tool t action
+pub parts-begin : (w : Told) (slots : List (Option Seen)) (tool : Tool) → AreParts w slots tool → (t : ℕ) (action : Action) → t ≡ (state_of w).now → is_action_enabled w.input (state_of w) (state_of w).now action ≡ true → Begins w tool t action
 parts-begin w slots tool parts t action now on = record { goes = parts.goes; now = now; known = parts.known; enabled = on }
 
 -- what is on its way is that core, and goes where the program tells
@@ -72,15 +72,15 @@ pub move-told : (part : ToolPart) (o : Option UnderWay) (r : ℕ) (to : Option �
 move-told part o r to told is tells = tells ∙ ap (option_map (move_of part)) is
 
 -- a core that is to have no pool is in one, where it may move
-pub leaves-some : (w : Told) (goes : GoesOn w) (tool : Tool) → tool_of w.input (state_of w) ≡ tool → (r : ℕ) → is_enabled w.input (state_of w) (state_of w).now (Moved (core_number r)) ≡ true → tool.part.under_way ≡ Some (core_to r None)
-    → (home : Option PoolId) → home ≡ option_map pool_number (home_of_core (state_of w) r) → home ≡ None → ⊥
+pub leaves-some : (w : Told) (goes : GoesOn w) (tool : Tool) → tool_of w.input (state_of w) ≡ tool → (r : ℕ) → is_action_enabled w.input (state_of w) (state_of w).now (Moved (core_number r)) ≡ true → tool.part.under_way ≡ Some (core_to r None)
+    → (home : Option PoolId) → home ≡ option_map pool_number (home_pool_of_core (state_of w) r) → home ≡ None → ⊥
 leaves-some w goes tool known r on way home told none =
     let m : Machine = w.input in
     let s : State = state_of w in
-    let under : under_way_of s ≡ Some (core_to r None) = ap (λ (x : Tool). x.part.under_way) known ∙ way in
-    let nowhere : home_of_core s r ≡ None = no-number _ (sym told ∙ none) in
-    let first : None ≡ move_first m s s.now (under_way_of s) = leaving-first w goes s.now r false under (no-home m s s.now (Moved (core_number r)) nowhere) in
-    let moves : move_first m s s.now (under_way_of s) ≡ Some (Moved (core_number r)) = ap (move_first m s s.now) under ∙ ap (λ (b : Bool). cond b (Some (Moved (core_number r))) None) on in
+    let under : state_under_way s ≡ Some (core_to r None) = ap (λ (x : Tool). x.part.under_way) known ∙ way in
+    let nowhere : home_pool_of_core s r ≡ None = no-number _ (sym told ∙ none) in
+    let first : None ≡ first_tool_move m s s.now (state_under_way s) = leaving-first w goes s.now r false under (no-home m s s.now (Moved (core_number r)) nowhere) in
+    let moves : first_tool_move m s s.now (state_under_way s) ≡ Some (Moved (core_number r)) = ap (first_tool_move m s s.now) under ∙ ap (λ (b : Bool). cond b (Some (Moved (core_number r))) None) on in
     let never : None ≡ Some (Moved (core_number r)) = first ∙ moves in
     cc
 
@@ -112,15 +112,15 @@ module _ (w : Told) (tool : Tool) (t r : ℕ) (begins : Begins w tool t (Moved (
   pub way-there : (to : Option ℕ) × (tool.part.under_way ≡ Some (core_to r to))
   way-there = (let law = (one-move-of w begins.goes).core s.now r begins.enabled in (law.0, ap (λ (x : Tool). x.part.under_way) (sym begins.known) ∙ law.1))
 
-  way-of : (to : Option ℕ) → tool.part.under_way ≡ Some (core_to r to) → under_way_of s ≡ Some (core_to r to)
+  way-of : (to : Option ℕ) → tool.part.under_way ≡ Some (core_to r to) → state_under_way s ≡ Some (core_to r to)
   way-of to is = ap (λ (x : Tool). x.part.under_way) begins.known ∙ is
 
   -- what the tool knows in the end, with the cores that no pool has then
-  knows-left : (free : List (Option (List Moment))) (new : Tool) → new ≡ but_for_free free (tool_of m left) → map (option_map ends_of) left.free ≡ free → tool_of m left ≡ new
+  knows-left : (free : List (Option (List Moment))) (new : Tool) → new ≡ but_for_free free (tool_of m left) → map (option_map free_core_ends) left.free ≡ free → tool_of m left ≡ new
   knows-left free new is same = ap (λ (l : List (Option (List Moment))). but_for_free l (tool_of m left)) same ∙ sym is
 
-  free-of : (k : ℕ) → at_place tool.part.free k ≡ option_map ends_of (at_place s.free k)
-  free-of k = ap (λ (x : Tool). at_place x.part.free k) (sym begins.known) ∙ at_place-map ends_of s.free k
+  free-of : (k : ℕ) → at_place tool.part.free k ≡ option_map free_core_ends (at_place s.free k)
+  free-of k = ap (λ (x : Tool). at_place x.part.free k) (sym begins.known) ∙ at_place-map free_core_ends s.free k
 
   is-now : (i : ℕ) (slot : Option Seen) → StandsAt w i slot → ForSome slot (λ seen. IsNow seen t)
   is-now i slot stands seen here =
@@ -141,7 +141,7 @@ module _ (w : Told) (tool : Tool) (t r : ℕ) (begins : Begins w tool t (Moved (
     join-steps = (tool_steps m s s.now).joins r coming i joining.1 joining.2
 
     pub free-there : IsSome (at_place tool.part.free r)
-    free-there = ap is_some (free-of r ∙ ap (option_map ends_of) joining.1)
+    free-there = ap is_some (free-of r ∙ ap (option_map free_core_ends) joining.1)
 
     pub event-joins : event.Moved (core_number r) (Some (pool_number i)) ≡ event_of m s s.now (Moved (core_number r))
     event-joins =
@@ -158,7 +158,7 @@ module _ (w : Told) (tool : Tool) (t r : ℕ) (begins : Begins w tool t (Moved (
 
     module _ (ends : List Moment) (taken : at_place tool.part.free r ≡ Some ends) where
       ends-joining : ends ≡ coming.stall_ends
-      ends-joining = mapped-some ends_of (at_place s.free r) coming ends joining.1 (sym (free-of r) ∙ taken)
+      ends-joining = mapped-some free_core_ends (at_place s.free r) coming ends joining.1 (sym (free-of r) ∙ taken)
 
       module _ (slot : Option Seen) (stands : StandsAt w i slot) where
         pool-here : (seen : Seen) → slot ≡ Some seen → at_place s.pools i ≡ Some seen.pool
@@ -182,7 +182,7 @@ module _ (w : Told) (tool : Tool) (t r : ℕ) (begins : Begins w tool t (Moved (
         joins-siblings seen here = ap length ends-joining ∙ ((range-of w begins.goes).free r coming joining.1).count ∙ sym (stands.suits seen here).granularity
 
         module _ (event : Event) (ev : event ≡ event_of m s s.now (Moved (core_number r))) (new : Option Seen) (made : new ≡ option_map (λ seen. seen_at t (settled_pool t (pools.with_core r ends seen.pool)) seen) slot) where
-          joined-at : (o : Option Seen) → pool_at (option_map (λ seen. seen_at t (settled_pool t (pools.with_core r ends seen.pool)) seen) o) ≡ option_map (machine.with_core s.now r coming.stall_ends) (pool_at o)
+          joined-at : (o : Option Seen) → pool_at (option_map (λ seen. seen_at t (settled_pool t (pools.with_core r ends seen.pool)) seen) o) ≡ option_map (machine.pool_with_core s.now r coming.stall_ends) (pool_at o)
           joined-at None = refl
           joined-at (Some seen) =
               ap (λ (n : ℕ). Some (settled_pool n (pools.with_core r ends seen.pool))) begins.now
@@ -190,21 +190,21 @@ module _ (w : Told) (tool : Tool) (t r : ℕ) (begins : Begins w tool t (Moved (
 
           pub stands-joined : StandsAt (told_event w t event) i new
           stands-joined =
-              stands-changed w tool t (Moved (core_number r)) begins event ev i (option_map (machine.with_core s.now r coming.stall_ends)) slot new join-steps.own stands (ap pool_at made ∙ joined-at slot)
+              stands-changed w tool t (Moved (core_number r)) begins event ev i (option_map (machine.pool_with_core s.now r coming.stall_ends)) slot new join-steps.own stands (ap pool_at made ∙ joined-at slot)
               (subst (λ (o : Option Seen). ForSome o (SlotSuits m s.now)) (sym made) (suits-seen m s.now t (λ seen. settled_pool t (pools.with_core r ends seen.pool)) begins.now slot stands.suits))
 
     -- the tool, which has the core no more
     module _ (new : Tool) (done : new ≡ but_for_free (clear_at r tool.part.free) (tool_of m left)) where
       pub acted-joins : (event : Event) → event ≡ event_of m s s.now (Moved (core_number r)) → HasActedOn w i (told_event w t event) new
       acted-joins event ev =
-          acted-on w tool t (Moved (core_number r)) begins event ev i (option_map (machine.with_core s.now r coming.stall_ends)) new join-steps.own
-          (knows-left (clear_at r tool.part.free) new done (ap (map (option_map ends_of)) join-steps.free ∙ map-set (option_map ends_of) s.free r None ∙ ap (λ (x : Tool). clear_at r x.part.free) begins.known))
+          acted-on w tool t (Moved (core_number r)) begins event ev i (option_map (machine.pool_with_core s.now r coming.stall_ends)) new join-steps.own
+          (knows-left (clear_at r tool.part.free) new done (ap (map (option_map free_core_ends)) join-steps.free ∙ map-set (option_map free_core_ends) s.free r None ∙ ap (λ (x : Tool). clear_at r x.part.free) begins.known))
 
       pub counts-joins : KeepsCounts tool.part new.part
       counts-joins = keeps-moved m s s.now (core_to r (Some i)) (clear_at r tool.part.free) tool new (way-of (Some i) way) ends-it begins.known done
 
   -- out of the pool i
-  module _ (i : ℕ) (way : tool.part.under_way ≡ Some (core_to r None)) (home : home_of_core s r ≡ Some i) (slot : Option Seen) (stands : StandsAt w i slot) where
+  module _ (i : ℕ) (way : tool.part.under_way ≡ Some (core_to r None)) (home : home_pool_of_core s r ≡ Some i) (slot : Option Seen) (stands : StandsAt w i slot) where
     not-free : at_place s.free r ≡ None
     not-free = is_empty (at_place s.free r) (λ c at. absurd (let none = (own-of w begins.goes).free r c at in cc))
 
@@ -241,7 +241,7 @@ module _ (w : Told) (tool : Tool) (t r : ℕ) (begins : Begins w tool t (Moved (
     may-leave : enabled_in m.config.granularity s.now pool (Moved (core_number r)) ≡ true
     may-leave =
         let may : Pool → Bool = λ p. enabled_in m.config.granularity s.now p (Moved (core_number r)) in
-        let by_free : Option FreeCore → Bool = λ o. elim o [ None ↦ false | Some c ↦ free_ready s.now c ] in
+        let by_free : Option FreeCore → Bool = λ o. elim o [ None ↦ false | Some c ↦ is_free_core_ready s.now c ] in
         let by_home : Option ℕ → Bool = λ o. elim o [ None ↦ false | Some k ↦ test_at s.pools k may ] in
         let by_pool : Option Pool → Bool = λ o. elim o [ None ↦ false | Some p ↦ may p ] in
         sym (ap (λ (o : Option FreeCore). by_free o || enabled_at_home m s s.now (Moved (core_number r))) not-free ∙ ap by_home home ∙ ap by_pool there.1) ∙ begins.enabled
@@ -260,11 +260,11 @@ module _ (w : Told) (tool : Tool) (t r : ℕ) (begins : Begins w tool t (Moved (
         let places = (range.pools i pool there.1).core_places in
         let all = range.free_places in
         let low = place_below pool.resources r going core-there.1 in
-        let count : length tool.part.free ≡ length s.free = ap (λ (x : Tool). length x.part.free) (sym begins.known) ∙ length-map (option_map ends_of) s.free in
+        let count : length tool.part.free ≡ length s.free = ap (λ (x : Tool). length x.part.free) (sym begins.known) ∙ length-map (option_map free_core_ends) s.free in
         omega (arith, places, all, low, count)
 
     pub none-free : at_place tool.part.free r ≡ None
-    none-free = free-of r ∙ ap (option_map ends_of) not-free
+    none-free = free-of r ∙ ap (option_map free_core_ends) not-free
 
     module _ (event : Event) (ev : event ≡ event_of m s s.now (Moved (core_number r))) where
       module _ (new : Option Seen) (made : new ≡ option_map (λ seen. seen_at t (settled_pool t (pools.without_core r seen.pool)) seen) slot) where
@@ -289,8 +289,8 @@ module _ (w : Told) (tool : Tool) (t r : ℕ) (begins : Begins w tool t (Moved (
           let free : FreeCore = record { target = None; stall_ends = shared.ends_of going } in
           acted-on w tool t (Moved (core_number r)) begins event ev i (option_map (machine.without_core s.now r)) new leave-steps.own
           (knows-left (put_at r ends tool.part.free) new done
-          (ap (map (option_map ends_of)) leave-steps.free ∙ map-set (option_map ends_of) s.free r (Some free)
-          ∙ ap (λ (l : List Moment). put_at r l (map (option_map ends_of) s.free)) (sym ends-going) ∙ ap (λ (x : Tool). put_at r ends x.part.free) begins.known))
+          (ap (map (option_map free_core_ends)) leave-steps.free ∙ map-set (option_map free_core_ends) s.free r (Some free)
+          ∙ ap (λ (l : List Moment). put_at r l (map (option_map free_core_ends) s.free)) (sym ends-going) ∙ ap (λ (x : Tool). put_at r ends x.part.free) begins.known))
 
       pub counts-leaves : KeepsCounts tool.part new.part
       counts-leaves = keeps-moved m s s.now (core_to r None) (put_at r ends tool.part.free) tool new (way-of None way) ends-it begins.known done

@@ -26,13 +26,13 @@ use Rattle.sched_model.specs.declared.state.Records.{Records}
 use Rattle.sched_model.specs.declared.state.Records.TheVariants.{Credit2Pool, RtdsPool, ArincPool, NullPool}
 use Rattle.sched_model.specs.declared.state.RtdsUnit.{RtdsUnit}
 use Rattle.sched_model.specs.declared.state.State.{State}
-use Rattle.sched_model.specs.Actions.{home_of_domain}
+use Rattle.sched_model.specs.Actions.{home_pool_of_domain}
 use Rattle.sched_model.specs.CheckedMachine.{IsChecked, IsCheckedDomain}
-use Rattle.sched_model.specs.Machine.{after, event_of, home_pool, is_enabled, is_null, joined_by, left_by}
-use Rattle.sched_model.specs.Opening.{no_pool}
+use Rattle.sched_model.specs.Machine.{after, event_of, home_pool, is_action_enabled, is_null_pool, joined_by, left_by}
+use Rattle.sched_model.specs.Opening.{absent_pool}
 use Rattle.sched_model.specs.Places.{at_place, numbers_from}
-use Rattle.sched_model.specs.Policy.{credit2_record, default_dom_params, kind_of, rtds_record}
-use Rattle.sched_model.specs.Pool.{enabled_in, event_in, settled_pool, unit_count, with_domain, without_domain}
+use Rattle.sched_model.specs.Policy.{domain_credit2_record, standard_dom_params, records_kind, unit_rtds_record}
+use Rattle.sched_model.specs.Pool.{enabled_in, event_in, settled_pool, domain_unit_count, pool_with_domain, pool_without_domain}
 use Rattle.sched_model.specs.Runs.{IsRun, run_start}
 use Rattle.sched_laws.specs.StateLaws.{state_after}
 use Rattle.sched_laws.proofs.EachPlace.{is_empty, place_below}
@@ -40,10 +40,10 @@ use Rattle.sched_laws.proofs.Lists.{is_some_at, some_is, test_at-some, same_read
 use Rattle.sched_laws.proofs.PoolsLaw.{pools_keep_their_own}
 use Rattle.sched_laws.proofs.SiblingsLaw.{some_processor}
 use Rattle.sched_ops.specs.Conditions.{AreDomParams}
-use Rattle.sched_model.specs.Policy.{stored_of}
+use Rattle.sched_model.specs.Policy.{unit_stored}
 use Rattle.sched_model.proofs.PlaceLemmas.{at_place-map}
 use Rattle.state_ranges.specs.Ranges.{DomainInRange}
-use Rattle.journal_core.specs.Parts.{Outline, ToolPart, UnderWay, domain_to, outline_of, tool_of as part_of_tool, under_way_of}
+use Rattle.journal_core.specs.Parts.{Outline, ToolPart, UnderWay, domain_to, pool_outline, tool_of as part_of_tool, state_under_way}
 use Rattle.composition_laws.proofs.Alike.{mover_of}
 use Rattle.composition_laws.proofs.Begun.{housed_opening}
 use Rattle.composition_laws.proofs.NamesLaw.{housed_from, moves-away}
@@ -54,7 +54,7 @@ use Rattle.composition_laws.proofs.Whose.{moving_answers}
 use Rattle.composition_laws.specs.ToolSteps.{DomainSteps}
 use Rattle.composition_laws.proofs.ToolSteps.{tool_steps}
 use Rattle.cpupool.specs.ToolArrival.{EndsTheMove, action_of, but_for_free}
-use Rattle.cpupool.specs.Steps.{kind_at, move_of}
+use Rattle.cpupool.specs.Steps.{outlined_kind, move_of}
 use Rattle.cpupool.specs.Tool.{Tool, tool_of}
 use Rattle.cpupool.specs.declared.moves.Move.TheVariants as move
 use Rattle.unit_state.specs.declared.part.DomPart.{DomPart}
@@ -85,11 +85,11 @@ use Rattle.tool_acts.proofs.Stalling.{place-has}
 pub record Finds (m : Machine) (s : State) (d i j : ℕ) : Type 0 where
   pub pool : Pool
   pub domain : Domain
-  pub home : home_of_domain s d ≡ Some i
+  pub home : home_pool_of_domain s d ≡ Some i
   pub pool_at : at_place s.pools i ≡ Some pool
   pub domain_at : at_place pool.domains d ≡ Some domain
   pub moving : domain.moving ≡ Some (pool_number j)
-  pub way : under_way_of s ≡ Some (domain_to d j)
+  pub way : state_under_way s ≡ Some (domain_to d j)
   pub other : j ≢ i
   pub target : is_some (at_place s.pools j) ≡ true
   pub absent : ForSome (at_place s.pools j) (λ pool. at_place pool.domains d ≡ None)
@@ -109,7 +109,7 @@ module _ (m : Machine) (checked : IsChecked m) (entries : List Entry) (run : IsR
       (test_at-some at_end.pools j (λ (p : Pool). is_some (at_place p.domains d)) q there (is_some_at (at_place q.domains d) x here))
       (test_at-some at_end.pools i (λ (p : Pool). is_some (at_place p.domains d)) pool at (is_some_at (at_place pool.domains d) domain has))))
 
-  finds-here : (on : is_enabled m at_end at_end.now (DomMoved (domain_number d)) ≡ true) (f : Moving at_end d) → Finds m at_end d f.home f.target.0
+  finds-here : (on : is_action_enabled m at_end at_end.now (DomMoved (domain_number d)) ≡ true) (f : Moving at_end d) → Finds m at_end d f.home f.target.0
   finds-here on f =
       let other : f.target.0 ≢ f.home = moves-away m checked entries run f.home d f.pool f.domain f.target f.pool_at f.domain_at f.moving in
       record {
@@ -127,13 +127,13 @@ module _ (m : Machine) (checked : IsChecked m) (entries : List Entry) (run : IsR
         ends = record { free = (pools_keep_their_own m checked entries run).free; last = (has_one_move m checked entries run).after_domain at_end.now d on };
       }
 
-  finds-any : is_enabled m at_end at_end.now (DomMoved (domain_number d)) ≡ true → (i : ℕ) × (j : ℕ) × Finds m at_end d i j
+  finds-any : is_action_enabled m at_end at_end.now (DomMoved (domain_number d)) ≡ true → (i : ℕ) × (j : ℕ) × Finds m at_end d i j
   finds-any on = (let f = domain_found m at_end at_end.now d on in (f.home, f.target.0, finds-here on f))
 
 -- where the move may come
-pub finds-some : (w : Told) → GoesOn w → (d : ℕ) → is_enabled w.input (state_of w) (state_of w).now (DomMoved (domain_number d)) ≡ true → (i : ℕ) × (j : ℕ) × Finds w.input (state_of w) d i j
+pub finds-some : (w : Told) → GoesOn w → (d : ℕ) → is_action_enabled w.input (state_of w) (state_of w).now (DomMoved (domain_number d)) ≡ true → (i : ℕ) × (j : ℕ) × Finds w.input (state_of w) d i j
 finds-some w goes d =
-    subst (λ (s : State). is_enabled w.input s s.now (DomMoved (domain_number d)) ≡ true → (i : ℕ) × (j : ℕ) × Finds w.input s d i j) (sym (state_of-is w)) (finds-any w.input goes.checked w.history goes.run d)
+    subst (λ (s : State). is_action_enabled w.input s s.now (DomMoved (domain_number d)) ≡ true → (i : ℕ) × (j : ℕ) × Finds w.input s d i j) (sym (state_of-is w)) (finds-any w.input goes.checked w.history goes.run d)
 
 same-some : {X : Type 0} (o : Option X) (a b : X) → o ≡ Some a → o ≡ Some b → a ≡ b
 same-some o a b is too = cc
@@ -142,37 +142,37 @@ way-target : (d j k : ℕ) → Some (domain_to d j) ≡ Some (domain_to d k) →
 way-target d j k is = cc
 
 -- the route, as the tool tells it
-pub route-is : (w : Told) (tool : Tool) (t : ℕ) (d : DomId) → Begins w tool t (DomMoved d) → (n : DomId) (from to : PoolId) (kind : SchedKind) → option_map (move_of tool.part) tool.part.under_way ≡ Some (move.Dom n to kind) → home_of_domain (state_of w) d.0 ≡ Some from.0
+pub route-is : (w : Told) (tool : Tool) (t : ℕ) (d : DomId) → Begins w tool t (DomMoved d) → (n : DomId) (from to : PoolId) (kind : SchedKind) → option_map (move_of tool.part) tool.part.under_way ≡ Some (move.Dom n to kind) → home_pool_of_domain (state_of w) d.0 ≡ Some from.0
     → MovesDomain w t (record { d = d; from = from; to = to; kind = kind })
 route-is w tool t d begins n from to kind told home =
     let f = finds-some w begins.goes d.0 begins.enabled in
     let j : ℕ = f.1 in
     let part : tool.part ≡ part_of_tool (state_of w) = ap (λ (x : Tool). x.part) (sym begins.known) in
     let way : tool.part.under_way ≡ Some (domain_to d.0 j) = ap (λ (x : ToolPart). x.under_way) part ∙ f.2.way in
-    let is : Some (move.Dom d (pool_number j) (kind_at tool.part j)) ≡ Some (move.Dom n to kind) = ap (option_map (move_of tool.part)) (sym way) ∙ told in
+    let is : Some (move.Dom d (pool_number j) (outlined_kind tool.part j)) ≡ Some (move.Dom n to kind) = ap (option_map (move_of tool.part)) (sym way) ∙ told in
     let target : pool_number j ≡ to = cc in
-    let scheduler : kind_at tool.part j ≡ kind = cc in
+    let scheduler : outlined_kind tool.part j ≡ kind = cc in
     record {
       goes = begins.goes;
       now = begins.now;
       enabled = begins.enabled;
       home = home;
       way = f.2.way ∙ ap (λ (x : PoolId). Some (domain_to d.0 x.0)) target;
-      kind_is = sym scheduler ∙ ap (λ (x : ToolPart). kind_at x j) part ∙ ap (λ (x : PoolId). kind_at (part_of_tool (state_of w)) x.0) target;
+      kind_is = sym scheduler ∙ ap (λ (x : ToolPart). outlined_kind x j) part ∙ ap (λ (x : PoolId). outlined_kind (part_of_tool (state_of w)) x.0) target;
     }
 
 -- something is told: a domain
-pub domain-told : (w : Told) (tool : Tool) (t d : ℕ) → Begins w tool t (DomMoved (domain_number d)) → (j : ℕ) × (option_map (move_of tool.part) tool.part.under_way ≡ Some (move.Dom (domain_number d) (pool_number j) (kind_at tool.part j)))
+pub domain-told : (w : Told) (tool : Tool) (t d : ℕ) → Begins w tool t (DomMoved (domain_number d)) → (j : ℕ) × (option_map (move_of tool.part) tool.part.under_way ≡ Some (move.Dom (domain_number d) (pool_number j) (outlined_kind tool.part j)))
 domain-told w tool t d begins =
     let f = finds-some w begins.goes d begins.enabled in
     (f.1, ap (λ (x : Tool). option_map (move_of tool.part) x.part.under_way) (sym begins.known) ∙ ap (option_map (move_of tool.part)) f.2.way)
 
 -- it has a home
-pub home-told : (w : Told) (tool : Tool) (t d : ℕ) → Begins w tool t (DomMoved (domain_number d)) → home_of_domain (state_of w) d ≡ None → ⊥
+pub home-told : (w : Told) (tool : Tool) (t d : ℕ) → Begins w tool t (DomMoved (domain_number d)) → home_pool_of_domain (state_of w) d ≡ None → ⊥
 home-told w tool t d begins none = (let f = finds-some w begins.goes d begins.enabled in let home = f.2.home in cc)
 
 -- what a pool tells of the first unit of a domain
-pub first-told : (records : Records) (d n : ℕ) (units : List Stored) → 1 ≤ n → map (λ (x : Stored). Some x) units ≡ stored_units records d (numbers_from 0 n) → (x : Stored) × (rest : List Stored) × (units ≡ x ∷ rest) × (stored_of records (unit_id d 0) ≡ Some x)
+pub first-told : (records : Records) (d n : ℕ) (units : List Stored) → 1 ≤ n → map (λ (x : Stored). Some x) units ≡ stored_units records d (numbers_from 0 n) → (x : Stored) × (rest : List Stored) × (units ≡ x ∷ rest) × (unit_stored records (unit_id d 0) ≡ Some x)
 first-told records d zero units some is = absurd (omega (arith, some))
 first-told records d (suc n) [] some is = absurd (cc)
 first-told records d (suc n) (x ∷ rest) some is = (x, rest, refl, cc)
@@ -186,13 +186,13 @@ no-null-rtds None is = absurd (cc)
 no-null-rtds (Some x) is = absurd (cc)
 
 -- null alone tells so
-pub told-null : (records : Records) (u : UnitId) → stored_of records u ≡ Some stored.Null → true ≡ is_null records
-told-null (Credit2Pool records) u is = absurd (no-null-credit2 (credit2_record (Credit2Pool records) u.dom.0) is)
-told-null (RtdsPool domains) u is = absurd (no-null-rtds (rtds_record (RtdsPool domains) u) is)
+pub told-null : (records : Records) (u : UnitId) → unit_stored records u ≡ Some stored.Null → true ≡ is_null_pool records
+told-null (Credit2Pool records) u is = absurd (no-null-credit2 (domain_credit2_record (Credit2Pool records) u.dom.0) is)
+told-null (RtdsPool domains) u is = absurd (no-null-rtds (unit_rtds_record (RtdsPool domains) u) is)
 told-null (ArincPool records) u is = absurd (cc)
 told-null (NullPool kept) u is = refl
 
-pub told-other : (records : Records) (u : UnitId) (x : Stored) → stored_of records u ≡ Some x → (x ≡ stored.Null → ⊥) → false ≡ is_null records
+pub told-other : (records : Records) (u : UnitId) (x : Stored) → unit_stored records u ≡ Some x → (x ≡ stored.Null → ⊥) → false ≡ is_null_pool records
 told-other (Credit2Pool records) u x is other = refl
 told-other (RtdsPool domains) u x is other = refl
 told-other (ArincPool records) u x is other = refl
@@ -234,7 +234,7 @@ module _ (w : Told) (t : ℕ) (route : DomainRoute) (moves : MovesDomain w t rou
   pub finds : Finds m s d i j
   finds =
       let f = finds-some w moves.goes d moves.enabled in
-      let home : f.0 ≡ i = same-some (home_of_domain s d) f.0 i f.2.home moves.home in
+      let home : f.0 ≡ i = same-some (home_pool_of_domain s d) f.0 i f.2.home moves.home in
       let to : f.1 ≡ j = way-target d f.1 j (sym f.2.way ∙ moves.way) in
       subst (λ (k : ℕ). Finds m s d k j) home (subst (λ (k : ℕ). Finds m s d f.0 k) to f.2)
 
@@ -263,7 +263,7 @@ module _ (w : Told) (t : ℕ) (route : DomainRoute) (moves : MovesDomain w t rou
   pub event-is : event.DomMoved route.d route.to ≡ event_of m s s.now (DomMoved (domain_number d))
   event-is =
       let home : home_pool m s (DomMoved (domain_number d)) ≡ finds.pool =
-      ap (λ (o : Option ℕ). elim o as (λ _. Pool) [ None ↦ no_pool m.config | Some k ↦ unwrap_or (at_place s.pools k) (no_pool m.config) ]) finds.home ∙ ap (λ (o : Option Pool). unwrap_or o (no_pool m.config)) finds.pool_at in
+      ap (λ (o : Option ℕ). elim o as (λ _. Pool) [ None ↦ absent_pool m.config | Some k ↦ unwrap_or (at_place s.pools k) (absent_pool m.config) ]) finds.home ∙ ap (λ (o : Option Pool). unwrap_or o (absent_pool m.config)) finds.pool_at in
       let printed : event_in m.config.granularity s.now finds.pool (DomMoved (domain_number d)) ≡ event.DomMoved (domain_number d) (pool_number j) =
       ap (λ (o : Option Domain). event.DomMoved (domain_number d) (elim o as (λ _. PoolId) [ None ↦ pool_number 0 | Some x ↦ unwrap_or x.moving (pool_number 0) ])) finds.domain_at
       ∙ ap (λ (o : Option PoolId). event.DomMoved (domain_number d) (unwrap_or o (pool_number 0))) finds.moving in
@@ -289,7 +289,7 @@ module _ (w : Told) (t : ℕ) (route : DomainRoute) (moves : MovesDomain w t rou
         let range : DomainInRange m s.now d finds.domain = ((range-of w moves.goes).pools i finds.pool finds.pool_at).domains d finds.domain finds.domain_at in
         let file : IsCheckedDomain m.config range.config = each_get (IsCheckedDomain m.config) m.config.domains d range.config (recursion_from_All (IsCheckedDomain m.config) m.config.domains moves.goes.checked.config.domains) range.at in
         let some : 1 ≤ length finds.domain.vcpus = (let count = range.count in let guest = file.some_guest in omega (arith, count, guest)) in
-        let has : 1 ≤ unit_count m.config.granularity finds.domain = some_units m.config.granularity finds.domain (some_processor m.config.granularity moves.goes.checked.config.granularity) some in
+        let has : 1 ≤ domain_unit_count m.config.granularity finds.domain = some_units m.config.granularity finds.domain (some_processor m.config.granularity moves.goes.checked.config.granularity) some in
         subst (λ (g : ℕ). 1 ≤ units_at g (at_place seen.pool.domains d)) (sym (stands.suits seen is).granularity)
         (subst (λ (o : Option Domain). 1 ≤ units_at m.config.granularity o) (sym (domain-in seen is)) has)
 
@@ -302,7 +302,7 @@ module _ (w : Told) (t : ℕ) (route : DomainRoute) (moves : MovesDomain w t rou
 
     -- the pool that it has left
     abbrev taken : DomPart → Seen → Seen
-    taken part seen = with_spare (seen.spare + unit_count part.granularity part.domain) (record seen { pool = without_domain d seen.pool })
+    taken part seen = with_spare (seen.spare + domain_unit_count part.granularity part.domain) (record seen { pool = pool_without_domain d seen.pool })
 
     pub now-taken : (part : DomPart) (mid : Option Seen) → mid ≡ option_map (taken part) old → ForSome mid (λ seen. IsNow seen t)
     now-taken part mid is x at =
@@ -312,7 +312,7 @@ module _ (w : Told) (t : ℕ) (route : DomainRoute) (moves : MovesDomain w t rou
         some-out (λ (seen : Seen). IsNow seen t) (taken part f.0) x (sym there ∙ at)
         (record { after = (let late = (stands.suits f.0 f.1).latest in omega (arith, late, now)); early = (let limit = early w moves.goes in omega (arith, limit, now)) })
 
-    pub stands-left : (part : DomPart) (looks : Bool) (mid new : Option Seen) → ForSome old (λ seen. looks ≡ is_null seen.pool.scheduler.records) → mid ≡ option_map (taken part) old → new ≡ looked_at looks t mid
+    pub stands-left : (part : DomPart) (looks : Bool) (mid new : Option Seen) → ForSome old (λ seen. looks ≡ is_null_pool seen.pool.scheduler.records) → mid ≡ option_map (taken part) old → new ≡ looked_at looks t mid
         → StandsAt (told_moved w t route) i new
     stands-left part looks mid new tells is looked =
         let f = from-there in
@@ -360,21 +360,21 @@ module _ (w : Told) (t : ℕ) (route : DomainRoute) (moves : MovesDomain w t rou
       pub none-there : ForSome old (λ seen. at_place seen.pool.domains part.d.0 ≡ None)
       none-there seen is = subst (λ (x : DomId). at_place seen.pool.domains x.0 ≡ None) (sym gone.number) (finds.absent seen.pool (stands-there w j old stands ∙ ap pool_at is))
 
-      kind-there : (seen : Seen) → old ≡ Some seen → kind_of seen.pool.scheduler.records ≡ route.kind
+      kind-there : (seen : Seen) → old ≡ Some seen → records_kind seen.pool.scheduler.records ≡ route.kind
       kind-there seen is =
           let there : at_place s.pools j ≡ Some seen.pool = stands-there w j old stands ∙ ap pool_at is in
-          let told : kind_at (part_of_tool s) j ≡ kind_of seen.pool.scheduler.records =
-          ap (λ (o : Option Outline). elim o as (λ _. SchedKind) [ None ↦ kinds.Null | Some x ↦ x.kind ]) (at_place-map outline_of s.pools j ∙ ap (option_map outline_of) there) in
+          let told : outlined_kind (part_of_tool s) j ≡ records_kind seen.pool.scheduler.records =
+          ap (λ (o : Option Outline). elim o as (λ _. SchedKind) [ None ↦ kinds.Null | Some x ↦ x.kind ]) (at_place-map pool_outline s.pools j ∙ ap (option_map pool_outline) there) in
           sym told ∙ sym moves.kind_is
 
-      pub params-fit : (params : DomParams) → AreDomParams route.kind params → ForSome old (λ seen. AreDomParams (kind_of seen.pool.scheduler.records) params)
+      pub params-fit : (params : DomParams) → AreDomParams route.kind params → ForSome old (λ seen. AreDomParams (records_kind seen.pool.scheduler.records) params)
       params-fit params fit seen is = subst (λ (kind : SchedKind). AreDomParams kind params) (sym (kind-there seen is)) fit
 
       -- the pool that it has joined
       abbrev given : DomParams → Seen → Seen
-      given params seen = with_spare (seen.spare - unit_count part.granularity joining) (seen_at t (settled_pool t (with_domain seen.granularity t part.d.0 joining params seen.pool)) seen)
+      given params seen = with_spare (seen.spare - domain_unit_count part.granularity joining) (seen_at t (settled_pool t (pool_with_domain seen.granularity t part.d.0 joining params seen.pool)) seen)
 
-      pub stands-joined : (params : DomParams) (new : Option Seen) → ((records : Records) → kind_of records ≡ route.kind → params ≡ default_dom_params records) → new ≡ option_map (given params) old → StandsAt (told_moved w t route) j new
+      pub stands-joined : (params : DomParams) (new : Option Seen) → ((records : Records) → records_kind records ≡ route.kind → params ≡ standard_dom_params records) → new ≡ option_map (given params) old → StandsAt (told_moved w t route) j new
       stands-joined params new default is =
           let f = to-there in
           let suits = stands.suits f.0 f.1 in
@@ -382,11 +382,11 @@ module _ (w : Told) (t : ℕ) (route : DomainRoute) (moves : MovesDomain w t rou
           let made : new ≡ Some here = is ∙ ap (option_map (given params)) f.1 in
           let pool : pool_at new ≡ at_place after_it.pools j =
           ap pool_at made
-          ∙ ap (λ (g : ℕ). Some (settled_pool t (with_domain g t part.d.0 joining params f.0.pool))) suits.granularity
-          ∙ ap (λ (n : ℕ). Some (settled_pool n (with_domain m.config.granularity n part.d.0 joining params f.0.pool))) moves.now
-          ∙ ap (λ (x : DomId). Some (settled_pool s.now (with_domain m.config.granularity s.now x.0 joining params f.0.pool))) gone.number
-          ∙ ap (λ (x : Domain). Some (settled_pool s.now (with_domain m.config.granularity s.now d (record x { moving = None }) params f.0.pool))) same-domain
-          ∙ ap (λ (p : DomParams). Some (settled_pool s.now (with_domain m.config.granularity s.now d (record finds.domain { moving = None }) p f.0.pool))) (default f.0.pool.scheduler.records (kind-there f.0 f.1))
+          ∙ ap (λ (g : ℕ). Some (settled_pool t (pool_with_domain g t part.d.0 joining params f.0.pool))) suits.granularity
+          ∙ ap (λ (n : ℕ). Some (settled_pool n (pool_with_domain m.config.granularity n part.d.0 joining params f.0.pool))) moves.now
+          ∙ ap (λ (x : DomId). Some (settled_pool s.now (pool_with_domain m.config.granularity s.now x.0 joining params f.0.pool))) gone.number
+          ∙ ap (λ (x : Domain). Some (settled_pool s.now (pool_with_domain m.config.granularity s.now d (record x { moving = None }) params f.0.pool))) same-domain
+          ∙ ap (λ (p : DomParams). Some (settled_pool s.now (pool_with_domain m.config.granularity s.now d (record finds.domain { moving = None }) p f.0.pool))) (default f.0.pool.scheduler.records (kind-there f.0 f.1))
           ∙ sym (joined-there ∙ ap (option_map (joined_by m.config.granularity s.now d finds.domain)) f.2) in
           let now = moves.now in
           let fits : SlotSuits m s.now here = record { granularity = suits.granularity; latest = omega (arith, now) } in

@@ -12,19 +12,19 @@ use Rattle.sched_base.specs.declared.PoolId.{PoolId}
 use Rattle.sched_model.specs.declared.state.Pool.{Pool}
 use Rattle.sched_model.specs.declared.state.State.{State}
 use Rattle.sched_model.specs.declared.work.CommandLine.{CommandLine}
-use Rattle.sched_model.specs.Commands.{pool_of_plan}
-use Rattle.sched_model.specs.Machine.{after_command, is_enabled, verdict}
+use Rattle.sched_model.specs.Commands.{plan_pool}
+use Rattle.sched_model.specs.Machine.{after_command, is_action_enabled, line_verdict}
 use Rattle.sched_model.specs.Opening.{most_pools}
 use Rattle.sched_model.specs.Places.{at_place, clear_at, put_at}
-use Rattle.sched_model.specs.Policy.{default_pool_params, kind_of}
+use Rattle.sched_model.specs.Policy.{standard_pool_params, records_kind}
 use Rattle.sched_model.proofs.PlaceLemmas.{at_place-map}
 use Rattle.sched_base.proofs.Bools.{and_right}
 use Rattle.sched_laws.proofs.Lists.{same_read}
 use Rattle.sched_laws.proofs.EachPlace.{place_below}
 use Rattle.sched_laws.proofs.Sound.{none_is}
-use Rattle.journal_core.specs.Parts.{ToolPart, outline_of, under_way_of, tool_of as part_of_tool}
-use Rattle.cpupool.specs.ToolAdvance.{after_advance, empty_outline}
-use Rattle.cpupool.specs.Steps.{command_comes}
+use Rattle.journal_core.specs.Parts.{ToolPart, pool_outline, state_under_way, tool_of as part_of_tool}
+use Rattle.cpupool.specs.ToolAdvance.{after_advance, fresh_outline}
+use Rattle.cpupool.specs.Steps.{is_command_due}
 use Rattle.cpupool.specs.Tool.{Tool, tool_of}
 use Rattle.cpupool.proofs.AdvanceLemmas.{advanced-seen}
 use Rattle.cpupool.proofs.SubjectLemmas.{length-map}
@@ -54,18 +54,18 @@ record Comes (tool : Tool) : Type 0 where
   pub next : slice_get tool.commands tool.part.next_command ≡ Some line
   pub idle : tool.part.under_way ≡ None
 
-comes : (tool : Tool) (t : ℕ) → command_comes tool t ≡ true → Comes tool
+comes : (tool : Tool) (t : ℕ) → is_command_due tool t ≡ true → Comes tool
 comes tool t may = by_line (slice_get tool.commands tool.part.next_command) refl may
   where
     by_line : (o : Option CommandLine) → slice_get tool.commands tool.part.next_command ≡ o → (elim o as (λ _. Bool) [ None ↦ false | Some line ↦ nat_le line.at.0 t && is_none tool.part.under_way ]) ≡ true → Comes tool
     by_line None is e = absurd (cc)
     by_line (Some line) is e = record { line = line; next = is; idle = none_is tool.part.under_way (and_right (nat_le line.at.0 t) (is_none tool.part.under_way) e) }
 
-module _ (m : Machine) (s : State) (t : ℕ) (enabled : is_enabled m s t Xl ≡ true) where
+module _ (m : Machine) (s : State) (t : ℕ) (enabled : is_action_enabled m s t Xl ≡ true) where
   coming : Comes (tool_of m s)
   coming = comes (tool_of m s) t (command-seen m s t ∙ enabled)
 
-  idle : under_way_of s ≡ None
+  idle : state_under_way s ≡ None
   idle = coming.idle
 
   module _ (tool : Tool) (known : tool_of m s ≡ tool) where
@@ -76,7 +76,7 @@ module _ (m : Machine) (s : State) (t : ℕ) (enabled : is_enabled m s t Xl ≡ 
     is-idle = ap (λ (x : Tool). x.part.under_way) (sym known) ∙ idle
 
     -- what the tool keeps after an accepted command
-    module _ (line : CommandLine) (p : Plan) (says : verdict m s line ≡ Ok p) (new : Tool) (told : new ≡ tool_of m (after_command m t line s)) where
+    module _ (line : CommandLine) (p : Plan) (says : line_verdict m s line ≡ Ok p) (new : Tool) (told : new ≡ tool_of m (after_command m t line s)) where
       pub advanced-is : new ≡ after_advance tool p
       advanced-is = told ∙ sym (advanced-seen m s idle t line p says) ∙ ap (λ (x : Tool). after_advance x p) known
 
@@ -92,11 +92,11 @@ module _ (m : Machine) (now : ℕ) (tool new : Tool) (shelves : Shelves) (are : 
   spares-on pools over = spares-passed m now tool.part new.part shelves (λ kind. ap (in_use_of kind) pools) over are
 
 -- the outline of what stands at a place of the pools
-outline-at : (s : State) (i : ℕ) (o : Option Pool) → at_place s.pools i ≡ o → at_place (part_of_tool s).pools i ≡ option_map outline_of o
-outline-at s i o is = at_place-map outline_of s.pools i ∙ ap (option_map outline_of) is
+outline-at : (s : State) (i : ℕ) (o : Option Pool) → at_place s.pools i ≡ o → at_place (part_of_tool s).pools i ≡ option_map pool_outline o
+outline-at s i o is = at_place-map pool_outline s.pools i ∙ ap (option_map pool_outline) is
 
 -- a pool that a command makes, at its place
-module _ (w : Told) (slots : List (Option Seen)) (tool : Tool) (parts : AreParts w slots tool) (enabled : is_enabled w.input (state_of w) (state_of w).now Xl ≡ true) (p : Plan) (accepted : IsAccepted w p) where
+module _ (w : Told) (slots : List (Option Seen)) (tool : Tool) (parts : AreParts w slots tool) (enabled : is_action_enabled w.input (state_of w) (state_of w).now Xl ≡ true) (p : Plan) (accepted : IsAccepted w p) where
   abbrev m : Machine
   m = w.input
 
@@ -107,7 +107,7 @@ module _ (w : Told) (slots : List (Option Seen)) (tool : Tool) (parts : AreParts
     found : (i.0 < length s.pools) × (at_place s.pools i.0 ≡ None)
     found = subst (Finds m s) makes.is (accepted-finds w parts.goes p accepted)
 
-    says : verdict m s accepted.line ≡ Ok (plan.PoolCreate i makes.name kind makes.answer)
+    says : line_verdict m s accepted.line ≡ Ok (plan.PoolCreate i makes.name kind makes.answer)
     says = accepted.accepted ∙ ap (λ (q : Plan). Ok q) makes.is
 
     new-low : i.0 < 16
@@ -133,10 +133,10 @@ module _ (w : Told) (slots : List (Option Seen)) (tool : Tool) (parts : AreParts
       no-outline = outline-at s i.0 None found.1
 
       outlines-inside : i.0 < length (part_of_tool s).pools
-      outlines-inside = (let inside = found.0 in let count = length-map (option_map outline_of) s.pools in omega (arith, inside, count))
+      outlines-inside = (let inside = found.0 in let count = length-map (option_map pool_outline) s.pools in omega (arith, inside, count))
 
       all-places : length (part_of_tool s).pools ≡ most_pools
-      all-places = length-map (option_map outline_of) s.pools ∙ (range-of w parts.goes).pool_places
+      all-places = length-map (option_map pool_outline) s.pools ∙ (range-of w parts.goes).pool_places
 
       asks : makes_at kind accepted.line ≡ true
       asks = line-makes m s accepted.line i makes.name kind makes.answer says
@@ -147,7 +147,7 @@ module _ (w : Told) (slots : List (Option Seen)) (tool : Tool) (parts : AreParts
       module _ (left : Shelves) (slot : Option Seen) (made : HasMade m s.now kind shelves left slot) (new : Tool) (told : new ≡ tool_of m (after_command m s.now accepted.line s)) where
         new-suits : ForSome slot (SlotSuits m s.now)
         new-suits x at =
-            let here : made_seen m.config (default_pool_params kind) made.spare.latest ≡ x = (let was = made.made in cc) in
+            let here : made_seen m.config (standard_pool_params kind) made.spare.latest ≡ x = (let was = made.made in cc) in
             subst (SlotSuits m s.now) here (record { granularity = refl; latest = made.suits.suits.latest })
 
         new-carried : HasCarried w s.now p i.0 slots (slice_set slots i.0 slot)
@@ -159,15 +159,15 @@ module _ (w : Told) (slots : List (Option Seen)) (tool : Tool) (parts : AreParts
         }
 
         pub parts-new : AreParts (xl_told w) (slice_set slots i.0 slot) new
-        parts-new = parts-carried w slots tool parts enabled accepted.line accepted.next p i.0 (slice_set slots i.0 slot) new new-low accepted.accepted (ap (pool_of_plan s) makes.is) new-carried told
+        parts-new = parts-carried w slots tool parts enabled accepted.line accepted.next p i.0 (slice_set slots i.0 slot) new new-low accepted.accepted (ap (plan_pool s) makes.is) new-carried told
 
         advanced-new : new ≡ after_advance tool (plan.PoolCreate i makes.name kind makes.answer)
         advanced-new = advanced-is m s s.now enabled tool parts.known accepted.line p accepted.accepted new told ∙ ap (after_advance tool) makes.is
 
         pub spares-new : AreSpares m s.now new.part left
         spares-new =
-            spares-created m s.now kind (part_of_tool s) shelves left made.spare made.taken are-here new.part i.0 (empty_outline tool kind) accepted.line no-outline outlines-inside refl
-            (ap (λ (x : Tool). x.part.pools) advanced-new ∙ ap (λ (part : ToolPart). put_at i.0 (empty_outline tool kind) part.pools) (sym known-part))
+            spares-created m s.now kind (part_of_tool s) shelves left made.spare made.taken are-here new.part i.0 (fresh_outline tool kind) accepted.line no-outline outlines-inside refl
+            (ap (λ (x : Tool). x.part.pools) advanced-new ∙ ap (λ (part : ToolPart). put_at i.0 (fresh_outline tool kind) part.pools) (sym known-part))
             accepted.next asks (ap (λ (x : Tool). x.part.next_command) advanced-new ∙ ap (λ (part : ToolPart). suc part.next_command) (sym known-part))
 
   -- a pool that a command destroys
@@ -190,8 +190,8 @@ module _ (w : Told) (slots : List (Option Seen)) (tool : Tool) (parts : AreParts
     pub gone-slot : IsSome (at_place slots i.0)
     gone-slot = ap (λ (o : Option Seen). is_some o) gone-seen.1
 
-    module _ (kind : SchedKind) (kind_told : ForSome (at_place s.pools i.0) (λ (pool : Pool). kind ≡ kind_of pool.scheduler.records)) (shelves : Shelves) (are : AreSpares m s.now tool.part shelves) where
-      gone-kind : kind_of gone.pool.scheduler.records ≡ kind
+    module _ (kind : SchedKind) (kind_told : ForSome (at_place s.pools i.0) (λ (pool : Pool). kind ≡ records_kind pool.scheduler.records)) (shelves : Shelves) (are : AreSpares m s.now tool.part shelves) where
+      gone-kind : records_kind gone.pool.scheduler.records ≡ kind
       gone-kind = sym (kind_told gone.pool gone.at)
 
       gone-part : part_of_tool s ≡ tool.part
@@ -200,7 +200,7 @@ module _ (w : Told) (slots : List (Option Seen)) (tool : Tool) (parts : AreParts
       gone-are : AreSpares m s.now (part_of_tool s) shelves
       gone-are = subst (λ (part : ToolPart). AreSpares m s.now part shelves) (sym gone-part) are
 
-      gone-outline : at_place (part_of_tool s).pools i.0 ≡ Some (outline_of gone.pool)
+      gone-outline : at_place (part_of_tool s).pools i.0 ≡ Some (pool_outline gone.pool)
       gone-outline = outline-at s i.0 (Some gone.pool) gone.at
 
       pub gone-may : ForSome (at_place slots i.0) (MayGo kind shelves)
@@ -209,8 +209,8 @@ module _ (w : Told) (slots : List (Option Seen)) (tool : Tool) (parts : AreParts
           let empty : IsEmpty gone.pool = record { domains = λ n. (gone.meets n).1; cores = λ n. (gone.meets n).0 } in
           subst (MayGo kind shelves) here (record {
             empty = subst IsEmpty (sym gone-seen.2) empty;
-            kind_is = ap (λ (pool : Pool). kind_of pool.scheduler.records) gone-seen.2 ∙ gone-kind;
-            room = spares-room m s.now kind (part_of_tool s) shelves gone-are i.0 (outline_of gone.pool) gone-outline gone-kind;
+            kind_is = ap (λ (pool : Pool). records_kind pool.scheduler.records) gone-seen.2 ∙ gone-kind;
+            room = spares-room m s.now kind (part_of_tool s) shelves gone-are i.0 (pool_outline gone.pool) gone-outline gone-kind;
           })
 
       module _ (left : Shelves) (slot : Option Seen) (went : HasGone m s.now kind shelves left slot) (new : Tool) (told : new ≡ tool_of m (after_command m s.now accepted.line s)) where
@@ -223,7 +223,7 @@ module _ (w : Told) (slots : List (Option Seen)) (tool : Tool) (parts : AreParts
         }
 
         pub parts-gone : AreParts (xl_told w) (slice_set slots i.0 slot) new
-        parts-gone = parts-carried w slots tool parts enabled accepted.line accepted.next p i.0 (slice_set slots i.0 slot) new gone-low accepted.accepted (ap (pool_of_plan s) destroys.is) gone-carried told
+        parts-gone = parts-carried w slots tool parts enabled accepted.line accepted.next p i.0 (slice_set slots i.0 slot) new gone-low accepted.accepted (ap (plan_pool s) destroys.is) gone-carried told
 
         advanced-gone : new ≡ after_advance tool (plan.PoolDestroy i destroys.answer)
         advanced-gone = advanced-is m s s.now enabled tool parts.known accepted.line p accepted.accepted new told ∙ ap (after_advance tool) destroys.is
@@ -231,7 +231,7 @@ module _ (w : Told) (slots : List (Option Seen)) (tool : Tool) (parts : AreParts
         pub spares-gone : AreSpares m s.now new.part left
         spares-gone =
             subst (λ (x : Shelves). AreSpares m s.now new.part x) (sym went.given)
-            (spares-destroyed m s.now kind (part_of_tool s) shelves gone-are i.0 (outline_of gone.pool) gone-outline gone-kind new.part went.spare went.suits
+            (spares-destroyed m s.now kind (part_of_tool s) shelves gone-are i.0 (pool_outline gone.pool) gone-outline gone-kind new.part went.spare went.suits
             (ap (λ (x : Tool). x.part.pools) advanced-gone ∙ ap (λ (part : ToolPart). clear_at i.0 part.pools) (sym gone-part))
             (ap (λ (x : Tool). x.part.next_command) advanced-gone ∙ ap (λ (part : ToolPart). suc part.next_command) (sym gone-part)))
 

@@ -17,12 +17,12 @@ use Rattle.sched_model.specs.declared.state.Pool.{Pool}
 use Rattle.sched_model.specs.declared.state.Processor.{Processor}
 use Rattle.sched_model.specs.declared.state.State.{State}
 use Rattle.sched_model.specs.declared.work.StallLine.{StallLine}
-use Rattle.sched_model.specs.Actions.{change_pool, home_of_core}
+use Rattle.sched_model.specs.Actions.{change_pool, home_pool_of_core}
 use Rattle.sched_model.specs.CheckedMachine.{IsCheckedStall}
-use Rattle.sched_model.specs.Machine.{after, after_stall, event_of, is_enabled, stall_end_of, with_stall_end}
-use Rattle.sched_model.specs.Opening.{core_count}
+use Rattle.sched_model.specs.Machine.{after, after_stall, event_of, is_action_enabled, later_stall_end, state_with_stall}
+use Rattle.sched_model.specs.Opening.{machine_core_count}
 use Rattle.sched_model.specs.Places.{at_place, change_at, change_item}
-use Rattle.sched_model.specs.Pool.{change_processor, processor_of}
+use Rattle.sched_model.specs.Pool.{change_processor, pool_processor}
 use Rattle.sched_model.proofs.PlaceLemmas.{at_place-map}
 use Rattle.sched_base.proofs.Bools.{clash}
 use Rattle.sched_base.proofs.Lists.{each_get}
@@ -31,12 +31,12 @@ use Rattle.sched_laws.proofs.Granularity.{by_granularity}
 use Rattle.sched_laws.proofs.Lists.{same_read}
 use Rattle.journal_core.specs.Parts.{ToolPart}
 use Rattle.composition_laws.proofs.Alike.{core_of}
-use Rattle.cpupool.specs.Tool.{Tool, ends_of, tool_of}
+use Rattle.cpupool.specs.Tool.{Tool, free_core_ends, tool_of}
 use Rattle.composition_laws.specs.ToolSteps as steps
 use Rattle.composition_laws.specs.ToolSteps.{StallSteps, end_of_stall, stall_end_in}
 use Rattle.composition_laws.proofs.Moving.{IsKnown, known_in_runs}
 use Rattle.composition_laws.proofs.ToolSteps.{tool_steps}
-use Rattle.pool_core.specs.Seen.{Seen, stall_until, with_stall}
+use Rattle.pool_core.specs.Seen.{Seen, extended_stall_end, with_stall}
 use Rattle.machine_parts.specs.Counts.{KeepsCounts, in_use_of}
 use Rattle.machine_parts.specs.Told.{Told}
 use Rattle.machine_parts.specs.Places.{AllStand, GoesOn, SlotSuits, StandsAt, state_of, with_pool}
@@ -68,7 +68,7 @@ stands-read w slots all i default low =
     subst (StandsAt w i) (same_read slots i None default low) (all.each i few)
 
 -- the later end, where the processor is there
-until-is : (o : Option Processor) (end : ℕ) → stall_until o (moment end) ≡ moment (elim o as (λ _. ℕ) [ None ↦ end | Some q ↦ max q.stall_end.0 end ])
+until-is : (o : Option Processor) (end : ℕ) → extended_stall_end o (moment end) ≡ moment (elim o as (λ _. ℕ) [ None ↦ end | Some q ↦ max q.stall_end.0 end ])
 until-is None end = refl
 until-is (Some q) end = refl
 
@@ -118,7 +118,7 @@ module _ (w : Told) (t : ℕ) (line : StallLine) (i : ℕ) (next : IsNextStall w
   abbrev pool : Pool
   pool = there.0
 
-  module _ (end : Moment) (is : ForSome slot (λ seen. end ≡ stall_until (processor_of seen.granularity seen.pool line.cpu.0) (moment (t + line.span.0)))) where
+  module _ (end : Moment) (is : ForSome slot (λ seen. end ≡ extended_stall_end (pool_processor seen.granularity seen.pool line.cpu.0) (moment (t + line.span.0)))) where
     end-there : end ≡ moment (end_of_stall w.input (state_of w) (state_of w).now line)
     end-there =
         let here = place-has w i slot stands pool there.1 in
@@ -126,9 +126,9 @@ module _ (w : Told) (t : ℕ) (line : StallLine) (i : ℕ) (next : IsNextStall w
         let suits = stands.suits seen here.1 in
         let g : ℕ = w.input.config.granularity in
         is seen here.1
-        ∙ ap (λ (k : ℕ). stall_until (processor_of k seen.pool line.cpu.0) (moment (t + line.span.0))) suits.granularity
-        ∙ ap (λ (p : Pool). stall_until (processor_of g p line.cpu.0) (moment (t + line.span.0))) here.2
-        ∙ until-is (processor_of g pool line.cpu.0) (t + line.span.0)
+        ∙ ap (λ (k : ℕ). extended_stall_end (pool_processor k seen.pool line.cpu.0) (moment (t + line.span.0))) suits.granularity
+        ∙ ap (λ (p : Pool). extended_stall_end (pool_processor g p line.cpu.0) (moment (t + line.span.0))) here.2
+        ∙ until-is (pool_processor g pool line.cpu.0) (t + line.span.0)
         ∙ ap (λ (k : ℕ). moment (stall_end_in g line.cpu.0 (k + line.span.0) pool)) next.now
         ∙ ap moment (sym ((stall-steps w t line (Some i) next).end i pool next.home_is there.1))
 
@@ -176,7 +176,7 @@ module _ (w : Told) (t : ℕ) (line : StallLine) (next : IsNextStall w t line No
   in-no-pool i None at has = absurd (cc)
   in-no-pool i (Some pool) at has = clash (is_some (at_place pool.resources r)) has (none_found 0 i (λ p. is_some (at_place p.resources r)) (state_of w).pools pool next.home_is at)
 
-  core-low : r < core_count w.input.config
+  core-low : r < machine_core_count w.input.config
   core-low =
       let config = w.input.config in
       let low = (checked-line w t line None next).cpu in
@@ -188,18 +188,18 @@ module _ (w : Told) (t : ℕ) (line : StallLine) (next : IsNextStall w t line No
 
   -- the tool has the core
   pub free-there : IsSome (at_place old.part.free (line.cpu.0 / old.granularity))
-  free-there = subst (λ (x : Tool). IsSome (at_place x.part.free (line.cpu.0 / x.granularity))) (sym counted) (ap is_some (at_place-map ends_of (state_of w).free r) ∙ mapped (at_place (state_of w).free r) core-free)
+  free-there = subst (λ (x : Tool). IsSome (at_place x.part.free (line.cpu.0 / x.granularity))) (sym counted) (ap is_some (at_place-map free_core_ends (state_of w).free r) ∙ mapped (at_place (state_of w).free r) core-free)
     where
-      mapped : (o : Option FreeCore) → is_some o ≡ true → is_some (option_map ends_of o) ≡ true
+      mapped : (o : Option FreeCore) → is_some o ≡ true → is_some (option_map free_core_ends o) ≡ true
       mapped None some = some
       mapped (Some c) some = refl
 
   pub counted-is : tool_of w.input (counted_state w) ≡ old
   counted-is = sym counted
 
-  module _ (end : Moment) (is : end ≡ moment (stall_end_of w.input.config.granularity (counted_state w) line.cpu.0 (t + line.span.0))) where
+  module _ (end : Moment) (is : end ≡ moment (later_stall_end w.input.config.granularity (counted_state w) line.cpu.0 (t + line.span.0))) where
     end-none : end ≡ moment (end_of_stall w.input (state_of w) (state_of w).now line)
-    end-none = is ∙ ap (λ (k : ℕ). moment (stall_end_of w.input.config.granularity (state_of w) line.cpu.0 (k + line.span.0))) next.now
+    end-none = is ∙ ap (λ (k : ℕ). moment (later_stall_end w.input.config.granularity (state_of w) line.cpu.0 (k + line.span.0))) next.now
 
     pub event-none : event.Stall line.cpu end ≡ event_of w.input (state_of w) (state_of w).now Stall
     event-none = event-is w t line None next end end-none
@@ -208,7 +208,7 @@ module _ (w : Told) (t : ℕ) (line : StallLine) (next : IsNextStall w t line No
     with_end : State → State
     with_end s = record s { free = change_at r (λ (c : FreeCore). record c { stall_ends = change_item (line.cpu.0 % w.input.config.granularity) (λ old. moment end.0) c.stall_ends }) s.free }
 
-    stalled-none : (s : State) → home_of_core s r ≡ None → with_stall_end w.input.config.granularity line.cpu.0 end.0 s ≡ with_end s
+    stalled-none : (s : State) → home_pool_of_core s r ≡ None → state_with_stall w.input.config.granularity line.cpu.0 end.0 s ≡ with_end s
     unfolding with_end
     stalled-none s none = ap (λ (o : Option ℕ). elim o as (λ _. State) [ None ↦ with_end s | Some i ↦ change_pool i (change_processor w.input.config.granularity line.cpu.0 (λ q. record q { stall_end = moment end.0 })) s ]) none
 
@@ -217,10 +217,10 @@ module _ (w : Told) (t : ℕ) (line : StallLine) (next : IsNextStall w t line No
     left-none =
         let s : State = state_of w in
         ap (λ (o : Option StallLine). elim o as (λ _. State) [ None ↦ s | Some l ↦ after_stall w.input.config.granularity s.now l s ]) next.line_is
-        ∙ ap (λ (e : Moment). let x : State = record (with_stall_end w.input.config.granularity line.cpu.0 e.0 s) { next_stall = suc s.next_stall } in x) (sym end-none)
+        ∙ ap (λ (e : Moment). let x : State = record (state_with_stall w.input.config.granularity line.cpu.0 e.0 s) { next_stall = suc s.next_stall } in x) (sym end-none)
         ∙ ap (λ (x : State). let y : State = record x { next_stall = suc s.next_stall } in y) (stalled-none s next.home_is)
 
-    module _ (new : Tool) (left : new ≡ tool_of w.input (with_stall_end w.input.config.granularity line.cpu.0 end.0 (counted_state w))) where
+    module _ (new : Tool) (left : new ≡ tool_of w.input (state_with_stall w.input.config.granularity line.cpu.0 end.0 (counted_state w))) where
       new-is : new ≡ tool_of w.input (with_end (counted_state w))
       new-is = left ∙ ap (tool_of w.input) (stalled-none (counted_state w) next.home_is)
 
@@ -241,7 +241,7 @@ keeps-both : (a b c : ToolPart) → KeepsCounts a b → KeepsCounts b c → Keep
 keeps-both a b c first second = record { in_use = λ kind. second.in_use kind ∙ first.in_use kind; commands = second.commands ∙ first.commands }
 
 -- over the places of all pools
-module _ (w : Told) (slots : List (Option Seen)) (tool : Tool) (parts : AreParts w slots tool) (enabled : is_enabled w.input (state_of w) (state_of w).now Stall ≡ true) where
+module _ (w : Told) (slots : List (Option Seen)) (tool : Tool) (parts : AreParts w slots tool) (enabled : is_action_enabled w.input (state_of w) (state_of w).now Stall ≡ true) where
   pub line-left : tool.part.next_stall < length tool.stalls
   line-left =
       let s : State = state_of w in
@@ -262,14 +262,14 @@ module _ (w : Told) (slots : List (Option Seen)) (tool : Tool) (parts : AreParts
     pub taken-known : tool_of w.input (counted_state w) ≡ taken
     taken-known = sym taken-is
 
-    module _ (home : Option PoolId) (told : home ≡ option_map pool_number (home_of_core (state_of w) (line.cpu.0 / g))) where
-      next-of : (o : Option ℕ) → home_of_core (state_of w) (line.cpu.0 / g) ≡ o → IsNextStall w t line o
+    module _ (home : Option PoolId) (told : home ≡ option_map pool_number (home_pool_of_core (state_of w) (line.cpu.0 / g))) where
+      next-of : (o : Option ℕ) → home_pool_of_core (state_of w) (line.cpu.0 / g) ≡ o → IsNextStall w t line o
       next-of o at = record {
         goes = parts.goes;
         now = now;
         enabled = enabled;
         line_is = ap (λ (x : Tool). slice_get x.stalls x.part.next_stall) parts.known ∙ is;
-        home_is = ap (λ (n : ℕ). home_of_core (state_of w) (line.cpu.0 / n)) (sym same) ∙ at;
+        home_is = ap (λ (n : ℕ). home_pool_of_core (state_of w) (line.cpu.0 / n)) (sym same) ∙ at;
       }
 
       pub next-none : home ≡ None → IsNextStall w t line None

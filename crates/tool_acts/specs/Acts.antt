@@ -3,7 +3,7 @@ use Rattle.std.specs.Prelude.{ℕ, ◌≡◌, ◌≢◌, true}
 use Rattle.sched_base.specs.Numbers.{moment}
 use Rattle.sched_model.specs.declared.action.Action.{Action}
 use Rattle.sched_model.specs.declared.event.Event.{Event}
-use Rattle.sched_model.specs.Machine.{is_enabled}
+use Rattle.sched_model.specs.Machine.{is_action_enabled}
 use Rattle.journal_core.specs.Parts.{tool_lock}
 use Rattle.journal_core.specs.Histories.{part_at}
 use Rattle.cpupool.specs.Tool.{Tool, tool_of}
@@ -19,7 +19,7 @@ pub record Begins (w : Told) (tool : Tool) (t : ℕ) (action : Action) : Type 0 
   pub goes : GoesOn w
   pub now : t ≡ (state_of w).now
   pub known : tool_of w.input (state_of w) ≡ tool
-  pub enabled : is_enabled w.input (state_of w) (state_of w).now action ≡ true
+  pub enabled : is_action_enabled w.input (state_of w) (state_of w).now action ≡ true
 
 -- the run has gone on at the same moment; the tool knows the state that it leads to, and every pool but those of these two numbers is as before
 pub record HasActed (w : Told) (i j : ℕ) (next : Told) (tool : Tool) : Type 0 where

@@ -9,9 +9,9 @@ use Rattle.sched_model.specs.declared.plan.Plan.{Plan}
 use Rattle.sched_model.specs.declared.plan.Plan.TheVariants as plan
 use Rattle.sched_model.specs.declared.state.Pool.{Pool}
 use Rattle.sched_model.specs.declared.work.CommandLine.{CommandLine}
-use Rattle.sched_model.specs.Machine.{event_of, verdict}
+use Rattle.sched_model.specs.Machine.{event_of, line_verdict}
 use Rattle.sched_model.specs.Places.{at_place}
-use Rattle.sched_model.specs.Policy.{kind_of}
+use Rattle.sched_model.specs.Policy.{records_kind}
 use Rattle.sched_model.specs.Pool.{settled_pool}
 use Rattle.sched_ops.specs.Conditions.{IsChange}
 use Rattle.unit_state.specs.Seen.{units_at}
@@ -30,7 +30,7 @@ xl_told w = told_event w (state_of w).now (event_of w.input (state_of w) (state_
 pub record IsAccepted (w : Told) (p : Plan) : Type 0 where
   pub line : CommandLine
   pub next : slice_get w.input.work.commands (state_of w).next_command ≡ Some line
-  pub accepted : verdict w.input (state_of w) line ≡ Ok p
+  pub accepted : line_verdict w.input (state_of w) line ≡ Ok p
 
 -- the place with its pool changed at t, and its cores looked at
 abbrev pub changed_slot : ℕ → (Seen → Pool) → Option Seen → Option Seen
@@ -42,7 +42,7 @@ carried_slot m t p slot = changed_slot t (λ seen. changed_by m t p seen.pool) s
 
 -- the change is one that the pool's scheduler takes
 abbrev pub TakesChange : Seen → ParamChange → Type 0
-TakesChange seen change = IsChange (kind_of seen.pool.scheduler.records) seen.pool.scheduler change
+TakesChange seen change = IsChange (records_kind seen.pool.scheduler.records) seen.pool.scheduler change
 
 -- the units are some of the domain's, and what is given to them is in range
 pub record TakesUnits (seen : Seen) (d first count : ℕ) (InRange : Type 0) : Type 0 where

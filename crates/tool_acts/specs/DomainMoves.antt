@@ -2,12 +2,12 @@
 use Rattle.std.specs.Prelude.{ℕ, ◌≡◌, Some, Bool, Option, option_map, if◌then◌else◌, true}
 use Rattle.std.specs.Option.{ForSome}
 use Rattle.sched_model.specs.declared.action.Action.TheVariants.{DomMoved}
-use Rattle.sched_model.specs.Actions.{home_of_domain}
-use Rattle.sched_model.specs.Machine.{is_enabled, event_of}
+use Rattle.sched_model.specs.Actions.{home_pool_of_domain}
+use Rattle.sched_model.specs.Machine.{is_action_enabled, event_of}
 use Rattle.sched_model.specs.Places.{at_place}
 use Rattle.sched_model.specs.Pool.{settled_pool}
-use Rattle.journal_core.specs.Parts.{domain_to, tool_of as part_of_tool, under_way_of}
-use Rattle.cpupool.specs.Steps.{kind_at}
+use Rattle.journal_core.specs.Parts.{domain_to, tool_of as part_of_tool, state_under_way}
+use Rattle.cpupool.specs.Steps.{outlined_kind}
 use Rattle.unit_state.specs.Parts.{IsPart}
 use Rattle.unit_state.specs.declared.part.DomPart.{DomPart}
 use Rattle.pool_core.specs.Seen.{Seen, seen_at}
@@ -21,10 +21,10 @@ use Rattle.tool_acts.specs.declared.domains.DomainRoute.{DomainRoute}
 pub record MovesDomain (w : Told) (t : ℕ) (route : DomainRoute) : Type 0 where
   pub goes : GoesOn w
   pub now : t ≡ (state_of w).now
-  pub enabled : is_enabled w.input (state_of w) (state_of w).now (DomMoved route.d) ≡ true
-  pub home : home_of_domain (state_of w) route.d.0 ≡ Some route.from.0
-  pub way : under_way_of (state_of w) ≡ Some (domain_to route.d.0 route.to.0)
-  pub kind_is : route.kind ≡ kind_at (part_of_tool (state_of w)) route.to.0
+  pub enabled : is_action_enabled w.input (state_of w) (state_of w).now (DomMoved route.d) ≡ true
+  pub home : home_pool_of_domain (state_of w) route.d.0 ≡ Some route.from.0
+  pub way : state_under_way (state_of w) ≡ Some (domain_to route.d.0 route.to.0)
+  pub kind_is : route.kind ≡ outlined_kind (part_of_tool (state_of w)) route.to.0
 
 -- the trail with the entry of the domain's move at t
 abbrev pub told_moved : Told → ℕ → DomainRoute → Told

@@ -7,7 +7,7 @@ use Rattle.sched_model.specs.declared.event.Reply.{Reply}
 use Rattle.sched_model.specs.declared.machine.Machine.{Machine}
 use Rattle.sched_model.specs.declared.plan.Plan.{Plan}
 use Rattle.sched_model.specs.declared.plan.Plan.TheVariants as plan
-use Rattle.sched_model.specs.Policy.{default_pool_params, kind_of}
+use Rattle.sched_model.specs.Policy.{standard_pool_params, records_kind}
 use Rattle.pool_core.specs.Seen.{Seen, IsEmpty}
 use Rattle.machine_parts.specs.Spares.{IsSpare, Shelves, made_seen, shelf_of, shelves_with}
 
@@ -16,12 +16,12 @@ pub record HasMade (m : Machine) (now : ℕ) (kind : SchedKind) (shelves left : 
   pub spare : Seen
   pub suits : IsSpare m now kind spare
   pub taken : shelves ≡ shelves_with kind spare left
-  pub made : slot ≡ Some (made_seen m.config (default_pool_params kind) spare.latest)
+  pub made : slot ≡ Some (made_seen m.config (standard_pool_params kind) spare.latest)
 
 -- the place has a pool of this scheduler with neither a domain nor a core, for which there is room among the spare ones
 pub record MayGo (kind : SchedKind) (shelves : Shelves) (seen : Seen) : Type 0 where
   pub empty : IsEmpty seen.pool
-  pub kind_is : kind_of seen.pool.scheduler.records ≡ kind
+  pub kind_is : records_kind seen.pool.scheduler.records ≡ kind
   pub room : length (shelf_of kind shelves).pools < (shelf_of kind shelves).capacity
 
 -- a pool of the scheduler has become a spare one, and its place is empty

@@ -2,10 +2,10 @@
 
 ghost use Rattle.std.specs.Prelude.{◌≡◌, true, false, None};
 ghost use Rattle.sched_model.specs.declared.action.Action.TheVariants as actions;
-ghost use Rattle.sched_model.specs.Machine.{is_enabled, event_of};
+ghost use Rattle.sched_model.specs.Machine.{is_action_enabled, event_of};
 ghost use Rattle.machine_parts.specs.Counts.{AreSpares};
 ghost use Rattle.machine_parts.specs.Places.{state_of};
-ghost use Rattle.machine_parts.specs.Parts.{AreParts, pool_of_event};
+ghost use Rattle.machine_parts.specs.Parts.{AreParts, event_pool};
 ghost use Rattle.tool_acts.specs.Acts.{told_event};
 
 use crate::commands::command;
@@ -32,12 +32,12 @@ pub fn act_of_tool(
     requires parts { AreParts at.now slots.old tool.old }
     requires granularity { granularity ≡ at.now.input.config.granularity }
     requires now { t.0 ≡ (state_of at.now).now }
-    requires enabled { is_enabled at.now.input (state_of at.now) (state_of at.now).now action
+    requires enabled { is_action_enabled at.now.input (state_of at.now) (state_of at.now).now action
         ≡ true }
     requires first { action ≡ actions.Xl →
-        is_enabled at.now.input (state_of at.now) (state_of at.now).now actions.Stall ≡ false }
+        is_action_enabled at.now.input (state_of at.now) (state_of at.now).now actions.Stall ≡ false }
     requires spares { AreSpares at.now.input t.0 tool.old.part spares.old }
-    requires no_pool { pool_of_event at.now.input.config.granularity (state_of at.now) action
+    requires no_pool { event_pool at.now.input.config.granularity (state_of at.now) action
         ≡ None }
     ensures event { result ≡ event_of at.now.input (state_of at.now) (state_of at.now).now action }
     ensures parts { AreParts (told_event at.now t.0 result) slots.new tool.new }

@@ -5,9 +5,9 @@ ghost use Rattle.std.specs.Option.{ForSome, IsSome};
 ghost use Rattle.sched_base.specs.Numbers.{pool as pool_number};
 ghost use Rattle.sched_model.specs.declared.config.ParamChange.TheVariants as changes;
 ghost use Rattle.sched_model.specs.declared.state.Pool.{Pool};
-ghost use Rattle.sched_model.specs.Commands.{pool_of_plan, set_rtds};
+ghost use Rattle.sched_model.specs.Commands.{plan_pool, pool_with_rtds};
 ghost use Rattle.sched_model.specs.Places.{numbers_from};
-ghost use Rattle.sched_model.specs.Pool.{set_leaving, set_moving, set_params, unpause as unpause_spec};
+ghost use Rattle.sched_model.specs.Pool.{pool_with_leaving, pool_with_moving, changed_pool, unpaused_pool};
 ghost use Rattle.pool_core.specs.Params.{AreGiven};
 ghost use Rattle.pool_core.specs.Seen.{IsNow};
 ghost use Rattle.machine_parts.specs.Places.{AllStand, GoesOn, SlotSuits, StandsAt, state_of};
@@ -22,7 +22,7 @@ use sched_model::plan::Plan;
 /// A core of the pool is leaving.
 fn remove(slot: &mut PoolSlot, r: ResId, t: Moment)
     requires now { ForSome slot.old (λ seen. IsNow seen t.0) }
-    ensures { slot.new ≡ changed_slot t.0 (λ seen. set_leaving r.0 seen.pool) slot.old }
+    ensures { slot.new ≡ changed_slot t.0 (λ seen. pool_with_leaving r.0 seen.pool) slot.old }
 {
     slot.set_leaving(r);
     slot.settle(t);
@@ -32,7 +32,7 @@ fn remove(slot: &mut PoolSlot, r: ResId, t: Moment)
 fn migrate(slot: &mut PoolSlot, d: DomId, from: PoolId, to: PoolId, t: Moment)
     requires now { ForSome slot.old (λ seen. IsNow seen t.0) }
     ensures { slot.new ≡ changed_slot t.0
-        (λ seen. (if from.0 == to.0 then seen.pool else set_moving d.0 to.0 seen.pool)) slot.old }
+        (λ seen. (if from.0 == to.0 then seen.pool else pool_with_moving d.0 to.0 seen.pool)) slot.old }
 {
     if from.0 == to.0 {
         slot.settle(t);
@@ -48,7 +48,7 @@ fn set_rate(slot: &mut PoolSlot, limit: Option<u32>, t: Moment)
         ForSome limit (λ us. TakesChange seen (changes.Rate us))) }
     ensures { slot.new ≡ changed_slot t.0
         (λ seen. elim limit as (λ _. Pool)
-        [ None ↦ seen.pool | Some us ↦ set_params (changes.Rate us) t.0 seen.pool ]) slot.old }
+        [ None ↦ seen.pool | Some us ↦ changed_pool (changes.Rate us) t.0 seen.pool ]) slot.old }
 {
     match limit {
         None => slot.settle(t),
@@ -63,7 +63,7 @@ fn set_units(slot: &mut PoolSlot, d: DomId, first: u8, count: u8, given: RtdsGiv
     requires takes { ForSome slot.old (λ seen.
         TakesUnits seen d.0 first count (AreGiven given.period given.budget)) }
     ensures { slot.new ≡ changed_slot t.0
-        (λ seen. set_rtds t.0 d.0 given.period given.budget given.extra (numbers_from first count)
+        (λ seen. pool_with_rtds t.0 d.0 given.period given.budget given.extra (numbers_from first count)
         seen.pool) slot.old }
 {
     slot.set_units(d, first, count, given, t);
@@ -74,7 +74,7 @@ fn unpause(slot: &mut PoolSlot, at: &Trail, d: DomId, t: Moment)
     requires now { ForSome slot.old (λ seen. IsNow seen t.0) }
     requires suits { ForSome slot.old (SlotSuits at.now.input (state_of at.now).now) }
     ensures { slot.new ≡ changed_slot t.0
-        (λ seen. unpause_spec at.now.input.config.granularity d.0 seen.pool) slot.old }
+        (λ seen. unpaused_pool at.now.input.config.granularity d.0 seen.pool) slot.old }
 {
     slot.unpause(d, t);
 }
@@ -140,7 +140,7 @@ fn carry_kept(slot: &mut PoolSlot, at: &Trail, i: u8, plan: Plan, t: Moment)
     requires now { t.0 ≡ (state_of at.now).now }
     requires stands { StandsAt at.now i slot.old }
     requires accepted { IsAccepted at.now plan }
-    requires home { pool_of_plan (state_of at.now) plan ≡ Some i }
+    requires home { plan_pool (state_of at.now) plan ≡ Some i }
     requires keeps { KeepsPools plan }
     ensures { slot.new ≡ carried_slot at.now.input t.0 plan slot.old }
 {
@@ -160,7 +160,7 @@ pub(crate) fn carry_among(
     requires now { t.0 ≡ (state_of at.now).now }
     requires stand { AllStand at.now slots.old }
     requires accepted { IsAccepted at.now plan }
-    requires home { home ≡ option_map pool_number (pool_of_plan (state_of at.now) plan) }
+    requires home { home ≡ option_map pool_number (plan_pool (state_of at.now) plan) }
     requires keeps { KeepsPools plan }
     ensures some { ForSome home (λ i. HasCarried at.now t.0 plan i.0 slots.old slots.new) }
     ensures none { home ≡ None → slots.new ≡ slots.old }

@@ -4,10 +4,10 @@ ghost use Rattle.std.specs.Prelude.{◌≡◌, None, true, false, option_map, su
 ghost use Rattle.std.specs.Option.{ForSome, IsSome};
 ghost use Rattle.sched_base.specs.Numbers.{pool as pool_number};
 ghost use Rattle.sched_model.specs.declared.action.Action.TheVariants.{Stall, Xl};
-ghost use Rattle.sched_model.specs.Commands.{pool_of_plan};
-ghost use Rattle.sched_model.specs.Machine.{event_of, is_enabled};
+ghost use Rattle.sched_model.specs.Commands.{plan_pool};
+ghost use Rattle.sched_model.specs.Machine.{event_of, is_action_enabled};
 ghost use Rattle.sched_model.specs.Places.{at_place};
-ghost use Rattle.sched_model.specs.Policy.{kind_of as kind_of_spec};
+ghost use Rattle.sched_model.specs.Policy.{records_kind};
 ghost use Rattle.cpupool.specs.Tool.{tool_of};
 ghost use Rattle.machine_parts.specs.Counts.{AreSpares};
 ghost use Rattle.machine_parts.specs.Places.{state_of};
@@ -31,7 +31,7 @@ use sched_model::plan::Plan;
 /// The pool whose cores are looked at after the command: the one that it names, or the home of the domain that it names.
 fn home_of_plan(tool: &ToolState, at: &Trail, plan: &Plan) -> Option<PoolId>
     requires known { tool_of at.now.input (state_of at.now) ≡ tool.now }
-    ensures { result ≡ option_map pool_number (pool_of_plan (state_of at.now) plan.now) }
+    ensures { result ≡ option_map pool_number (plan_pool (state_of at.now) plan.now) }
 {
     match plan {
         Plan::PoolList { pool, .. } => *pool,
@@ -56,7 +56,7 @@ fn kind_of(slots: &[PoolSlot], tool: &ToolState, at: &Trail, i: PoolId) -> Sched
     requires parts { AreParts at.now slots.now tool.now }
     requires there { IsSome (at_place (state_of at.now).pools i.0) }
     ensures { ForSome (at_place (state_of at.now).pools i.0)
-        (λ pool. result ≡ kind_of_spec pool.scheduler.records) }
+        (λ pool. result ≡ records_kind pool.scheduler.records) }
 {
     let list = Command::PoolList {
         pool: Some(Which::Number(u64::from(i.0))),
@@ -83,7 +83,7 @@ fn accept_new(
     kind: SchedKind,
 )
     requires parts { AreParts at.now slots.old tool.old }
-    requires enabled { is_enabled at.now.input (state_of at.now) (state_of at.now).now Xl ≡ true }
+    requires enabled { is_action_enabled at.now.input (state_of at.now) (state_of at.now).now Xl ≡ true }
     requires accepted { IsAccepted at.now plan.now }
     requires makes { MakesPool plan.now i kind }
     requires spares { AreSpares at.now.input (state_of at.now).now tool.old.part spares.old }
@@ -104,7 +104,7 @@ fn accept_end(
     i: PoolId,
 )
     requires parts { AreParts at.now slots.old tool.old }
-    requires enabled { is_enabled at.now.input (state_of at.now) (state_of at.now).now Xl ≡ true }
+    requires enabled { is_action_enabled at.now.input (state_of at.now) (state_of at.now).now Xl ≡ true }
     requires accepted { IsAccepted at.now plan.now }
     requires destroys { DestroysPool plan.now i }
     requires spares { AreSpares at.now.input (state_of at.now).now tool.old.part spares.old }
@@ -120,7 +120,7 @@ fn accept_end(
 fn accept_change(slots: &mut [PoolSlot], tool: &mut ToolState, at: &Trail, plan: Plan, t: Moment)
     requires parts { AreParts at.now slots.old tool.old }
     requires now { t.0 ≡ (state_of at.now).now }
-    requires enabled { is_enabled at.now.input (state_of at.now) (state_of at.now).now Xl ≡ true }
+    requires enabled { is_action_enabled at.now.input (state_of at.now) (state_of at.now).now Xl ≡ true }
     requires accepted { IsAccepted at.now plan }
     requires keeps { KeepsPools plan }
     ensures parts { AreParts (xl_told at.now) slots.new tool.new }
@@ -143,7 +143,7 @@ fn accept(
 )
     requires parts { AreParts at.now slots.old tool.old }
     requires now { t.0 ≡ (state_of at.now).now }
-    requires enabled { is_enabled at.now.input (state_of at.now) (state_of at.now).now Xl ≡ true }
+    requires enabled { is_action_enabled at.now.input (state_of at.now) (state_of at.now).now Xl ≡ true }
     requires accepted { IsAccepted at.now plan }
     requires spares { AreSpares at.now.input (state_of at.now).now tool.old.part spares.old }
     ensures parts { AreParts (xl_told at.now) slots.new tool.new }
@@ -170,7 +170,7 @@ pub fn command_at(
 ) -> Event
     requires parts { AreParts at.now slots.old tool.old }
     requires now { t.0 ≡ (state_of at.now).now }
-    requires enabled { is_enabled at.now.input (state_of at.now) (state_of at.now).now Xl ≡ true }
+    requires enabled { is_action_enabled at.now.input (state_of at.now) (state_of at.now).now Xl ≡ true }
     requires number { k ≡ (state_of at.now).next_command }
     requires spares { AreSpares at.now.input t.0 tool.old.part spares.old }
     ensures event { result ≡ event_of at.now.input (state_of at.now) (state_of at.now).now Xl }
@@ -206,8 +206,8 @@ pub fn command(
 ) -> Event
     requires parts { AreParts at.now slots.old tool.old }
     requires now { t.0 ≡ (state_of at.now).now }
-    requires enabled { is_enabled at.now.input (state_of at.now) (state_of at.now).now Xl ≡ true }
-    requires first { is_enabled at.now.input (state_of at.now) (state_of at.now).now Stall ≡ false }
+    requires enabled { is_action_enabled at.now.input (state_of at.now) (state_of at.now).now Xl ≡ true }
+    requires first { is_action_enabled at.now.input (state_of at.now) (state_of at.now).now Stall ≡ false }
     requires spares { AreSpares at.now.input t.0 tool.old.part spares.old }
     ensures event { result ≡ event_of at.now.input (state_of at.now) (state_of at.now).now Xl }
     ensures parts { AreParts (told_event at.now t.0 result) slots.new tool.new }

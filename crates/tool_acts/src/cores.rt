@@ -2,8 +2,8 @@
 
 ghost use Rattle.std.specs.Prelude.{◌≡◌, None, Some, true};
 ghost use Rattle.sched_model.specs.declared.action.Action.TheVariants.{Moved};
-ghost use Rattle.sched_model.specs.Actions.{home_of_core};
-ghost use Rattle.sched_model.specs.Machine.{event_of, is_enabled};
+ghost use Rattle.sched_model.specs.Actions.{home_pool_of_core};
+ghost use Rattle.sched_model.specs.Machine.{event_of, is_action_enabled};
 ghost use Rattle.journal_core.specs.Parts.{core_to};
 ghost use Rattle.machine_parts.specs.Counts.{KeepsCounts};
 ghost use Rattle.machine_parts.specs.Places.{StandsAt, state_of};
@@ -50,7 +50,7 @@ fn leave_core(
 ) -> Event
     requires begins { Begins at.now tool.old t.0 (Moved r) }
     requires way { tool.old.part.under_way ≡ Some (core_to r.0 None) }
-    requires home { home_of_core (state_of at.now) r.0 ≡ Some i.0 }
+    requires home { home_pool_of_core (state_of at.now) r.0 ≡ Some i.0 }
     requires stands { StandsAt at.now i.0 slot.old }
     ensures event { result ≡ event_of at.now.input (state_of at.now) (state_of at.now).now
         (Moved r) }
@@ -75,7 +75,7 @@ pub fn move_core(
 ) -> Event
     requires parts { AreParts at.now slots.old tool.old }
     requires now { t.0 ≡ (state_of at.now).now }
-    requires enabled { is_enabled at.now.input (state_of at.now) (state_of at.now).now (Moved r)
+    requires enabled { is_action_enabled at.now.input (state_of at.now) (state_of at.now).now (Moved r)
         ≡ true }
     ensures event { result ≡ event_of at.now.input (state_of at.now) (state_of at.now).now
         (Moved r) }
@@ -107,7 +107,7 @@ fn leave_home(
 ) -> Event
     requires parts { AreParts at.now slots.old tool.old }
     requires now { t.0 ≡ (state_of at.now).now }
-    requires enabled { is_enabled at.now.input (state_of at.now) (state_of at.now).now (Moved r)
+    requires enabled { is_action_enabled at.now.input (state_of at.now) (state_of at.now).now (Moved r)
         ≡ true }
     requires way { tool.old.part.under_way ≡ Some (core_to r.0 None) }
     ensures event { result ≡ event_of at.now.input (state_of at.now) (state_of at.now).now

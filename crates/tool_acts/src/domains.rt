@@ -4,9 +4,9 @@ ghost use Rattle.std.specs.Prelude.{◌≡◌, ◌≤◌, ℕ, Some, true};
 ghost use Rattle.std.specs.Option.{ForSome, IsSome};
 ghost use Rattle.sched_model.specs.declared.action.Action.TheVariants.{DomMoved};
 ghost use Rattle.sched_model.specs.declared.state.Records.{Records};
-ghost use Rattle.sched_model.specs.Machine.{event_of, is_enabled, is_null as is_null_spec};
+ghost use Rattle.sched_model.specs.Machine.{event_of, is_action_enabled, is_null_pool};
 ghost use Rattle.sched_model.specs.Places.{at_place};
-ghost use Rattle.sched_model.specs.Policy.{default_dom_params as default_dom_params_spec, kind_of};
+ghost use Rattle.sched_model.specs.Policy.{standard_dom_params, records_kind};
 ghost use Rattle.sched_ops.specs.Conditions.{AreDomParams};
 ghost use Rattle.unit_state.specs.Seen.{units_at};
 ghost use Rattle.pool_core.specs.Seen.{IsNow};
@@ -36,8 +36,8 @@ pub struct DomainRoute {
 
 /// The parameters with which a domain joins a pool of this scheduler.
 fn default_dom_params(kind: SchedKind) -> DomParams
-    ensures default { (records : Records) → kind_of records ≡ kind → result
-        ≡ default_dom_params_spec records }
+    ensures default { (records : Records) → records_kind records ≡ kind → result
+        ≡ standard_dom_params records }
     ensures fit { AreDomParams kind result }
 {
     match kind {
@@ -60,7 +60,7 @@ fn is_null(slot: &PoolSlot, d: DomId) -> bool
     requires some { IsSome slot.now }
     requires units { ForSome slot.now (λ seen. 1
         ≤ units_at seen.granularity (at_place seen.pool.domains d.0)) }
-    ensures { ForSome slot.now (λ seen. result ≡ is_null_spec seen.pool.scheduler.records) }
+    ensures { ForSome slot.now (λ seen. result ≡ is_null_pool seen.pool.scheduler.records) }
 {
     let facts = slot.facts(Some(d));
     matches!(facts.units.as_slice()[0], Stored::Null)
@@ -143,7 +143,7 @@ pub fn move_domain(
 ) -> Event
     requires parts { AreParts at.now slots.old tool.old }
     requires now { t.0 ≡ (state_of at.now).now }
-    requires enabled { is_enabled at.now.input (state_of at.now) (state_of at.now).now (DomMoved d)
+    requires enabled { is_action_enabled at.now.input (state_of at.now) (state_of at.now).now (DomMoved d)
         ≡ true }
     ensures event { result ≡ event_of at.now.input (state_of at.now) (state_of at.now).now
         (DomMoved d) }

@@ -2,7 +2,7 @@
 
 ghost use Rattle.std.specs.Prelude.{◌≡◌, None, Some, true};
 ghost use Rattle.sched_model.specs.declared.action.Action.TheVariants.{Stall};
-ghost use Rattle.sched_model.specs.Machine.{event_of, is_enabled};
+ghost use Rattle.sched_model.specs.Machine.{event_of, is_action_enabled};
 ghost use Rattle.cpupool.specs.Tool.{Tool, tool_of};
 ghost use Rattle.machine_parts.specs.Counts.{KeepsCounts};
 ghost use Rattle.machine_parts.specs.Places.{StandsAt, state_of};
@@ -48,7 +48,7 @@ pub fn stall(slots: &mut [PoolSlot], tool: &mut ToolState, at: &Trail, g: u8, t:
     requires parts { AreParts at.now slots.old tool.old }
     requires granularity { g ≡ at.now.input.config.granularity }
     requires now { t.0 ≡ (state_of at.now).now }
-    requires enabled { is_enabled at.now.input (state_of at.now) (state_of at.now).now Stall
+    requires enabled { is_action_enabled at.now.input (state_of at.now) (state_of at.now).now Stall
         ≡ true }
     ensures event { result ≡ event_of at.now.input (state_of at.now) (state_of at.now).now Stall }
     ensures parts { AreParts (told_event at.now t.0 result) slots.new tool.new }

@@ -2,9 +2,9 @@
 
 ghost use Rattle.std.specs.Prelude.{◌≡◌, [], Some, slice_get};
 ghost use Rattle.sched_model.specs.CheckedMachine.{IsCheckedCommand};
-ghost use Rattle.sched_model.specs.Commands.{judge};
-ghost use Rattle.sched_model.specs.Machine.{verdict};
-ghost use Rattle.cpupool.specs.Facts.{rate_at, stored_at};
+ghost use Rattle.sched_model.specs.Commands.{judged_command};
+ghost use Rattle.sched_model.specs.Machine.{line_verdict};
+ghost use Rattle.cpupool.specs.Facts.{subject_rate, subject_stored};
 ghost use Rattle.machine_parts.specs.Places.{AllStand, GoesOn, state_of};
 ghost use Rattle.machine_parts.specs.Parts.{AreParts};
 
@@ -32,8 +32,8 @@ fn no_facts() -> Facts
 fn facts_of(slots: &[PoolSlot], at: &Trail, subject: Subject) -> Facts
     requires goes { GoesOn at.now }
     requires stand { AllStand at.now slots.now }
-    ensures rate { result.rate ≡ rate_at (state_of at.now) subject }
-    ensures units { result.units ≡ stored_at at.now.input.config.granularity (state_of at.now)
+    ensures rate { result.rate ≡ subject_rate (state_of at.now) subject }
+    ensures units { result.units ≡ subject_stored at.now.input.config.granularity (state_of at.now)
         subject }
 {
     let Some(pool) = subject.pool else {
@@ -56,7 +56,7 @@ pub(crate) fn judged(
 ) -> Result<Plan, Refusal>
     requires parts { AreParts at.now slots.now tool.now }
     requires command { IsCheckedCommand c.now }
-    ensures { result ≡ judge at.now.input (state_of at.now) c.now }
+    ensures { result ≡ judged_command at.now.input (state_of at.now) c.now }
 {
     let facts = facts_of(slots, at, tool.subject(c));
     tool.judge(c, &facts)
@@ -72,7 +72,7 @@ pub(crate) fn verdict_of(
     requires parts { AreParts at.now slots.now tool.now }
     requires next { slice_get at.now.input.work.commands (state_of at.now).next_command
         ≡ Some line.now }
-    ensures { result ≡ verdict at.now.input (state_of at.now) line.now }
+    ensures { result ≡ line_verdict at.now.input (state_of at.now) line.now }
 {
     match &line.command {
         Err(fault) => Err(Refusal::Syntax {

@@ -3,16 +3,16 @@ use Rattle.std.specs.Prelude.{ℕ, ◌+◌, ◌*◌, ◌&&◌, Bool, Option, Som
 use Rattle.sched_base.specs.declared.UnitId.{UnitId}
 
 -- whether the unit has a place
-abbrev pub has_place : UnitId → Bool
-has_place u = nat_lt u.dom.0 64 && nat_lt u.n 32
+abbrev pub has_unit_place : UnitId → Bool
+has_unit_place u = nat_lt u.dom.0 64 && nat_lt u.n 32
 
 -- the number of the place of a unit that has one
-abbrev pub index_of : UnitId → ℕ
-index_of u = u.dom.0 * 32 + u.n
+abbrev pub unit_index : UnitId → ℕ
+unit_index u = u.dom.0 * 32 + u.n
 
 -- the number of its place, where it has one
-abbrev pub place_of : UnitId → Option ℕ
-place_of u = (if has_place u then Some (index_of u) else None)
+abbrev pub unit_place_number : UnitId → Option ℕ
+unit_place_number u = (if has_unit_place u then Some (unit_index u) else None)
 
 -- the number of a unit; two units of one number are the same
 abbrev pub number_of : UnitId → ℕ

@@ -42,7 +42,7 @@ impl Masks {
     ghost use Rattle.sched_base.specs.declared.UnitId.{UnitId as Unit};
     ghost use Rattle.sched_base.specs.CoreSets.{every_core};
     ghost use Rattle.sched_base.specs.Units.{same_unit};
-    ghost use Rattle.unit_places.specs.Places.{has_place};
+    ghost use Rattle.unit_places.specs.Places.{has_unit_place};
     ghost use Rattle.unit_places.specs.Masks.{mask_of};
 
     /// All units with all cores.
@@ -55,7 +55,7 @@ impl Masks {
 
     /// Gives a unit that has a place another set of cores. All others keep theirs.
     pub fn set(&mut self, u: UnitId, cores: Cores)
-        requires { has_place u ≡ true }
+        requires { has_unit_place u ≡ true }
         ensures mask { mask_of self.new u ≡ cores }
         ensures others { (w : Unit) → same_unit w u ≡ false → mask_of self.new w
             ≡ mask_of self.old w }

@@ -16,15 +16,15 @@ pub const PLACES: usize = 2048;
 
 /// Whether the unit has a place: its domain is one of 64, and it one of the domain's 32.
 pub fn has_place(u: UnitId) -> bool
-    ensures { result ≡ spec.has_place u }
+    ensures { result ≡ spec.has_unit_place u }
 {
     u.dom.0 < DOMAINS && u.n < UNITS_OF_DOMAIN
 }
 
 /// The number of the place of a unit that has one. No other unit has it.
 pub fn index_of(u: UnitId) -> usize
-    requires { spec.has_place u ≡ true }
-    ensures index { result ≡ spec.index_of u }
+    requires { spec.has_unit_place u ≡ true }
+    ensures index { result ≡ spec.unit_index u }
     ensures below { result < 2048 }
 {
     u.dom.0 as usize * UNITS_OF_DOMAIN as usize + u.n as usize
@@ -32,7 +32,7 @@ pub fn index_of(u: UnitId) -> usize
 
 /// The number of the unit's place, or `None` exactly where it has none.
 pub fn place_of(u: UnitId) -> Option<usize>
-    ensures place { result ≡ spec.place_of u }
+    ensures place { result ≡ spec.unit_place_number u }
     ensures below { IfSome result (λ i. i < 2048) }
 {
     if has_place(u) {

@@ -11,7 +11,7 @@ use Rattle.core.specs.Mem.Slots.{slots_items, IsFull, SamePlaces}
 use Rattle.unit_ring.specs.Chains.{link, after_without, before_without, after_with, before_with}
 use Rattle.unit_ring.specs.declared.nodes.Address.{Address}
 use Rattle.unit_ring.specs.declared.nodes.NodeRecord.{NodeRecord}
-use Rattle.unit_ring.specs.Nodes.{place, number_at, blank_node, node_at, with_after, with_before, links_of, first_node, IsLinked, IsRow}
+use Rattle.unit_ring.specs.Nodes.{place, number_at, empty_node, numbered_node, with_after, with_before, links_of, first_node, IsLinked, IsRow}
 
 pub map-set : {X Y : Type 0} (f : X → Y) (xs : List X) (k : ℕ) (v : X) → map f (set xs k v) ≡ set (map f xs) k (f v)
 map-set f [] k v = refl
@@ -24,12 +24,12 @@ map-get f (x ∷ xs) zero d = refl
 map-get f (x ∷ xs) (suc k) d = map-get f xs k d
 
 -- what another link leaves alone
-kept : {Y : Type 0} (f : NodeRecord → Y) (xs : List NodeRecord) (k : ℕ) (v : NodeRecord) → f v ≡ f (node_at xs k) → map f (set xs k v) ≡ map f xs
-kept f xs k v same = map-set f xs k v ∙ ap (set (map f xs) k) (same ∙ sym (map-get f xs k blank_node)) ∙ set-get_or (map f xs) k (f blank_node)
+kept : {Y : Type 0} (f : NodeRecord → Y) (xs : List NodeRecord) (k : ℕ) (v : NodeRecord) → f v ≡ f (numbered_node xs k) → map f (set xs k v) ≡ map f xs
+kept f xs k v same = map-set f xs k v ∙ ap (set (map f xs) k) (same ∙ sym (map-get f xs k empty_node)) ∙ set-get_or (map f xs) k (f empty_node)
 
-kept-at : {Y : Type 0} (f : NodeRecord → Y) (xs : List NodeRecord) (k m : ℕ) (v : NodeRecord) → f v ≡ f (node_at xs k) → f (node_at (set xs k v) m) ≡ f (node_at xs m)
+kept-at : {Y : Type 0} (f : NodeRecord → Y) (xs : List NodeRecord) (k m : ℕ) (v : NodeRecord) → f v ≡ f (numbered_node xs k) → f (numbered_node (set xs k v) m) ≡ f (numbered_node xs m)
 kept-at {Y = Y} f xs k m v same =
-    sym (map-get f (set xs k v) m blank_node) ∙ ap (λ (ys : List Y). get_or ys m (f blank_node)) (kept f xs k v same) ∙ map-get f xs m blank_node
+    sym (map-get f (set xs k v) m empty_node) ∙ ap (λ (ys : List Y). get_or ys m (f empty_node)) (kept f xs k v same) ∙ map-get f xs m empty_node
 
 -- the number of a place
 pub number-place : (base : Address) (j : ℕ) → InBlock base.ptr → number_at base (place base j) ≡ j
@@ -44,29 +44,29 @@ number-place base j block =
 module _ (base : Address) (block : InBlock base.ptr) (xs : List NodeRecord) (k j : ℕ) where
   pub after-written : (links_of base (with_after xs k (place base j))).after ≡ set (links_of base xs).after k j
   after-written =
-      map-set (λ (x : NodeRecord). number_at base x.after) xs k (record (node_at xs k) { after = place base j })
+      map-set (λ (x : NodeRecord). number_at base x.after) xs k (record (numbered_node xs k) { after = place base j })
       ∙ ap (set (links_of base xs).after k) (number-place base j block)
 
   pub after-keeps_before : (links_of base (with_after xs k (place base j))).before ≡ (links_of base xs).before
-  after-keeps_before = kept (λ (x : NodeRecord). number_at base x.before) xs k (record (node_at xs k) { after = place base j }) refl
+  after-keeps_before = kept (λ (x : NodeRecord). number_at base x.before) xs k (record (numbered_node xs k) { after = place base j }) refl
 
   pub after-keeps_units : (links_of base (with_after xs k (place base j))).units ≡ (links_of base xs).units
-  after-keeps_units = kept (λ (x : NodeRecord). x.unit) xs k (record (node_at xs k) { after = place base j }) refl
+  after-keeps_units = kept (λ (x : NodeRecord). x.unit) xs k (record (numbered_node xs k) { after = place base j }) refl
 
   pub before-written : (links_of base (with_before xs k (place base j))).before ≡ set (links_of base xs).before k j
   before-written =
-      map-set (λ (x : NodeRecord). number_at base x.before) xs k (record (node_at xs k) { before = place base j })
+      map-set (λ (x : NodeRecord). number_at base x.before) xs k (record (numbered_node xs k) { before = place base j })
       ∙ ap (set (links_of base xs).before k) (number-place base j block)
 
   pub before-keeps_after : (links_of base (with_before xs k (place base j))).after ≡ (links_of base xs).after
-  before-keeps_after = kept (λ (x : NodeRecord). number_at base x.after) xs k (record (node_at xs k) { before = place base j }) refl
+  before-keeps_after = kept (λ (x : NodeRecord). number_at base x.after) xs k (record (numbered_node xs k) { before = place base j }) refl
 
   pub before-keeps_units : (links_of base (with_before xs k (place base j))).units ≡ (links_of base xs).units
-  before-keeps_units = kept (λ (x : NodeRecord). x.unit) xs k (record (node_at xs k) { before = place base j }) refl
+  before-keeps_units = kept (λ (x : NodeRecord). x.unit) xs k (record (numbered_node xs k) { before = place base j }) refl
 
   -- what is written is where the node leads
-  leads : (f : NodeRecord → Address) (v : NodeRecord) → f v ≡ place base j → ((m : ℕ) → m < length xs → f (node_at xs m) ≡ place base (link (map (λ x. number_at base (f x)) xs) m))
-      → (m : ℕ) → m < length xs → f (node_at (set xs k v) m) ≡ place base (link (set (map (λ x. number_at base (f x)) xs) k j) m)
+  leads : (f : NodeRecord → Address) (v : NodeRecord) → f v ≡ place base j → ((m : ℕ) → m < length xs → f (numbered_node xs m) ≡ place base (link (map (λ x. number_at base (f x)) xs) m))
+      → (m : ℕ) → m < length xs → f (numbered_node (set xs k v) m) ≡ place base (link (set (map (λ x. number_at base (f x)) xs) k j) m)
   leads f v is was m low =
       let fs : List ℕ = map (λ x. number_at base (f x)) xs in
       let long : length fs ≡ length xs = length-map xs (λ x. number_at base (f x)) in
@@ -74,19 +74,19 @@ module _ (base : Address) (block : InBlock base.ptr) (xs : List NodeRecord) (k j
         | inl same ↦
             let here : k < length xs = omega (arith, same, low) in
             let there : k < length fs = omega (arith, here, long) in
-            ap (λ (i : ℕ). f (node_at (set xs k v) i)) same
-            ∙ ap f (get_or-set_same xs k v blank_node here)
+            ap (λ (i : ℕ). f (numbered_node (set xs k v) i)) same
+            ∙ ap f (get_or-set_same xs k v empty_node here)
             ∙ is
             ∙ sym (ap (place base) (ap (λ (i : ℕ). link (set fs k j) i) same ∙ get_or-set_same fs k j 0 there))
         | inr other ↦
-            ap f (get_or-set_other xs k m v blank_node other)
+            ap f (get_or-set_other xs k m v empty_node other)
             ∙ was m low
             ∙ sym (ap (place base) (get_or-set_other fs k m j 0 other))
       ]
 
   pub linked-after : IsLinked base xs → IsLinked base (with_after xs k (place base j))
   linked-after linked =
-      let v : NodeRecord = record (node_at xs k) { after = place base j } in
+      let v : NodeRecord = record (numbered_node xs k) { after = place base j } in
       let long : length (set xs k v) ≡ length xs = length-set xs k v in
       record {
         after = λ m low.
@@ -98,7 +98,7 @@ module _ (base : Address) (block : InBlock base.ptr) (xs : List NodeRecord) (k j
 
   pub linked-before : IsLinked base xs → IsLinked base (with_before xs k (place base j))
   linked-before linked =
-      let v : NodeRecord = record (node_at xs k) { before = place base j } in
+      let v : NodeRecord = record (numbered_node xs k) { before = place base j } in
       let long : length (set xs k v) ≡ length xs = length-set xs k v in
       record {
         after = λ m low.
@@ -186,11 +186,11 @@ inserted row new base at n last is last_is e same full =
     subst (λ (p : ℕ). Seen new base (set (set f p n) n at) (set (set g n p) at n) us) last_is made
 
 -- a node read, as the node of its number
-pub read_node : (xs : List NodeRecord) (n : ℕ) (x : NodeRecord) → n < length xs → x ≡ get_or xs n x → x ≡ node_at xs n
-read_node xs n x low e = e ∙ get_or_default xs n x blank_node low
+pub read_node : (xs : List NodeRecord) (n : ℕ) (x : NodeRecord) → n < length xs → x ≡ get_or xs n x → x ≡ numbered_node xs n
+read_node xs n x low e = e ∙ get_or_default xs n x empty_node low
 
 -- the nodes with another unit of one
-module _ (base : Address) (xs : List NodeRecord) (n : ℕ) (x : NodeRecord) (u : UnitId) (is : x ≡ node_at xs n) where
+module _ (base : Address) (xs : List NodeRecord) (n : ℕ) (x : NodeRecord) (u : UnitId) (is : x ≡ numbered_node xs n) where
   abbrev v : NodeRecord
   v = record { after = x.after; before = x.before; unit = u; number = x.number }
 
@@ -204,15 +204,15 @@ module _ (base : Address) (xs : List NodeRecord) (n : ℕ) (x : NodeRecord) (u :
   unit-written = map-set (λ (y : NodeRecord). y.unit) xs n v
 
 -- nodes that all lead to the base lead to number 0
-module _ (base : Address) (xs : List NodeRecord) (block : InBlock base.ptr) (first : (k : ℕ) → k < length xs → node_at xs k ≡ first_node base k) where
+module _ (base : Address) (xs : List NodeRecord) (block : InBlock base.ptr) (first : (k : ℕ) → k < length xs → numbered_node xs k ≡ first_node base k) where
   zero_at : (f : NodeRecord → Address) → ((k : ℕ) → f (first_node base k) ≡ base) → (k : ℕ) → k < length xs → link (map (λ x. number_at base (f x)) xs) k ≡ 0
   zero_at f is k low =
       let fs : List ℕ = map (λ x. number_at base (f x)) xs in
       let long : length fs ≡ length xs = length-map xs (λ x. number_at base (f x)) in
       let there : k < length fs = omega (arith, low, long) in
       let none : number_at base base ≡ 0 = let gone : count_of base.ptr - count_of base.ptr ≡ 0 = omega arith in ap (λ (n : ℕ). n / 24) gone in
-      get_or_default fs k 0 (number_at base (f blank_node)) there
-      ∙ map-get (λ (x : NodeRecord). number_at base (f x)) xs k blank_node
+      get_or_default fs k 0 (number_at base (f empty_node)) there
+      ∙ map-get (λ (x : NodeRecord). number_at base (f x)) xs k empty_node
       ∙ ap (λ (x : NodeRecord). number_at base (f x)) (first k low)
       ∙ ap (number_at base) (is k)
       ∙ none

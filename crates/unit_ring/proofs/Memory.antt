@@ -10,7 +10,7 @@ use Rattle.core.specs.Mem.Slots.Ownership.{bytes_of, slots, slot_lent, slots_len
 use Rattle.unit_ring.specs.declared.nodes.NodeRecord.{NodeRecord}
 use Rattle.unit_ring.specs.contracts.nodes.NodeRecord.{the_row as Node}
 use Rattle.unit_ring.proofs.nodes.NodeRecord.TheLaws.{the_row_laws, the_row_copy, the_row_plain, lowers, lowered}
-use Rattle.unit_ring.specs.Nodes.{node_at, blank_node}
+use Rattle.unit_ring.specs.Nodes.{numbered_node, empty_node}
 use Rattle.unit_ring.specs.declared.nodes.Address.{Address}
 use Rattle.unit_ring.specs.contracts.nodes.Address.{the_row as Place}
 use Rattle.unit_ring.proofs.nodes.Address.TheLaws as address
@@ -55,11 +55,11 @@ module _ {M : Type 1} {𝓤 : Ura M} (𝓛 : Logic 𝓤) (b o : ℕ) (xs : List 
   Cell x = fat full_share (lone Node.mir) b (i * 24 + o) (lowered x)
 
   pub cell_out : ent 𝓤 (sem 𝓛 (slots Node (block_ptr b o) xs fs))
-      (sep 𝓤 (sem 𝓛 (Cell (node_at xs i))) (sep 𝓤 (sem 𝓛 (Node.own_val (node_at xs i) (lowered (node_at xs i) ∷ []))) (sem 𝓛 (besides E b o xs fs i))))
+      (sep 𝓤 (sem 𝓛 (Cell (numbered_node xs i))) (sep 𝓤 (sem 𝓛 (Node.own_val (numbered_node xs i) (lowered (numbered_node xs i) ∷ []))) (sem 𝓛 (besides E b o xs fs i))))
   cell_out =
-      let x : NodeRecord = node_at xs i in
+      let x : NodeRecord = numbered_node xs i in
       qed 𝓛 (‵ (slots Node (block_ptr b o) xs fs) ∷ []) ∵
-      use1 𝓛 (‵ (part_at Node full_share x b (i * 24 + o)) ⊛ ‵ (besides E b o xs fs i)) (item_out E 𝓛 b o xs fs i l m blank_node held) $ split ! $
+      use1 𝓛 (‵ (part_at Node full_share x b (i * 24 + o)) ⊛ ‵ (besides E b o xs fs i)) (item_out E 𝓛 b o xs fs i l m empty_node held) $ split ! $
       use1 𝓛 (some (λ (v : Val). ‵ (fat full_share (lone Node.mir) b (i * 24 + o) v) ⊛ ‵ (Node.own_val x (v ∷ [])))) (part_out 𝓛 Node refl full_share x b (i * 24 + o)) $ pick ! (λ v. split ! $
       move ! (1 ∷ []) $ peeks ! Node (Is Node) (shows 𝓛 Node) x (v ∷ []) (λ p.
       let is : v ≡ lowered x = ap only (lowers.val_is x (v ∷ []) p) in
@@ -112,10 +112,10 @@ module _ {M : Type 1} {𝓤 : Ura M} {𝓛 : Logic 𝓤} {K : Type 0} {Γ : List
 -- a node is put back with other links
 module _ {M : Type 1} {𝓤 : Ura M} (𝓛 : Logic 𝓤) (b o : ℕ) (xs : List NodeRecord) (fs : List Bool) (i : ℕ) (l : i < length xs) (m : i < length fs) (held : get_or fs i false ≡ true) where
   pub cell_back : (a c : Address)
-      → ent 𝓤 (sep 𝓤 (sem 𝓛 (Cell 𝓛 b o xs fs i l m held (record (node_at xs i) { after = a; before = c })))
-      (sep 𝓤 (sem 𝓛 (Node.own_val (node_at xs i) (lowered (node_at xs i) ∷ []))) (sem 𝓛 (besides E b o xs fs i))))
-      (sem 𝓛 (slots Node (block_ptr b o) (set xs i (record (node_at xs i) { after = a; before = c })) fs))
+      → ent 𝓤 (sep 𝓤 (sem 𝓛 (Cell 𝓛 b o xs fs i l m held (record (numbered_node xs i) { after = a; before = c })))
+      (sep 𝓤 (sem 𝓛 (Node.own_val (numbered_node xs i) (lowered (numbered_node xs i) ∷ []))) (sem 𝓛 (besides E b o xs fs i))))
+      (sem 𝓛 (slots Node (block_ptr b o) (set xs i (record (numbered_node xs i) { after = a; before = c })) fs))
   cell_back a c =
-      let x : NodeRecord = node_at xs i in let y : NodeRecord = record x { after = a; before = c } in
+      let x : NodeRecord = numbered_node xs i in let y : NodeRecord = record x { after = a; before = c } in
       qed 𝓛 (‵ (Cell 𝓛 b o xs fs i l m held y) ∷ ‵ (Node.own_val x (lowered x ∷ [])) ∷ ‵ (besides E b o xs fs i) ∷ []) ∵
       move ! (1 ∷ []) $ relinked ! x a c $ move ! (1 ∷ 0 ∷ []) $ by ! (cell_in 𝓛 b o xs fs i l m held y)

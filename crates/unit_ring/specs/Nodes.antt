@@ -18,19 +18,19 @@ abbrev pub number_at : Address → Address → ℕ
 number_at base a = (count_of a.ptr - count_of base.ptr) / 24
 
 -- a node that leads nowhere
-abbrev pub blank_node : NodeRecord
-blank_node = record { after = record { ptr = null_ptr }; before = record { ptr = null_ptr }; unit = no_unit; number = 0 }
+abbrev pub empty_node : NodeRecord
+empty_node = record { after = record { ptr = null_ptr }; before = record { ptr = null_ptr }; unit = no_unit; number = 0 }
 
 -- the node of a number
-abbrev pub node_at : List NodeRecord → ℕ → NodeRecord
-node_at nodes k = slice_index_or nodes k blank_node
+abbrev pub numbered_node : List NodeRecord → ℕ → NodeRecord
+numbered_node nodes k = slice_index_or nodes k empty_node
 
 -- the nodes with another link of one, to the node after it or to the one before it
 abbrev pub with_after : List NodeRecord → ℕ → Address → List NodeRecord
-with_after nodes k to = slice_set nodes k (record (node_at nodes k) { after = to })
+with_after nodes k to = slice_set nodes k (record (numbered_node nodes k) { after = to })
 
 abbrev pub with_before : List NodeRecord → ℕ → Address → List NodeRecord
-with_before nodes k to = slice_set nodes k (record (node_at nodes k) { before = to })
+with_before nodes k to = slice_set nodes k (record (numbered_node nodes k) { before = to })
 
 -- a node of a number that leads to the base both ways
 abbrev pub first_node : Address → ℕ → NodeRecord
@@ -52,9 +52,9 @@ links_of base nodes =
 
 -- each node has its number, and leads to the places of the numbers that are seen
 pub record IsLinked (base : Address) (nodes : List NodeRecord) : Type 0 where
-  pub after : (k : ℕ) → k < length nodes → (node_at nodes k).after ≡ place base (link (links_of base nodes).after k)
-  pub before : (k : ℕ) → k < length nodes → (node_at nodes k).before ≡ place base (link (links_of base nodes).before k)
-  pub number : (k : ℕ) → k < length nodes → (node_at nodes k).number ≡ k
+  pub after : (k : ℕ) → k < length nodes → (numbered_node nodes k).after ≡ place base (link (links_of base nodes).after k)
+  pub before : (k : ℕ) → k < length nodes → (numbered_node nodes k).before ≡ place base (link (links_of base nodes).before k)
+  pub number : (k : ℕ) → k < length nodes → (numbered_node nodes k).number ≡ k
 
 -- the row begins at the base, and each of its places holds a node
 pub record IsRow (row : Slots NodeRecord) (base : Address) : Type 0 where

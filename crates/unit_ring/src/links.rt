@@ -5,7 +5,7 @@ ghost use Rattle.std.specs.Prelude.{ℕ, ◌≡◌, ◌≢◌, ◌-◌, ◌<◌,
 ghost use Rattle.core.specs.Mem.Slots.{slots_items, slots_len, IsFull, SamePlaces};
 ghost use Rattle.unit_ring.specs.Chains.{link, unit_at, after_without, before_without, after_with, before_with, IsChain, chain, fenced_numbers, nodes_up_to, numbers_without, put_before};
 ghost use Rattle.sched_base.specs.Lists.{Has};
-ghost use Rattle.unit_ring.specs.Nodes.{blank_node, first_node, node_at};
+ghost use Rattle.unit_ring.specs.Nodes.{empty_node, first_node, numbered_node};
 
 use crate::nodes;
 use crate::nodes::{Address, NodeRecord, based};
@@ -23,7 +23,7 @@ const NO_UNIT: UnitId = UnitId {
 
 /// A node before it has a number.
 fn blank_node() -> NodeRecord
-    ensures { result ≡ blank_node }
+    ensures { result ≡ empty_node }
 {
     NodeRecord {
         after: Address {
@@ -42,7 +42,7 @@ fn fill(row: &mut Slots<NodeRecord>, base: Address)
     requires few { slots_len row.old < 4294967296 }
     ensures places { SamePlaces row.old row.new }
     ensures full { IsFull row.new }
-    ensures nodes { (k : ℕ) → k < slots_len row.new → node_at (slots_items row.new) k
+    ensures nodes { (k : ℕ) → k < slots_len row.new → numbered_node (slots_items row.new) k
         ≡ first_node base k }
 {
     for k in 0..row.len() {

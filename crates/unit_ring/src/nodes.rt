@@ -3,7 +3,7 @@
 ghost use Rattle.std.specs.Prelude.{◌≡◌, ℕ, ◌*◌, ◌<◌};
 ghost use Rattle.core.specs.Mem.Slots.{slots_items, slots_ptr, slots_len, slots_filled, IsFull, SamePlaces};
 ghost use denote.RawPtr.{InBlock, ◌+ₚ◌};
-ghost use Rattle.unit_ring.specs.Nodes.{node_at, place, with_after, with_before};
+ghost use Rattle.unit_ring.specs.Nodes.{numbered_node, place, with_after, with_before};
 
 use core::slots::Slots;
 use sched_base::UnitId;
@@ -48,7 +48,7 @@ pub fn number(nodes: &Slots<NodeRecord>, at: Address) -> u32
     requires full { IsFull nodes.now }
     requires place { at.ptr ≡ slots_ptr nodes.now +ₚ to * 24 }
     requires target { to < slots_len nodes.now }
-    ensures { result ≡ (node_at (slots_items nodes.now) to).number }
+    ensures { result ≡ (numbered_node (slots_items nodes.now) to).number }
 {
     unsafe {
         let node = at.ptr;
@@ -62,8 +62,8 @@ pub fn unlink(nodes: &mut Slots<NodeRecord>, base: Address, n: u32)
     requires base { slots_ptr nodes.old ≡ base.ptr }
     requires full { IsFull nodes.old }
     requires below { n < slots_len nodes.old }
-    requires before { (node_at (slots_items nodes.old) n).before ≡ place base beside.0 }
-    requires after { (node_at (slots_items nodes.old) n).after ≡ place base beside.1 }
+    requires before { (numbered_node (slots_items nodes.old) n).before ≡ place base beside.0 }
+    requires after { (numbered_node (slots_items nodes.old) n).after ≡ place base beside.1 }
     requires last { beside.0 < slots_len nodes.old }
     requires next { beside.1 < slots_len nodes.old }
     ensures items { slots_items nodes.new
@@ -88,7 +88,7 @@ pub fn insert_before(nodes: &mut Slots<NodeRecord>, base: Address, at: u32, n: u
     requires full { IsFull nodes.old }
     requires below { n < slots_len nodes.old }
     requires at { at < slots_len nodes.old }
-    requires before { (node_at (slots_items nodes.old) at).before ≡ place base last }
+    requires before { (numbered_node (slots_items nodes.old) at).before ≡ place base last }
     requires last { last < slots_len nodes.old }
     ensures items { slots_items nodes.new
         ≡ with_before (with_before (with_after

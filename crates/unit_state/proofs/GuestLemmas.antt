@@ -4,7 +4,7 @@ use Rattle.std.proofs.Common.{◌≡◌, ◌≢◌, ◌≤◌, ◌<◌, ◌+◌,
 use Rattle.std.specs.Prelude.{Option, Some, None, option_map, is_none, slice_get, replicate}
 use Rattle.std.specs.List.{AllByRecursion}
 use Rattle.std.proofs.lemmas.Bool.Decides.{nat_tests}
-use Rattle.sched_base.specs.Numbers.{moment, span, has_come}
+use Rattle.sched_base.specs.Numbers.{moment, span, has_moment_come}
 use Rattle.sched_base.specs.declared.Moment.{Moment}
 use Rattle.sched_base.specs.declared.Span.{Span}
 use Rattle.sched_base.specs.declared.VcpuId.{VcpuId}
@@ -13,8 +13,8 @@ use Rattle.sched_model.specs.declared.state.Domain.{Domain}
 use Rattle.sched_model.specs.CheckedMachine.{IsCheckedScript, IsGranularity, most_span}
 use Rattle.sched_model.specs.Places.{at_place, put_at, clear_at, change_at, change_item}
 use Rattle.sched_laws.specs.EachPlace.{AllPlaces, EachPlace}
-use Rattle.sched_model.specs.Opening.{fresh_vcpu}
-use Rattle.sched_model.specs.Pool.{woken_vcpu, put_to_sleep, stopped_vcpu, done_at, unit_count, vcpu_among, change_among}
+use Rattle.sched_model.specs.Opening.{vcpu_at_opening}
+use Rattle.sched_model.specs.Pool.{woken_vcpu, put_to_sleep, stopped_vcpu, done_moment, domain_unit_count, vcpu_among, change_among}
 use Rattle.sched_laws.proofs.EachPlace.{EachAt-change_to, EachPlace-change_at, EachPlace-put_at, EachPlace-clear_at, EachPlace-empty, place_below, length_set, vcpu_is}
 use Rattle.sched_laws.proofs.Lists.{length_change_item, has_come-le}
 use Rattle.state_ranges.proofs.Vcpus.{VcpuFits as VcpuStands, vcpu_fresh, vcpu_woken, vcpu_slept, vcpu_stopped, vcpu_started}
@@ -24,7 +24,7 @@ use Rattle.unit_state.specs.Parts.{IsGuest, HasGuests, IsStill, IsRunPlace, IsSl
 use Rattle.unit_state.specs.Guests.{KeepsGuests, units_in}
 use Rattle.unit_state.proofs.PlaceLemmas.{read_change_item, vcpu_in, units_in-put_at, units_in-clear_at, units_in-change_at}
 
-come_later : (t s : ℕ) (o : Option Moment) → t ≤ s → has_come t o ≡ true → has_come s o ≡ true
+come_later : (t s : ℕ) (o : Option Moment) → t ≤ s → has_moment_come t o ≡ true → has_moment_come s o ≡ true
 come_later t s None past come = come
 come_later t s (Some a) past come = grind (arith, nat_tests, come)
 
@@ -76,18 +76,18 @@ awake_if_started t x from started guest = by_sleep x.asleep_until refl
     by_sleep (Some a) is = absurd (let f : None ≡ Some from = sym (guest.still a is) ∙ started in cc)
 
 -- one whose work is done is started
-started_if_done : (t : ℕ) (x : Vcpu) → has_come t (done_at x) ≡ true → (from : Moment) × (x.started ≡ Some from)
+started_if_done : (t : ℕ) (x : Vcpu) → has_moment_come t (done_moment x) ≡ true → (from : Moment) × (x.started ≡ Some from)
 started_if_done t x done = by_started x.started refl done
   where
-    by_started : (o : Option Moment) → x.started ≡ o → has_come t (elim o as (λ _. Option Moment) [ None ↦ None | Some from ↦ elim x.work_left as (λ _. Option Moment) [ None ↦ None | Some work ↦ Some (moment (from.0 + work.0)) ] ]) ≡ true → (from : Moment) × (x.started ≡ Some from)
+    by_started : (o : Option Moment) → x.started ≡ o → has_moment_come t (elim o as (λ _. Option Moment) [ None ↦ None | Some from ↦ elim x.work_left as (λ _. Option Moment) [ None ↦ None | Some work ↦ Some (moment (from.0 + work.0)) ] ]) ≡ true → (from : Moment) × (x.started ≡ Some from)
     by_started None is e = absurd (cc)
     by_started (Some from) is e = (from, is)
 
 -- a vCPU at the opening
-pub guest_fresh : (script : List Span) → IsCheckedScript script → IsGuest 0 (fresh_vcpu script)
-guest_fresh script checked = guest_stands 0 0 script (fresh_vcpu script) (omega arith) checked (λ from e. absurd (cc)) (vcpu_fresh script checked)
+pub guest_fresh : (script : List Span) → IsCheckedScript script → IsGuest 0 (vcpu_at_opening script)
+guest_fresh script checked = guest_stands 0 0 script (vcpu_at_opening script) (omega arith) checked (λ from e. absurd (cc)) (vcpu_fresh script checked)
 
-guest_woken : (t : ℕ) (x : Vcpu) → t ≤ most_span → has_come t x.asleep_until ≡ true → IsGuest t x → IsGuest t (woken_vcpu x)
+guest_woken : (t : ℕ) (x : Vcpu) → t ≤ most_span → has_moment_come t x.asleep_until ≡ true → IsGuest t x → IsGuest t (woken_vcpu x)
 guest_woken t x early come guest =
     let there = has_come-le t x.asleep_until come in
     let still : x.started ≡ None = guest.still there.0 there.1 in
@@ -95,7 +95,7 @@ guest_woken t x early come guest =
     (λ from e. absurd (let f : None ≡ Some from = sym still ∙ e in cc))
     (vcpu_woken most_span x.script x guest.script (come_later t most_span x.asleep_until early come) (late_stands t x early guest))
 
-guest_slept : (t : ℕ) (x : Vcpu) → t ≤ most_span → has_come t (done_at x) ≡ true → IsGuest t x → IsGuest t (put_to_sleep t x)
+guest_slept : (t : ℕ) (x : Vcpu) → t ≤ most_span → has_moment_come t (done_moment x) ≡ true → IsGuest t x → IsGuest t (put_to_sleep t x)
 guest_slept t x early done guest =
     let from = started_if_done t x done in
     guest_stands t t x.script (put_to_sleep t x) early guest.script
@@ -184,10 +184,10 @@ among_some : {X : Type 0} (g : Vcpu → Option X) (o : Option Vcpu) (x : Vcpu) �
 among_some {X} g o x is = ap (λ (p : Option Vcpu). elim p as (λ _. Option X) [ None ↦ None | Some y ↦ g y ]) is
 
 pub keeps_woken : (seen : Seen) (t : ℕ) (v : VcpuId) → IsNow seen t → is_due_among t seen.domains v ≡ true → KeepsGuests seen → KeepsGuests (record seen { domains = change_among v woken_vcpu seen.domains; latest = t })
-keeps_woken seen t v now due = keeps_changed seen t v woken_vcpu now (λ x there guest. guest_woken t x now.early (subst (λ (o : Option Moment). has_come t o ≡ true) (among_some (λ (y : Vcpu). y.asleep_until) (vcpu_among seen.domains v) x there) due) guest)
+keeps_woken seen t v now due = keeps_changed seen t v woken_vcpu now (λ x there guest. guest_woken t x now.early (subst (λ (o : Option Moment). has_moment_come t o ≡ true) (among_some (λ (y : Vcpu). y.asleep_until) (vcpu_among seen.domains v) x there) due) guest)
 
-pub keeps_slept : (seen : Seen) (t : ℕ) (v : VcpuId) → IsNow seen t → has_come t (done_among seen.domains v) ≡ true → KeepsGuests seen → KeepsGuests (record seen { domains = change_among v (put_to_sleep t) seen.domains; latest = t })
-keeps_slept seen t v now done = keeps_changed seen t v (put_to_sleep t) now (λ x there guest. guest_slept t x now.early (subst (λ (o : Option Moment). has_come t o ≡ true) (among_some done_at (vcpu_among seen.domains v) x there) done) guest)
+pub keeps_slept : (seen : Seen) (t : ℕ) (v : VcpuId) → IsNow seen t → has_moment_come t (done_among seen.domains v) ≡ true → KeepsGuests seen → KeepsGuests (record seen { domains = change_among v (put_to_sleep t) seen.domains; latest = t })
+keeps_slept seen t v now done = keeps_changed seen t v (put_to_sleep t) now (λ x there guest. guest_slept t x now.early (subst (λ (o : Option Moment). has_moment_come t o ≡ true) (among_some done_moment (vcpu_among seen.domains v) x there) done) guest)
 
 pub keeps_stopped : (seen : Seen) (t : ℕ) (v : VcpuId) → IsNow seen t → KeepsGuests seen → KeepsGuests (record seen { domains = change_among v (stopped_vcpu t) seen.domains; latest = t })
 keeps_stopped seen t v now = keeps_changed seen t v (stopped_vcpu t) now (λ x there guest. guest_stopped t x now.early guest)
@@ -224,7 +224,7 @@ keeps_domain seen i f same keeps = record {
     }
 
 -- a domain that came in, and one that went out
-pub keeps_added : (seen : Seen) (i : ℕ) (d : Domain) → i < length seen.domains → at_place seen.domains i ≡ None → unit_count seen.granularity d ≤ seen.spare → HasGuests seen.latest d → KeepsGuests seen → KeepsGuests (record seen { domains = put_at i d seen.domains; spare = seen.spare - unit_count seen.granularity d })
+pub keeps_added : (seen : Seen) (i : ℕ) (d : Domain) → i < length seen.domains → at_place seen.domains i ≡ None → domain_unit_count seen.granularity d ≤ seen.spare → HasGuests seen.latest d → KeepsGuests seen → KeepsGuests (record seen { domains = put_at i d seen.domains; spare = seen.spare - domain_unit_count seen.granularity d })
 keeps_added seen i d inside none room guests keeps = record {
   granularity = keeps.granularity;
   places = (let l = length_set i (Some d) seen.domains in let p = keeps.places in omega (arith, l, p));
@@ -233,7 +233,7 @@ keeps_added seen i d inside none room guests keeps = record {
   guests = EachPlace-put_at (HasGuests seen.latest) i d seen.domains keeps.guests guests;
 }
 
-pub keeps_taken : (seen : Seen) (i : ℕ) (d : Domain) → at_place seen.domains i ≡ Some d → KeepsGuests seen → KeepsGuests (record seen { domains = clear_at i seen.domains; spare = seen.spare + unit_count seen.granularity d })
+pub keeps_taken : (seen : Seen) (i : ℕ) (d : Domain) → at_place seen.domains i ≡ Some d → KeepsGuests seen → KeepsGuests (record seen { domains = clear_at i seen.domains; spare = seen.spare + domain_unit_count seen.granularity d })
 keeps_taken seen i d at keeps = record {
   granularity = keeps.granularity;
   places = (let l = length_set i None seen.domains in let p = keeps.places in omega (arith, l, p));
@@ -276,7 +276,7 @@ among_there g None a is = absurd (cc)
 among_there g (Some x) a is = (x, refl)
 
 -- a vCPU of which a moment has come is there
-pub come_among : (g : Vcpu → Option Moment) (t : ℕ) (o : Option Vcpu) → has_come t (elim o as (λ _. Option Moment) [ None ↦ None | Some y ↦ g y ]) ≡ true → (x : Vcpu) × (o ≡ Some x)
+pub come_among : (g : Vcpu → Option Moment) (t : ℕ) (o : Option Vcpu) → has_moment_come t (elim o as (λ _. Option Moment) [ None ↦ None | Some y ↦ g y ]) ≡ true → (x : Vcpu) × (o ≡ Some x)
 come_among g t None come = absurd (cc)
 come_among g t (Some x) come = (x, refl)
 

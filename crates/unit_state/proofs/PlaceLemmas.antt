@@ -7,7 +7,7 @@ use Rattle.sched_base.specs.declared.VcpuId.{VcpuId}
 use Rattle.sched_model.specs.declared.state.Vcpu.{Vcpu}
 use Rattle.sched_model.specs.declared.state.Domain.{Domain}
 use Rattle.sched_model.specs.Places.{at_place, put_at, clear_at, change_at, change_item}
-use Rattle.sched_model.specs.Pool.{stopped_vcpu, unit_count, vcpu_among, change_among}
+use Rattle.sched_model.specs.Pool.{stopped_vcpu, domain_unit_count, vcpu_among, change_among}
 use Rattle.sched_model.proofs.PlaceLemmas.{at_place-change_at_other}
 use Rattle.sched_laws.proofs.EachPlace.{at_place-put_at_other, at_place-clear_at_other, by_option, at_place-change_at}
 use Rattle.unit_state.specs.Seen.{wake_among}
@@ -61,19 +61,19 @@ vcpu_among-change_among_other v w f domains others =
     here n (Some d) = slice_get-change_item_other v.n w.n f d.vcpus (λ e. n (sym e))
 
 -- the units of all domains after a domain came in or went out, or was changed and kept its units
-pub units_in-put_at : (g i : ℕ) (d : Domain) (domains : List (Option Domain)) → i < length domains → at_place domains i ≡ None → units_in g (put_at i d domains) ≡ units_in g domains + unit_count g d
+pub units_in-put_at : (g i : ℕ) (d : Domain) (domains : List (Option Domain)) → i < length domains → at_place domains i ≡ None → units_in g (put_at i d domains) ≡ units_in g domains + domain_unit_count g d
 units_in-put_at g i d [] inside none = absurd (omega (arith, inside))
 units_in-put_at g zero d (None ∷ domains) inside none = omega arith
 units_in-put_at g zero d (Some x ∷ domains) inside none = absurd (cc)
 units_in-put_at g (suc i) d (p ∷ domains) inside none = (let r = units_in-put_at g i d domains (omega (arith, inside)) none in omega (arith, r))
 
-pub units_in-clear_at : (g i : ℕ) (d : Domain) (domains : List (Option Domain)) → at_place domains i ≡ Some d → units_in g (clear_at i domains) + unit_count g d ≡ units_in g domains
+pub units_in-clear_at : (g i : ℕ) (d : Domain) (domains : List (Option Domain)) → at_place domains i ≡ Some d → units_in g (clear_at i domains) + domain_unit_count g d ≡ units_in g domains
 units_in-clear_at g i d [] at = absurd (cc)
 units_in-clear_at g zero d (None ∷ domains) at = absurd (cc)
-units_in-clear_at g zero d (Some x ∷ domains) at = (let same : x ≡ d = cc in let e = ap (unit_count g) same in omega (arith, e))
+units_in-clear_at g zero d (Some x ∷ domains) at = (let same : x ≡ d = cc in let e = ap (domain_unit_count g) same in omega (arith, e))
 units_in-clear_at g (suc i) d (p ∷ domains) at = (let r = units_in-clear_at g i d domains at in omega (arith, r))
 
-pub units_in-change_at : (g i : ℕ) (f : Domain → Domain) (domains : List (Option Domain)) → ((d : Domain) → unit_count g (f d) ≡ unit_count g d) → units_in g (change_at i f domains) ≡ units_in g domains
+pub units_in-change_at : (g i : ℕ) (f : Domain → Domain) (domains : List (Option Domain)) → ((d : Domain) → domain_unit_count g (f d) ≡ domain_unit_count g d) → units_in g (change_at i f domains) ≡ units_in g domains
 units_in-change_at g i f [] same = refl
 units_in-change_at g zero f (None ∷ domains) same = refl
 units_in-change_at g zero f (Some d ∷ domains) same = (let e = same d in omega (arith, e))

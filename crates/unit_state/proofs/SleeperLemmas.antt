@@ -9,9 +9,9 @@ use Rattle.sched_base.specs.declared.VcpuId.{VcpuId}
 use Rattle.sched_model.specs.declared.state.Vcpu.{Vcpu}
 use Rattle.sched_model.specs.declared.state.Domain.{Domain}
 use Rattle.sched_model.specs.Places.{at_place}
-use Rattle.sched_base.specs.Numbers.{has_come}
+use Rattle.sched_base.specs.Numbers.{has_moment_come}
 use Rattle.sched_model.specs.Pool.{vcpu_among, change_among}
-use Rattle.due_heap.specs.Dues.{due_of, IsArmed, HasCome}
+use Rattle.due_heap.specs.Dues.{armed_moment, IsArmed, HasCome}
 use Rattle.unit_state.specs.Seen.{Seen, IsNotAfter, wake_among, is_due_among}
 use Rattle.unit_state.specs.Guests.{KeepsGuests, AreSleepers, vcpu_id}
 use Rattle.unit_state.proofs.PlaceLemmas.{AreOthers, vcpu_in, wake_in, vcpu_among-change_among_other}
@@ -32,14 +32,14 @@ sleepers_rearmed domains next dues v place low kept are = record {
         | yes e ↦ elim (ℕ_discrete n v.n) [
           | no ne ↦ other d n here below (inr ne)
           | yes m ↦
-              subst (λ (k : ℕ). due_of (slice_set dues (v.dom.0 * 32 + v.n) (wake_among next v)) (k * 32 + n) ≡ wake_among next (vcpu_id k n)) (sym e)
-              (subst (λ (k : ℕ). due_of (slice_set dues (v.dom.0 * 32 + v.n) (wake_among next v)) (v.dom.0 * 32 + k) ≡ wake_among next (vcpu_id v.dom.0 k)) (sym m)
+              subst (λ (k : ℕ). armed_moment (slice_set dues (v.dom.0 * 32 + v.n) (wake_among next v)) (k * 32 + n) ≡ wake_among next (vcpu_id k n)) (sym e)
+              (subst (λ (k : ℕ). armed_moment (slice_set dues (v.dom.0 * 32 + v.n) (wake_among next v)) (v.dom.0 * 32 + k) ≡ wake_among next (vcpu_id v.dom.0 k)) (sym m)
               (let ids = are.ids in get_or-set_same dues (v.dom.0 * 32 + v.n) (wake_among next v) None (omega (arith, ids, place, low))))
         ]
       ];
 }
   where
-    other : (d n : ℕ) → d < 64 → n < 32 → AreOthers v (vcpu_id d n) → due_of (slice_set dues (v.dom.0 * 32 + v.n) (wake_among next v)) (d * 32 + n) ≡ wake_among next (vcpu_id d n)
+    other : (d n : ℕ) → d < 64 → n < 32 → AreOthers v (vcpu_id d n) → armed_moment (slice_set dues (v.dom.0 * 32 + v.n) (wake_among next v)) (d * 32 + n) ≡ wake_among next (vcpu_id d n)
     other d n here below others =
         get_or-set_other dues (v.dom.0 * 32 + v.n) (d * 32 + n) (wake_among next v) None (λ same. let a = ids_apart v.dom.0 v.n d n low below same in elim others [ inl x ↦ x a.0 | inr x ↦ x a.1 ])
         ∙ are.each d n here below
@@ -50,13 +50,13 @@ pub sleepers_same : (domains next : List (Option Domain)) (dues : List (Option M
 sleepers_same domains next dues same are = record { ids = are.ids; each = λ d n here below. are.each d n here below ∙ sym (same (vcpu_id d n)) }
 
 -- one domain armed anew, where no other's wake moments change
-pub sleepers_replaced : (domains next : List (Option Domain)) (dues after : List (Option Moment)) (d : ℕ) → length after ≡ 2048 → ((n : ℕ) → n < 32 → due_of after (d * 32 + n) ≡ wake_among next (vcpu_id d n)) → ((e n : ℕ) → e ≢ d → n < 32 → due_of after (e * 32 + n) ≡ due_of dues (e * 32 + n)) → ((w : VcpuId) → w.dom.0 ≢ d → wake_among next w ≡ wake_among domains w) → AreSleepers domains dues → AreSleepers next after
+pub sleepers_replaced : (domains next : List (Option Domain)) (dues after : List (Option Moment)) (d : ℕ) → length after ≡ 2048 → ((n : ℕ) → n < 32 → armed_moment after (d * 32 + n) ≡ wake_among next (vcpu_id d n)) → ((e n : ℕ) → e ≢ d → n < 32 → armed_moment after (e * 32 + n) ≡ armed_moment dues (e * 32 + n)) → ((w : VcpuId) → w.dom.0 ≢ d → wake_among next w ≡ wake_among domains w) → AreSleepers domains dues → AreSleepers next after
 sleepers_replaced domains next dues after d ids own others kept are = record {
   ids = ids;
   each = λ e n here below.
       elim (ℕ_discrete e d) [
         | no ne ↦ others e n ne below ∙ are.each e n here below ∙ sym (kept (vcpu_id e n) ne)
-        | yes is ↦ subst (λ (k : ℕ). due_of after (k * 32 + n) ≡ wake_among next (vcpu_id k n)) (sym is) (own n below)
+        | yes is ↦ subst (λ (k : ℕ). armed_moment after (k * 32 + n) ≡ wake_among next (vcpu_id k n)) (sym is) (own n below)
       ];
 }
 
@@ -67,7 +67,7 @@ sleepers_none places = record {
   each = λ d n here below. none_due 2048 (d * 32 + n) ∙ sym (none_here places d n);
 }
   where
-    none_due : (count id : ℕ) → due_of (replicate count None) id ≡ None
+    none_due : (count id : ℕ) → armed_moment (replicate count None) id ≡ None
     none_due zero id = refl
     none_due (suc count) zero = refl
     none_due (suc count) (suc id) = none_due count id
@@ -96,9 +96,9 @@ armed_sleeps domains dues id at are armed =
     let ids = are.ids in
     let below : id < 2048 = (let b = due_inside dues id at armed in omega (arith, b, ids)) in
     let split : id / 32 * 32 + id % 32 ≡ id = omega arith in
-    (below, sym (are.each (id / 32) (id % 32) (omega (arith, below)) (omega arith)) ∙ ap (due_of dues) split ∙ armed)
+    (below, sym (are.each (id / 32) (id % 32) (omega (arith, below)) (omega arith)) ∙ ap (armed_moment dues) split ∙ armed)
   where
-    due_inside : (xs : List (Option Moment)) (i : ℕ) (a : Moment) → due_of xs i ≡ Some a → i < length xs
+    due_inside : (xs : List (Option Moment)) (i : ℕ) (a : Moment) → armed_moment xs i ≡ Some a → i < length xs
     due_inside [] i a is = absurd (cc)
     due_inside (x ∷ xs) zero a is = omega arith
     due_inside (x ∷ xs) (suc i) a is = (let r = due_inside xs i a is in omega (arith, r))
@@ -124,7 +124,7 @@ first_of_ids id w below le = record { by_domain = omega (arith, below, le); then
 pub none_due : (seen : Seen) (dues : List (Option Moment)) (t : ℕ) → KeepsGuests seen → AreSleepers seen.domains dues → ((id : ℕ) (at : Moment) → IsArmed dues id at → t < at.0) → (v : VcpuId) → is_due_among t seen.domains v ≡ false
 none_due seen dues t keeps are later v = by_wake (wake_among seen.domains v) refl
   where
-    by_wake : (o : Option Moment) → wake_among seen.domains v ≡ o → has_come t o ≡ false
+    by_wake : (o : Option Moment) → wake_among seen.domains v ≡ o → has_moment_come t o ≡ false
     by_wake None is = refl
     by_wake (Some at) is = (let l = later (v.dom.0 * 32 + v.n) at (sleeps_armed seen dues v at keeps are is).1 in grind (arith, nat_tests, l))
 

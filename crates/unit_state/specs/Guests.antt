@@ -6,7 +6,7 @@ use Rattle.sched_base.specs.declared.VcpuId.{VcpuId}
 use Rattle.sched_model.specs.declared.state.Domain.{Domain}
 use Rattle.sched_model.specs.CheckedMachine.{IsGranularity, most_span}
 use Rattle.sched_laws.specs.EachPlace.{EachPlace}
-use Rattle.due_heap.specs.Dues.{due_of}
+use Rattle.due_heap.specs.Dues.{armed_moment}
 use Rattle.unit_state.specs.Seen.{Seen, units_at, wake_among}
 use Rattle.unit_state.specs.Parts.{HasGuests}
 
@@ -34,4 +34,4 @@ pub record KeepsGuests (seen : Seen) : Type 0 where
 -- each vCPU that sleeps is armed with its wake moment, and no other is
 pub record AreSleepers (domains : List (Option Domain)) (dues : List (Option Moment)) : Type 0 where
   pub ids : length dues ≡ 2048
-  pub each : (d n : ℕ) → d < 64 → n < 32 → due_of dues (d * 32 + n) ≡ wake_among domains (vcpu_id d n)
+  pub each : (d n : ℕ) → d < 64 → n < 32 → armed_moment dues (d * 32 + n) ≡ wake_among domains (vcpu_id d n)

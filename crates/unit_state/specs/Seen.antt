@@ -7,8 +7,8 @@ use Rattle.sched_model.specs.declared.state.Domain.{Domain}
 use Rattle.sched_laws.specs.RecordRanges.{IsFrom}
 use Rattle.sched_model.specs.Places.{at_place, test_at}
 use Rattle.sched_model.specs.State.{is_awake}
-use Rattle.sched_base.specs.Numbers.{has_come}
-use Rattle.sched_model.specs.Pool.{done_at, unit_count, vcpu_among}
+use Rattle.sched_base.specs.Numbers.{has_moment_come}
+use Rattle.sched_model.specs.Pool.{done_moment, domain_unit_count, vcpu_among}
 
 -- the domains by number, how many vCPUs a unit has, how many units may still be added, and the greatest moment that was given
 pub record Seen : Type 0 where
@@ -31,7 +31,7 @@ is_awake_among domains v = elim (vcpu_among domains v) [ None ↦ false | Some x
 
 -- the moment at which the vCPU's work is done, where it is there and started and its work has an end
 abbrev pub done_among : List (Option Domain) → VcpuId → Option Moment
-done_among domains v = elim (vcpu_among domains v) [ None ↦ None | Some x ↦ done_at x ]
+done_among domains v = elim (vcpu_among domains v) [ None ↦ None | Some x ↦ done_moment x ]
 
 -- the moment at which the vCPU wakes, where it is there and sleeps
 abbrev pub wake_among : List (Option Domain) → VcpuId → Option Moment
@@ -39,7 +39,7 @@ wake_among domains v = elim (vcpu_among domains v) [ None ↦ None | Some x ↦ 
 
 -- whether the vCPU sleeps and its wake moment has come at t
 abbrev pub is_due_among : ℕ → List (Option Domain) → VcpuId → Bool
-is_due_among t domains v = has_come t (wake_among domains v)
+is_due_among t domains v = has_moment_come t (wake_among domains v)
 
 -- a vCPU that is another's, or comes after it by domain, then by index
 pub record IsNotAfter (v w : VcpuId) : Type 0 where
@@ -49,7 +49,7 @@ pub record IsNotAfter (v w : VcpuId) : Type 0 where
 -- how many units of g vCPUs stand at a place
 abbrev pub units_at : ℕ → Option Domain → ℕ
 units_at g None = 0
-units_at g (Some d) = unit_count g d
+units_at g (Some d) = domain_unit_count g d
 
 -- whether the domain is there and paused
 abbrev pub is_paused_among : List (Option Domain) → ℕ → Bool

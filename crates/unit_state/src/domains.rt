@@ -91,9 +91,9 @@ impl Guests {
     ghost use Rattle.sched_model.specs.declared.state.Domain.{Domain as DomainRecord};
     ghost use Rattle.sched_model.specs.CheckedMachine.{IsGranularity};
     ghost use Rattle.sched_model.specs.Places.{at_place, change_at, clear_at, put_at};
-    ghost use Rattle.sched_base.specs.Numbers.{has_come};
-    ghost use Rattle.sched_model.specs.State.{has_core as has_bit, runnable_among};
-    ghost use Rattle.sched_model.specs.Pool.{put_to_sleep, stopped_vcpu, unit_count as unit_count_spec, woken_vcpu, change_among};
+    ghost use Rattle.sched_base.specs.Numbers.{has_moment_come};
+    ghost use Rattle.sched_model.specs.State.{has_core_bit, runnable_among};
+    ghost use Rattle.sched_model.specs.Pool.{put_to_sleep, stopped_vcpu, domain_unit_count, woken_vcpu, change_among};
     ghost use Rattle.unit_state.specs.Seen.{IsNow, IsNotAfter, done_among, is_awake_among, is_due_among, is_paused_among, target_among, units_at, vacant_guests, wake_among};
     ghost use Rattle.unit_state.specs.Parts.{IsPart, IsStill};
     ghost use Rattle.unit_state.specs.Guests.{KeepsGuests};
@@ -128,11 +128,11 @@ impl Guests {
         requires place { part.d.0 < length self.old.domains }
         requires absent { at_place self.old.domains part.d.0 ≡ None }
         requires granularity { part.granularity ≡ self.old.granularity }
-        requires room { unit_count_spec part.granularity part.domain ≤ self.old.spare }
+        requires room { domain_unit_count part.granularity part.domain ≤ self.old.spare }
         ensures { self.new ≡ record self.old {
           domains = put_at part.d.0 part.domain self.old.domains;
           spare = self.old.spare -
-              unit_count_spec part.granularity part.domain;
+              domain_unit_count part.granularity part.domain;
         } }
     {
         let DomPart {
@@ -185,7 +185,7 @@ impl Guests {
     /// A vCPU that is started, and whose work is done at t, sleeps from t on for the next span of its script.
     pub fn block(&mut self, v: VcpuId, t: Moment)
         requires now { IsNow self.old t.0 }
-        requires done { has_come t.0 (done_among self.old.domains v) ≡ true }
+        requires done { has_moment_come t.0 (done_among self.old.domains v) ≡ true }
         ensures { self.new ≡ record self.old
             { domains = change_among v (put_to_sleep t.0) self.old.domains; latest = t.0 } }
     {
@@ -224,7 +224,7 @@ impl Guests {
         ensures part { IsPart result }
         ensures after { self.new ≡ record self.old {
           domains = clear_at d.0 self.old.domains;
-          spare = self.old.spare + unit_count_spec
+          spare = self.old.spare + domain_unit_count
               result.granularity result.domain;
         } }
     {
@@ -333,7 +333,7 @@ impl Guests {
     /// The domains that are here, with bit d for the domain d.
     #[tactic(auto, using(crate::proofs::Members::has_domain))]
     pub fn members(&self) -> u64
-        ensures { (d : ℕ) → has_bit result d ≡ is_some (at_place self.now.domains d) }
+        ensures { (d : ℕ) → has_core_bit result d ≡ is_some (at_place self.now.domains d) }
     {
         home_domains(self.domains.as_slice())
     }

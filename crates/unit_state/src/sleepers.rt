@@ -1,7 +1,7 @@
 //! The heap of the vCPUs that sleep.
 
 ghost use Rattle.std.specs.Prelude.{◌≡◌, ◌≢◌, ◌+◌, ◌*◌, ◌/◌, ◌%◌, ◌<◌, ℕ, length, slice_set};
-ghost use Rattle.due_heap.specs.Dues.{due_of};
+ghost use Rattle.due_heap.specs.Dues.{armed_moment};
 ghost use Rattle.unit_state.specs.Seen.{wake_among};
 ghost use Rattle.unit_state.specs.Guests.{vcpu_id};
 
@@ -66,10 +66,10 @@ pub fn rearm_domain(sleepers: &mut DueHeap, domains: &[Option<Domain>], d: DomId
     requires ids { length sleepers.old ≡ 2048 }
     requires place { d.0 < 64 }
     ensures ids { length sleepers.new ≡ 2048 }
-    ensures own { (n : ℕ) → n < 32 → due_of sleepers.new (d.0 * 32 + n)
+    ensures own { (n : ℕ) → n < 32 → armed_moment sleepers.new (d.0 * 32 + n)
         ≡ wake_among domains.now (vcpu_id d.0 n) }
-    ensures others { (e n : ℕ) → e ≢ d.0 → n < 32 → due_of sleepers.new (e * 32 + n)
-        ≡ due_of sleepers.old (e * 32 + n) }
+    ensures others { (e n : ℕ) → e ≢ d.0 → n < 32 → armed_moment sleepers.new (e * 32 + n)
+        ≡ armed_moment sleepers.old (e * 32 + n) }
 {
     for n in 0..32u8 {
         rearm(sleepers, domains, VcpuId { dom: d, n });

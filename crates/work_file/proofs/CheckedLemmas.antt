@@ -9,7 +9,7 @@ use Rattle.sched_model.specs.declared.work.StallLine.{StallLine}
 use Rattle.sched_model.specs.declared.work.CommandLine.{CommandLine}
 use Rattle.work_file.specs.declared.fault.WorkCause.TheVariants as cause
 use Rattle.work_file.specs.declared.reading.Reading.{Reading}
-use Rattle.work_file.specs.Lines.{place_fault}
+use Rattle.work_file.specs.Lines.{place_cause}
 use Rattle.work_file.specs.Reading.{IsCheckedReading}
 use Rattle.work_file.proofs.OrderLemmas.{in_order_push}
 
@@ -23,14 +23,14 @@ stands_by_tests last count at true many e f h = absurd cc
 stands_by_tests last count at false true e f h = absurd cc
 stands_by_tests last count at false false e f h = record { in_order = ltb-false _ _ (sym e); room = λ same. (let yes = eq-eqb count 4096 same in let no : ⊥ = cc in no) }
 
-stands : (last count at : ℕ) → place_fault last count at ≡ None → Stands last count at
+stands : (last count at : ℕ) → place_cause last count at ≡ None → Stands last count at
 stands last count at h = stands_by_tests last count at (nat_lt at last) (eqb count 4096) refl refl h
 
 All-later : {X : Type 0} (f : X → ℕ) (m n : ℕ) (xs : List X) → m ≤ n → All (λ x. f x ≤ m) xs → All (λ x. f x ≤ n) xs
 All-later f m n xs le all k d l = omega (arith, all k d l)
 
 -- a stall more
-pub checked_stall : (config : Config) (r : Reading) (s : StallLine) (n : ℕ) → IsCheckedReading config r → IsCheckedStall config s → place_fault r.last.0 (length r.stalls) s.at.0 ≡ None → IsCheckedReading config (record r { line = n; last = s.at; stalls = r.stalls ++ s ∷ [] })
+pub checked_stall : (config : Config) (r : Reading) (s : StallLine) (n : ℕ) → IsCheckedReading config r → IsCheckedStall config s → place_cause r.last.0 (length r.stalls) s.at.0 ≡ None → IsCheckedReading config (record r { line = n; last = s.at; stalls = r.stalls ++ s ∷ [] })
 checked_stall config r s n h good placed =
     let place = stands r.last.0 (length r.stalls) s.at.0 placed in
     let below : All (λ (x : StallLine). x.at.0 ≤ s.at.0) r.stalls = All-later (λ (x : StallLine). x.at.0) r.last.0 s.at.0 r.stalls place.in_order h.stalls_before in
@@ -48,7 +48,7 @@ checked_stall config r s n h good placed =
     }
 
 -- a command more
-pub checked_command : (config : Config) (r : Reading) (c : CommandLine) (n : ℕ) → IsCheckedReading config r → IsCheckedCommandLine c → place_fault r.last.0 (length r.commands) c.at.0 ≡ None → IsCheckedReading config (record r { line = n; last = c.at; commands = r.commands ++ c ∷ [] })
+pub checked_command : (config : Config) (r : Reading) (c : CommandLine) (n : ℕ) → IsCheckedReading config r → IsCheckedCommandLine c → place_cause r.last.0 (length r.commands) c.at.0 ≡ None → IsCheckedReading config (record r { line = n; last = c.at; commands = r.commands ++ c ∷ [] })
 checked_command config r c n h good placed =
     let place = stands r.last.0 (length r.commands) c.at.0 placed in
     let below : All (λ (x : CommandLine). x.at.0 ≤ c.at.0) r.commands = All-later (λ (x : CommandLine). x.at.0) r.last.0 c.at.0 r.commands place.in_order h.commands_before in

@@ -3,7 +3,7 @@ use Rattle.std.proofs.Common.{◌≡◌, ◌<◌, ◌≤◌, ◌+◌, ◌-◌, �
 use Rattle.std.specs.Prelude.{decimal, if◌then◌else◌, nat_lt, ◌==◌}
 use Rattle.std.proofs.Math.Nat.{mod-lt, mul-le-mul_left}
 use Rattle.std.proofs.lemmas.Fmt.{length-decimal-le}
-use Rattle.work_file.specs.Load.{script_text, guests_text, params_text, name_text, home_text, domain_text, domains_text, next_number_text, numbers_text, second_pool_text, top_text, pools_text, load_domains, is_rt, drawn_value, after_draw, after_script, after_domains}
+use Rattle.work_file.specs.Load.{script_text, guests_text, params_text, name_text, home_text, domain_text, domains_text, next_number_text, numbers_text, second_pool_text, top_text, pools_text, load_domains, is_rtds_home, drawn_value, after_draw, after_script, after_domains}
 
 -- a text has at most so many bytes
 record IsShort (n : ℕ) (t : List ℕ) : Type 0 where
@@ -66,7 +66,7 @@ name i small = within (both (exactly (codes "[[domain]]\nname = \"g")) (both (nu
 
 domain : (processors i x : ℕ) → i < 10 ^ 10 → IsShort 168 (domain_text processors i x)
 unfolding domain_text
-domain processors i x small = both (both (both (name i small) (home (is_rt processors i))) (params (is_rt processors i) x)) (guests (after_draw x))
+domain processors i x small = both (both (both (name i small) (home (is_rtds_home processors i))) (params (is_rtds_home processors i) x)) (guests (after_draw x))
 
 domains : (processors n x : ℕ) → n ≤ 64 → IsShort (n * 168) (domains_text processors n x)
 unfolding domains_text

@@ -14,8 +14,8 @@ use Rattle.work_file.specs.declared.line.Line.TheVariants.{Silent, Stall, Comman
 pub use Rattle.sched_base.specs.Results.{◌>>=◌}
 
 -- a line that says nothing: an empty one, and a comment, which begins with a number sign
-abbrev pub is_silent : List ℕ → Bool
-is_silent line = length line == 0 || slice_index line 0 == 35
+abbrev pub is_silent_line : List ℕ → Bool
+is_silent_line line = length line == 0 || slice_index line 0 == 35
 
 -- a number in the range, or a fault
 abbrev pub number_within : ℕ → ℕ → List ℕ → Result ℕ WorkCause
@@ -53,7 +53,7 @@ said_by config (word ∷ words) = number_within 0 most_span word >>= λ at. said
 
 -- what a line says, or the first of its faults
 abbrev pub line_of : Config → List ℕ → Result Line WorkCause
-line_of config line = if is_silent line then Ok Silent else said_by config (words line)
+line_of config line = if is_silent_line line then Ok Silent else said_by config (words line)
 
 -- what the line says passes the checks
 abbrev pub IsCheckedLine : Config → Line → Type 0

@@ -25,8 +25,8 @@ pub record Before : Type 0 where
   pub commands : ℕ
 
 -- a line that says something cannot stand here: its moment is before the last one, or there are as many of its kind as there may be
-abbrev pub place_fault : ℕ → ℕ → ℕ → Option WorkCause
-place_fault last count at = if nat_lt at last then Some cause.Order else (if count == 4096 then Some cause.Many else None)
+abbrev pub place_cause : ℕ → ℕ → ℕ → Option WorkCause
+place_cause last count at = if nat_lt at last then Some cause.Order else (if count == 4096 then Some cause.Many else None)
 
 -- the work with this stall in front
 abbrev pub stall_in_front : StallLine → Result Work WorkFault → Result Work WorkFault
@@ -54,8 +54,8 @@ after b (Ok (Command c)) = record b { line = next_line b.line; last = c.at.0; co
 abbrev pub with_line : Before → Result Line WorkCause → Result Work WorkFault → Result Work WorkFault
 with_line b (Err fault) work = Err (Bad b.line fault)
 with_line b (Ok Silent) work = work
-with_line b (Ok (Stall s)) work = unless (place_fault b.last b.stalls s.at.0) b.line (stall_in_front s work)
-with_line b (Ok (Command c)) work = unless (place_fault b.last b.commands c.at.0) b.line (command_in_front c work)
+with_line b (Ok (Stall s)) work = unless (place_cause b.last b.stalls s.at.0) b.line (stall_in_front s work)
+with_line b (Ok (Command c)) work = unless (place_cause b.last b.commands c.at.0) b.line (command_in_front c work)
 
 -- the work of lines that stand behind others, or the first fault
 abbrev pub work_behind : Config → Before → List (List ℕ) → Result Work WorkFault

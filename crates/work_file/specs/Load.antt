@@ -36,8 +36,8 @@ after_guests x =
     if drawn_value 2 count == 0 then after_script count else after_script (after_script count)
 
 -- each fourth domain has its home in the second pool, where there is one
-abbrev pub is_rt : ℕ → ℕ → Bool
-is_rt processors i = nat_lt 1 processors && i % 4 == 3
+abbrev pub is_rtds_home : ℕ → ℕ → Bool
+is_rtds_home processors i = nat_lt 1 processors && i % 4 == 3
 
 -- the lines of a domain's scheduler, by the draw behind this state
 unfoldable pub params_text : Bool → ℕ → List ℕ
@@ -55,7 +55,7 @@ home_text true = codes "pool = \"rt\"\n"
 
 -- the table of domain i
 unfoldable pub domain_text : ℕ → ℕ → ℕ → List ℕ
-domain_text processors i x = name_text i ++ home_text (is_rt processors i) ++ params_text (is_rt processors i) x ++ guests_text (after_draw x)
+domain_text processors i x = name_text i ++ home_text (is_rtds_home processors i) ++ params_text (is_rtds_home processors i) x ++ guests_text (after_draw x)
 
 -- the state behind a domain's draws
 abbrev pub after_domain : ℕ → ℕ

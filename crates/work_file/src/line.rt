@@ -2,7 +2,7 @@
 
 ghost use Rattle.std.specs.Prelude.{◌≡◌, ◌≤◌, ◌^◌, ◌==◌, length, IfOk};
 ghost use Rattle.xl_words.specs.Parts.{words};
-ghost use Rattle.work_file.specs.Line.{is_silent as silent, number_within, stall_of, command_of, said_at, line_of, IsCheckedLine};
+ghost use Rattle.work_file.specs.Line.{is_silent_line, number_within, stall_of, command_of, said_at, line_of, IsCheckedLine};
 
 use crate::fault::WorkCause;
 use sched_base::{Moment, ProcId, Span};
@@ -20,7 +20,7 @@ pub(crate) enum Line {
 }
 
 fn is_silent(line: &[u8]) -> bool
-    ensures { result ≡ silent line.now }
+    ensures { result ≡ is_silent_line line.now }
 {
     line.is_empty() || line[0] == b'#'
 }

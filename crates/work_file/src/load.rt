@@ -1,7 +1,7 @@
 //! Texts that are made from a number: a domain file and a work file of any size.
 
 ghost use Rattle.std.specs.Prelude.{◌≡◌, ◌+◌, ◌-◌, ◌<◌, ◌≤◌, ◌^◌, ◌++◌, Bool, length, IfOk, OnOk};
-ghost use Rattle.work_file.specs.Load.{after_draw, drawn_value, script_text, after_script, guests_text, after_guests, is_rt as rt, params_text, name_text, home_text, domain_text, after_domain, domains_text, after_domains, next_number_text, numbers_text, top_text, second_pool_text, pools_text, stall_text, after_stalls, stalls_text, load_domains, load_work};
+ghost use Rattle.work_file.specs.Load.{after_draw, drawn_value, script_text, after_script, guests_text, after_guests, is_rtds_home, params_text, name_text, home_text, domain_text, after_domain, domains_text, after_domains, next_number_text, numbers_text, top_text, second_pool_text, pools_text, stall_text, after_stalls, stalls_text, load_domains, load_work};
 ghost use Rattle.sched_model.specs.CheckedMachine.{IsWithin};
 
 use sched_base::NoMemory;
@@ -97,7 +97,7 @@ fn put_params(
 
 /// Whether a domain has its home in the second pool.
 fn is_rt(processors: u8, i: u8) -> bool
-    ensures { result ≡ rt processors i }
+    ensures { result ≡ is_rtds_home processors i }
 {
     processors > 1 && i % 4 == 3
 }

@@ -3,7 +3,7 @@
 ghost use Rattle.std.specs.Prelude.{◌≡◌, ◌<◌, ◌≤◌, ◌++◌, ◌∷◌, [], List, ℕ, None, Ok, length, OnOk, IfOk, IfErr};
 ghost use Rattle.sched_base.specs.Numbers.{moment};
 ghost use Rattle.sched_model.specs.CheckedMachine.{IsCheckedWork};
-ghost use Rattle.work_file.specs.Lines.{place_fault as fault_at, next_line, IsFault};
+ghost use Rattle.work_file.specs.Lines.{place_cause, next_line, IsFault};
 ghost use Rattle.work_file.specs.Reading.{IsCheckedReading, IsLineFault, work_from};
 
 use crate::fault::{WorkCause, WorkFault};
@@ -27,7 +27,7 @@ pub(crate) struct Reading {
 /// Why a line cannot stand behind those that are read.
 fn place_fault(last: Moment, count: usize, at: Moment) -> Option<WorkCause>
     requires { count ≤ 4096 }
-    ensures { result ≡ fault_at last.0 count at.0 }
+    ensures { result ≡ place_cause last.0 count at.0 }
 {
     if at.0 < last.0 {
         Some(WorkCause::Order)
@@ -48,11 +48,11 @@ impl Reading {
               last = stall.at;
               stalls = self.old.stalls ++ stall ∷ [];
             }) }
-        ensures place { OnOk result (fault_at self.old.last.0 (length self.old.stalls) stall.at.0
+        ensures place { OnOk result (place_cause self.old.last.0 (length self.old.stalls) stall.at.0
             ≡ None) }
         ensures fault { IfErr result (λ fault.
             IsLineFault fault self.old.line
-            (fault_at self.old.last.0 (length self.old.stalls) stall.at.0)) }
+            (place_cause self.old.last.0 (length self.old.stalls) stall.at.0)) }
     {
         if let Some(cause) = place_fault(self.last, self.stalls.len(), stall.at) {
             return Err(WorkFault::Bad {
@@ -77,11 +77,11 @@ impl Reading {
               last = command.at;
               commands = self.old.commands ++ command ∷ [];
             }) }
-        ensures place { OnOk result (fault_at self.old.last.0 (length self.old.commands)
+        ensures place { OnOk result (place_cause self.old.last.0 (length self.old.commands)
             command.at.0 ≡ None) }
         ensures fault { IfErr result (λ fault.
             IsLineFault fault self.old.line
-            (fault_at self.old.last.0 (length self.old.commands) command.at.0)) }
+            (place_cause self.old.last.0 (length self.old.commands) command.at.0)) }
     {
         let at = command.at;
         if let Some(cause) = place_fault(self.last, self.commands.len(), at) {

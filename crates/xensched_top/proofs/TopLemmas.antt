@@ -2,7 +2,7 @@
 use Rattle.std.specs.Prelude.{String, option_map, ⊤, ◌⊎◌}
 use Rattle.std.specs.declared.alloc.Global.{Global}
 use Rattle.std.proofs.Common.{◌≡◌, ℕ, ◌≤◌, Bool, true, false, List, Option, Some, None, Result, Ok, Err, IfSome, IsSomeAnd, IsOk, IsOkAnd, refl, sym, ap, subst, ◌∙◌, inl, inr, rules}
-use Rattle.dom_file.specs.Configs.{document, domains_of}
+use Rattle.dom_file.specs.Configs.{spelled_table, domains_of}
 use Rattle.dom_file.specs.declared.fault.DomFault.{DomFault}
 use Rattle.dom_file.specs.declared.fault.DomFault.TheVariants as dom_fault
 use Rattle.sched_model.specs.declared.config.Config.{Config}
@@ -10,8 +10,8 @@ use Rattle.sched_model.specs.declared.machine.Machine.{Machine}
 use Rattle.xensched_top.specs.declared.status.Status.{Status}
 use Rattle.xensched_top.specs.declared.status.Status.TheVariants as status
 use Rattle.work_file.specs.declared.fault.WorkFault.{WorkFault}
-use Rattle.command_line.specs.Commands.{asked_of as asked, command_of}
-use Rattle.command_line.specs.declared.command.Command.{Command}
+use Rattle.command_line.specs.Commands.{asked_of as asked, asked_command}
+use Rattle.command_line.specs.declared.command.ProgramCommand.{ProgramCommand}
 use Rattle.sched_io.specs.Faults.{Rose}
 use Rattle.sched_io.specs.Puts.{Adds, AddsPart}
 use Rattle.sched_io.proofs.FaultLemmas.{rose_after}
@@ -25,7 +25,7 @@ use Rattle.sched_check.specs.VerdictText.{text_of_verdict}
 use Rattle.xensched_top.specs.Words.{Source, of_files, of_seed, Request, Task, runs, writes, judges, task_in, task_of}
 use Rattle.xensched_top.proofs.FilesLemmas.{told}
 use Rattle.xensched_top.specs.Answers.{BytesOf, Counts, Names, domain_bytes, work_bytes, IsMade, IsUnread, IsNotRead, IsNoToml, IsBadTable, IsBadWork, IsAccepted, IsRefusedAt, IsJudged, Judges, Refuses, RefusesName, Writes, WritesVerdict, Outcome, OfTexts, LeavesUnread, PutsAll, PutsLimit, PutsRefusal, PutsSome, Answers, ordered_answer, answer_to, SomethingFails, IsAnswer, IsAnswerOf, IsRunAnswer, IsOfTable}
-use Rattle.xensched_top.specs.Files.{config_of, domains_refused, machine_of, with_work, work_of}
+use Rattle.xensched_top.specs.Files.{file_config, domains_refused, file_machine, with_work, file_work}
 use Rattle.xensched_top.specs.Schedules.{EndsWithin, FillsLimit}
 use Rattle.xensched_top.proofs.ScheduleLemmas.{is_whole-ends, is_whole-fills}
 
@@ -44,11 +44,11 @@ pub no_task : {P : Type 0} (asked : Option Task) (task : Task) → Some task ≡
 no_task asked task known none = absurd (cc (known, none))
 
 -- the words that name a command have its task, and words that name none have none
-pub known_task : (words : List (String Global)) (found : Option Command) (command : Command) → found ≡ Some command → option_map asked found ≡ command_of words → Some (task_in (asked command)) ≡ task_of words
+pub known_task : (words : List (String Global)) (found : Option ProgramCommand) (command : ProgramCommand) → found ≡ Some command → option_map asked found ≡ asked_command words → Some (task_in (asked command)) ≡ task_of words
 unfolding task_of
 known_task words found command is known = ap (option_map task_in) (sym (ap (option_map asked) is) ∙ known)
 
-pub unknown_task : (words : List (String Global)) (found : Option Command) → found ≡ None → option_map asked found ≡ command_of words → task_of words ≡ None
+pub unknown_task : (words : List (String Global)) (found : Option ProgramCommand) → found ≡ None → option_map asked found ≡ asked_command words → task_of words ≡ None
 unfolding task_of
 unknown_task words found is none = sym (ap (option_map task_in) (sym (ap (option_map asked) is) ∙ none))
 
@@ -149,25 +149,25 @@ module _ (held : BytesOf) (old new : Counts) (before after : Option (List ℕ)) 
   never_usage is = as_this_one status.Usage is
 
 -- bytes that are no document describe no machine
-no_domains : (bytes : List ℕ) → document bytes ≡ None → domains_of bytes ≡ Err dom_fault.BadToml
+no_domains : (bytes : List ℕ) → spelled_table bytes ≡ None → domains_of bytes ≡ Err dom_fault.BadToml
 unfolding domains_of
 no_domains bytes none = rw (domains_of, none) refl
 
-no_toml : (bytes : List ℕ) → document bytes ≡ None → config_of bytes ≡ Err dom_fault.BadToml
+no_toml : (bytes : List ℕ) → spelled_table bytes ≡ None → file_config bytes ≡ Err dom_fault.BadToml
 no_toml bytes none =
     no_domains bytes none
 
 -- a refused domain file makes no machine
-refused_machine : (bytes lines : List ℕ) (fault : DomFault) → config_of bytes ≡ Err fault → machine_of bytes lines ≡ Err (domains_refused fault)
-unfolding machine_of
+refused_machine : (bytes lines : List ℕ) (fault : DomFault) → file_config bytes ≡ Err fault → file_machine bytes lines ≡ Err (domains_refused fault)
+unfolding file_machine
 refused_machine bytes lines fault e =
-    ap (λ (read : Result Config DomFault). let made : Result Machine Status = elim read [ Err f ↦ Err (domains_refused f) | Ok c ↦ with_work c (work_of c lines) ] in made) e
+    ap (λ (read : Result Config DomFault). let made : Result Machine Status = elim read [ Err f ↦ Err (domains_refused f) | Ok c ↦ with_work c (file_work c lines) ] in made) e
 
 -- nor does a refused work file
-refused_lines : (bytes lines : List ℕ) (config : Config) (fault : WorkFault) → config_of bytes ≡ Ok config → work_of config lines ≡ Err fault → machine_of bytes lines ≡ Err (status.BadWork fault)
-unfolding machine_of
+refused_lines : (bytes lines : List ℕ) (config : Config) (fault : WorkFault) → file_config bytes ≡ Ok config → file_work config lines ≡ Err fault → file_machine bytes lines ≡ Err (status.BadWork fault)
+unfolding file_machine
 refused_lines bytes lines config fault e refused =
-    ap (λ (read : Result Config DomFault). let made : Result Machine Status = elim read [ Err f ↦ Err (domains_refused f) | Ok c ↦ with_work c (work_of c lines) ] in made) e ∙ ap (with_work config) refused
+    ap (λ (read : Result Config DomFault). let made : Result Machine Status = elim read [ Err f ↦ Err (domains_refused f) | Ok c ↦ with_work c (file_work c lines) ] in made) e ∙ ap (with_work config) refused
 
 -- of what both texts hold, where it is told
 both_told : (first second : Option (List ℕ)) (P Q : List ℕ → List ℕ → Type 0) → ((d w : List ℕ) → P d w → Q d w) →
@@ -192,13 +192,13 @@ always_told (Some d) (Some w) Q f = f d w
 abbrev IsRefusal : Status → Result Machine Status → Type 0
 IsRefusal answer made = (answer ≡ status.NoMemory) ⊎ (made ≡ Err answer)
 
-table_refusal : (bytes lines : List ℕ) (fault : DomFault) → IsOfTable fault → config_of bytes ≡ Err fault → IsRefusal (status.BadDomains fault) (machine_of bytes lines)
+table_refusal : (bytes lines : List ℕ) (fault : DomFault) → IsOfTable fault → file_config bytes ≡ Err fault → IsRefusal (status.BadDomains fault) (file_machine bytes lines)
 table_refusal bytes lines dom_fault.NoMemory bad e = absurd bad
 table_refusal bytes lines dom_fault.BadToml bad e = absurd bad
 table_refusal bytes lines (dom_fault.Bad table index key cause) bad e = inr (refused_machine bytes lines (dom_fault.Bad table index key cause) e)
 
-work_refusal : (bytes lines : List ℕ) (fault : WorkFault) (read : Result Config DomFault) → config_of bytes ≡ read → IsOkAnd read (λ config. work_of config lines ≡ Err fault) →
-    IsRefusal (status.BadWork fault) (machine_of bytes lines)
+work_refusal : (bytes lines : List ℕ) (fault : WorkFault) (read : Result Config DomFault) → file_config bytes ≡ read → IsOkAnd read (λ config. file_work config lines ≡ Err fault) →
+    IsRefusal (status.BadWork fault) (file_machine bytes lines)
 work_refusal bytes lines fault (Ok config) e h = inr (refused_lines bytes lines config fault e h)
 work_refusal bytes lines fault (Err other) e h = absurd h
 
@@ -209,7 +209,7 @@ not_read held old new (of_seed s processors domains) h = h
 
 -- this holds of what the two texts make, where their bytes are told
 abbrev OfMade : BytesOf → Source → (Result Machine Status → Type 0) → Type 0
-OfMade held source P = IfSome (domain_bytes held source) (λ d. IfSome (work_bytes held source) (λ w. P (machine_of d w)))
+OfMade held source P = IfSome (domain_bytes held source) (λ d. IfSome (work_bytes held source) (λ w. P (file_machine d w)))
 
 -- the texts are refused, and nothing failed
 refused_texts : (held : BytesOf) (old new : Counts) (source : Source) (answer : Status) → Refuses held old new source answer → ¬ IsNotRead old new source → OfMade held source (IsRefusal answer)
@@ -218,21 +218,21 @@ refused_texts held old new source status.Ok h fine = absurd h
 refused_texts held old new source status.Usage h fine = absurd h
 refused_texts held old new source status.ReadFault h fine = absurd (fine (not_read held old new source h))
 refused_texts held old new source status.BadToml h fine =
-    both_told (domain_bytes held source) (work_bytes held source) (λ d w. document d ≡ None) (λ d w. IsRefusal status.BadToml (machine_of d w))
+    both_told (domain_bytes held source) (work_bytes held source) (λ d w. spelled_table d ≡ None) (λ d w. IsRefusal status.BadToml (file_machine d w))
     (λ d w none. inr (refused_machine d w dom_fault.BadToml (no_toml d none)))
-    (first_told (domain_bytes held source) (work_bytes held source) (λ d. document d ≡ None) h)
+    (first_told (domain_bytes held source) (work_bytes held source) (λ d. spelled_table d ≡ None) h)
 refused_texts held old new source (status.BadDomains fault) h fine =
-    both_told (domain_bytes held source) (work_bytes held source) (λ d w. config_of d ≡ Err fault) (λ d w. IsRefusal (status.BadDomains fault) (machine_of d w))
+    both_told (domain_bytes held source) (work_bytes held source) (λ d w. file_config d ≡ Err fault) (λ d w. IsRefusal (status.BadDomains fault) (file_machine d w))
     (λ d w e. table_refusal d w fault h.0 e)
-    (first_told (domain_bytes held source) (work_bytes held source) (λ d. config_of d ≡ Err fault) h.1)
+    (first_told (domain_bytes held source) (work_bytes held source) (λ d. file_config d ≡ Err fault) h.1)
 refused_texts held old new source (status.BadWork fault) h fine =
-    both_told (domain_bytes held source) (work_bytes held source) (λ d w. IsOkAnd (config_of d) (λ config. work_of config w ≡ Err fault)) (λ d w. IsRefusal (status.BadWork fault) (machine_of d w))
-    (λ d w bad. work_refusal d w fault (config_of d) refl bad) h
+    both_told (domain_bytes held source) (work_bytes held source) (λ d w. IsOkAnd (file_config d) (λ config. file_work config w ≡ Err fault)) (λ d w. IsRefusal (status.BadWork fault) (file_machine d w))
+    (λ d w bad. work_refusal d w fault (file_config d) refl bad) h
 refused_texts held old new source status.WriteFault h fine = absurd h
 refused_texts held old new source (status.Full n) h fine = absurd h
 refused_texts held old new source (status.NotRun k) h fine = absurd h
 refused_texts held old new source status.NoMemory h fine =
-    always_told (domain_bytes held source) (work_bytes held source) (λ d w. IsRefusal status.NoMemory (machine_of d w)) (λ d w. inl refl)
+    always_told (domain_bytes held source) (work_bytes held source) (λ d w. IsRefusal status.NoMemory (file_machine d w)) (λ d w. inl refl)
 
 -- want of memory is an answer of every run
 memory_answers_run : (ordered : Bool) (limit : ℕ) (made : Result Machine Status) → IsRunAnswer ordered limit status.NoMemory made
@@ -249,8 +249,8 @@ refused_answer : (ordered : Bool) (limit : ℕ) (held : BytesOf) (old new : Coun
     ¬ IsNotRead old new source → IsAnswer ordered limit held answer source
 unfolding IsAnswer
 refused_answer ordered limit held old new source answer h fine =
-    both_told (domain_bytes held source) (work_bytes held source) (λ d w. IsRefusal answer (machine_of d w)) (λ d w. IsRunAnswer ordered limit answer (machine_of d w))
-    (λ d w refusal. refusal_answers_run ordered limit answer (machine_of d w) refusal) (refused_texts held old new source answer h fine)
+    both_told (domain_bytes held source) (work_bytes held source) (λ d w. IsRefusal answer (file_machine d w)) (λ d w. IsRunAnswer ordered limit answer (file_machine d w))
+    (λ d w refusal. refusal_answers_run ordered limit answer (file_machine d w) refusal) (refused_texts held old new source answer h fine)
 
 -- the answer of a machine whose run was written whole, and of one of which a further entry is due
 answers_ok : (ordered : Bool) (limit : ℕ) (m : Machine) (entries : List Entry) → EndsWithin ordered limit m entries → IsAnswerOf limit m status.Ok ordered
@@ -267,7 +267,7 @@ answers_full false limit m entries n is h = inr (ap status.Full is)
 made_answer : (held : BytesOf) (r : Request) (m : Machine) (answer : Status) → IsMade held r.source m → IsAnswerOf r.limit m answer r.ordered → IsAnswer r.ordered r.limit held answer r.source
 unfolding IsAnswer
 made_answer held r m answer made h =
-    both_told (domain_bytes held r.source) (work_bytes held r.source) (λ d w. machine_of d w ≡ Ok m) (λ d w. IsRunAnswer r.ordered r.limit answer (machine_of d w))
+    both_told (domain_bytes held r.source) (work_bytes held r.source) (λ d w. file_machine d w ≡ Ok m) (λ d w. IsRunAnswer r.ordered r.limit answer (file_machine d w))
     (λ d w e. subst (λ (z : Result Machine Status). IsRunAnswer r.ordered r.limit answer z) (sym e) h) made.by_texts
 
 -- of the bytes of three files, where they are told
@@ -306,8 +306,8 @@ refusal_judged ordered bytes answer made (inr e) = subst (λ (r : Result Machine
 refused_files : (held : BytesOf) (old new : Counts) (ordered : Bool) (names : Names) (schedule : List ℕ) (answer : Status) →
     Refuses held old new (of_files names) answer → ¬ IsNotRead old new (of_files names) → Answers held answer (judges ordered names schedule)
 refused_files held old new ordered names schedule answer h fine =
-    three_told (held names.0) (held names.1) (held schedule) (λ d w. IsRefusal answer (machine_of d w)) (λ b. ⊤) (λ d w b. IsJudged ordered b answer (machine_of d w))
-    (λ d w b refusal r. refusal_judged ordered b answer (machine_of d w) refusal)
+    three_told (held names.0) (held names.1) (held schedule) (λ d w. IsRefusal answer (file_machine d w)) (λ b. ⊤) (λ d w b. IsJudged ordered b answer (file_machine d w))
+    (λ d w b refusal r. refusal_judged ordered b answer (file_machine d w) refusal)
     (refused_texts held old new (of_files names) answer h fine) (whatever (held schedule))
 
 judged : (held : BytesOf) (old new : Counts) (before after : Option (List ℕ)) (sink_old sink_new : ℕ) (ordered : Bool) (names : Names) (schedule : List ℕ) (answer : Status) →
@@ -315,11 +315,11 @@ judged : (held : BytesOf) (old new : Counts) (before after : Option (List ℕ)) 
     Answers held answer (judges ordered names schedule)
 unfolding Outcome Refuses
 judged held old new before after sink_old sink_new ordered names schedule status.Ok h fine =
-    three_told (held names.0) (held names.1) (held schedule) (λ d w. machine_of d w ≡ Ok h.0) (λ b. Judges h.0 ordered b h.1) (λ d w b. IsJudged ordered b status.Ok (machine_of d w))
-    (λ d w b e v. answers_verdict ordered b status.Ok h.0 h.1 (machine_of d w) e v (accepts h.1 h.4.0)) (h.2).by_texts h.3
+    three_told (held names.0) (held names.1) (held schedule) (λ d w. file_machine d w ≡ Ok h.0) (λ b. Judges h.0 ordered b h.1) (λ d w b. IsJudged ordered b status.Ok (file_machine d w))
+    (λ d w b e v. answers_verdict ordered b status.Ok h.0 h.1 (file_machine d w) e v (accepts h.1 h.4.0)) (h.2).by_texts h.3
 judged held old new before after sink_old sink_new ordered names schedule (status.NotRun k) h fine =
-    three_told (held names.0) (held names.1) (held schedule) (λ d w. machine_of d w ≡ Ok h.0) (λ b. Judges h.0 ordered b h.1) (λ d w b. IsJudged ordered b (status.NotRun k) (machine_of d w))
-    (λ d w b e v. answers_verdict ordered b (status.NotRun k) h.0 h.1 (machine_of d w) e v (refuses_at k h.1 h.4.0)) (h.2).by_texts h.3
+    three_told (held names.0) (held names.1) (held schedule) (λ d w. file_machine d w ≡ Ok h.0) (λ b. Judges h.0 ordered b h.1) (λ d w b. IsJudged ordered b (status.NotRun k) (file_machine d w))
+    (λ d w b e v. answers_verdict ordered b (status.NotRun k) h.0 h.1 (file_machine d w) e v (refuses_at k h.1 h.4.0)) (h.2).by_texts h.3
 judged held old new before after sink_old sink_new ordered names schedule (status.Full n) h fine = absurd h
 judged held old new before after sink_old sink_new ordered names schedule status.WriteFault h fine = absurd (fine (inr (inr h.1)))
 judged held old new before after sink_old sink_new ordered names schedule status.Usage h fine = absurd h
@@ -332,8 +332,8 @@ judged held old new before after sink_old sink_new ordered names schedule (statu
 judged held old new before after sink_old sink_new ordered names schedule (status.BadWork fault) h fine =
     refused_files held old new ordered names schedule (status.BadWork fault) h (λ unread. fine (inl unread))
 judged held old new before after sink_old sink_new ordered names schedule status.NoMemory h fine =
-    three_told (held names.0) (held names.1) (held schedule) (λ d w. ⊤) (λ b. ⊤) (λ d w b. IsJudged ordered b status.NoMemory (machine_of d w))
-    (λ d w b x y. memory_judged ordered b (machine_of d w)) (always_told (held names.0) (held names.1) (λ d w. ⊤) (λ d w. tt)) (whatever (held schedule))
+    three_told (held names.0) (held names.1) (held schedule) (λ d w. ⊤) (λ b. ⊤) (λ d w b. IsJudged ordered b status.NoMemory (file_machine d w))
+    (λ d w b x y. memory_judged ordered b (file_machine d w)) (always_told (held names.0) (held names.1) (λ d w. ⊤) (λ d w. tt)) (whatever (held schedule))
 
 -- the outcome of a task is its answer, where nothing failed
 pub answers : (held : BytesOf) (old new : Counts) (before after : Option (List ℕ)) (sink_old sink_new : ℕ) (task : Task) (answer : Status) →
@@ -367,12 +367,12 @@ answers held old new before after sink_old sink_new (judges ordered names schedu
 pub memory_answers : (held : BytesOf) (task : Task) → Answers held status.NoMemory task
 unfolding IsAnswer
 memory_answers held (runs r) =
-    always_told (domain_bytes held r.source) (work_bytes held r.source) (λ d w. IsRunAnswer r.ordered r.limit status.NoMemory (machine_of d w))
-    (λ d w. memory_answers_run r.ordered r.limit (machine_of d w))
+    always_told (domain_bytes held r.source) (work_bytes held r.source) (λ d w. IsRunAnswer r.ordered r.limit status.NoMemory (file_machine d w))
+    (λ d w. memory_answers_run r.ordered r.limit (file_machine d w))
 memory_answers held (writes text) = inl refl
 memory_answers held (judges ordered names schedule) =
-    three_told (held names.0) (held names.1) (held schedule) (λ d w. ⊤) (λ b. ⊤) (λ d w b. IsJudged ordered b status.NoMemory (machine_of d w))
-    (λ d w b x y. memory_judged ordered b (machine_of d w)) (always_told (held names.0) (held names.1) (λ d w. ⊤) (λ d w. tt)) (whatever (held schedule))
+    three_told (held names.0) (held names.1) (held schedule) (λ d w. ⊤) (λ b. ⊤) (λ d w b. IsJudged ordered b status.NoMemory (file_machine d w))
+    (λ d w b x y. memory_judged ordered b (file_machine d w)) (always_told (held names.0) (held names.1) (λ d w. ⊤) (λ d w. tt)) (whatever (held schedule))
 
 -- the files make a machine, and the schedule was to be judged
 pub verdict_outcome : (held : BytesOf) (old new : Counts) (before after : Option (List ℕ)) (sink_old sink_new : ℕ) (ordered : Bool) (names : Names) (schedule bytes : List ℕ) (m : Machine) (answer : Status) →
@@ -418,7 +418,7 @@ pub unread_outcome : (held : BytesOf) (old middle new : Counts) (before after : 
 unfolding Outcome
 unread_outcome held old middle new before after sink_old sink_new ordered names schedule m status.ReadFault made le h =
     inr (
-      both_told (held names.0) (held names.1) (λ d w. machine_of d w ≡ Ok m) (λ d w. IsOk (machine_of d w)) (λ d w e. makes_some (machine_of d w) m e) made.by_texts,
+      both_told (held names.0) (held names.1) (λ d w. file_machine d w ≡ Ok m) (λ d w. IsOk (file_machine d w)) (λ d w e. makes_some (file_machine d w) m e) made.by_texts,
       rose_after (old schedule) (middle schedule) (new schedule) le h,
     )
 unread_outcome held old middle new before after sink_old sink_new ordered names schedule m status.Ok made le h = absurd h

@@ -1,6 +1,6 @@
 -- What each answer of the program says of the files, the store and the sink.
 use Rattle.std.specs.Prelude.{◌≡◌, ℕ, List, Option, Some, None, Result, Ok, Err, Bool, true, false, IfSome, IsOk, IsOkAnd, ◌⊎◌, ⊤, if◌then◌else◌}
-use Rattle.dom_file.specs.Configs.{document}
+use Rattle.dom_file.specs.Configs.{spelled_table}
 use Rattle.dom_file.specs.declared.fault.DomFault.{DomFault}
 use Rattle.dom_file.specs.declared.fault.DomFault.TheVariants as dom_fault
 use Rattle.sched_io.specs.Faults.{Rose}
@@ -12,7 +12,7 @@ use Rattle.sched_model.specs.CheckedMachine.{IsChecked}
 use Rattle.xensched_top.specs.declared.status.Status.{Status}
 use Rattle.xensched_top.specs.declared.status.Status.TheVariants as status
 use Rattle.work_file.specs.declared.fault.WorkFault.{WorkFault}
-use Rattle.xensched_top.specs.Files.{config_of, work_of, machine_of}
+use Rattle.xensched_top.specs.Files.{file_config, file_work, file_machine}
 use Rattle.command_line.specs.declared.command.Form.{Form}
 use Rattle.work_file.specs.Load.{load_domains, load_work}
 use Rattle.sched_check.specs.declared.verdict.Verdict.{Verdict}
@@ -47,16 +47,16 @@ work_bytes held (of_seed s processors domains) = Some (load_work s processors do
 -- the two texts make this machine, whose values have passed all checks; where the bytes of both are told, it is the one of these bytes
 pub record IsMade (held : BytesOf) (source : Source) (m : Machine) : Type 0 where
   pub checked : IsChecked m
-  pub by_texts : IfSome (domain_bytes held source) (λ domains. IfSome (work_bytes held source) (λ work. machine_of domains work ≡ Ok m))
+  pub by_texts : IfSome (domain_bytes held source) (λ domains. IfSome (work_bytes held source) (λ work. file_machine domains work ≡ Ok m))
 
 -- the domain file could not be read; or it was accepted, and the work file could not; what is made is never unread
 abbrev pub IsUnread : BytesOf → Counts → Counts → Source → Type 0
-IsUnread held old new (of_files names) = Rose (old names.0) (new names.0) ⊎ (IfSome (held names.0) (λ domains. IsOk (config_of domains)) × Rose (old names.1) (new names.1))
+IsUnread held old new (of_files names) = Rose (old names.0) (new names.0) ⊎ (IfSome (held names.0) (λ domains. IsOk (file_config domains)) × Rose (old names.1) (new names.1))
 IsUnread held old new (of_seed s processors domains) = ⊥
 
 -- the domain file is no TOML document
 abbrev pub IsNoToml : BytesOf → Source → Type 0
-IsNoToml held source = IfSome (domain_bytes held source) (λ domains. document domains ≡ None)
+IsNoToml held source = IfSome (domain_bytes held source) (λ domains. spelled_table domains ≡ None)
 
 -- the fault is one of a table
 abbrev pub IsOfTable : DomFault → Type 0
@@ -65,12 +65,12 @@ IsOfTable fault = ⊥
 
 -- the table of the domain file is refused with this fault
 abbrev pub IsBadTable : BytesOf → DomFault → Source → Type 0
-IsBadTable held fault source = IsOfTable fault × IfSome (domain_bytes held source) (λ domains. config_of domains ≡ Err fault)
+IsBadTable held fault source = IsOfTable fault × IfSome (domain_bytes held source) (λ domains. file_config domains ≡ Err fault)
 
 -- the domain file is accepted, and the work file is refused with this fault
 abbrev pub IsBadWork : BytesOf → WorkFault → Source → Type 0
 IsBadWork held fault source =
-    IfSome (domain_bytes held source) (λ domains. IfSome (work_bytes held source) (λ work. IsOkAnd (config_of domains) (λ config. work_of config work ≡ Err fault)))
+    IfSome (domain_bytes held source) (λ domains. IfSome (work_bytes held source) (λ work. IsOkAnd (file_config domains) (λ config. file_work config work ≡ Err fault)))
 
 -- why a file gives no bytes, by the status that is answered then: its count of faults before and after
 abbrev pub RefusesName : ℕ → ℕ → Status → Type 0
@@ -80,14 +80,14 @@ RefusesName old new answer = ⊥
 
 -- why the bytes of a domain file give no machine, by the status that is answered then
 abbrev pub RefusesTable : List ℕ → Status → Type 0
-RefusesTable bytes status.BadToml = document bytes ≡ None
-RefusesTable bytes (status.BadDomains fault) = IsOfTable fault × (config_of bytes ≡ Err fault)
+RefusesTable bytes status.BadToml = spelled_table bytes ≡ None
+RefusesTable bytes (status.BadDomains fault) = IsOfTable fault × (file_config bytes ≡ Err fault)
 RefusesTable bytes status.NoMemory = ⊤
 RefusesTable bytes answer = ⊥
 
 -- why the bytes of a work file give no workload, by the status that is answered then
 abbrev pub RefusesWork : Config → List ℕ → Status → Type 0
-RefusesWork config bytes (status.BadWork fault) = work_of config bytes ≡ Err fault
+RefusesWork config bytes (status.BadWork fault) = file_work config bytes ≡ Err fault
 RefusesWork config bytes status.NoMemory = ⊤
 RefusesWork config bytes answer = ⊥
 
@@ -179,7 +179,7 @@ IsNotRead old new (of_seed s processors domains) = ⊥
 -- the answer of a run of two texts whose bytes are told
 unfoldable pub IsAnswer : Bool → ℕ → BytesOf → Status → Source → Type 0
 IsAnswer ordered limit held answer source =
-    IfSome (domain_bytes held source) (λ domains. IfSome (work_bytes held source) (λ work. IsRunAnswer ordered limit answer (machine_of domains work)))
+    IfSome (domain_bytes held source) (λ domains. IfSome (work_bytes held source) (λ work. IsRunAnswer ordered limit answer (file_machine domains work)))
 
 -- the texts of the run's request make a machine, and of both this holds
 abbrev pub OfMachine : BytesOf → (Request → Machine → Type 0) → Request → Type 0
@@ -221,7 +221,7 @@ OfTexts P (judges ordered names schedule) = P (of_files names)
 
 -- both files are accepted, and the schedule could not be read
 abbrev pub IsUnreadSchedule : BytesOf → Counts → Counts → Names → List ℕ → Type 0
-IsUnreadSchedule held old new names schedule = IfSome (held names.0) (λ domains. IfSome (held names.1) (λ work. IsOk (machine_of domains work))) × Rose (old schedule) (new schedule)
+IsUnreadSchedule held old new names schedule = IfSome (held names.0) (λ domains. IfSome (held names.1) (λ work. IsOk (file_machine domains work))) × Rose (old schedule) (new schedule)
 
 -- a file that the task needs could not be read, and those before it are accepted
 abbrev pub LeavesUnread : BytesOf → Counts → Counts → Task → Type 0
@@ -250,7 +250,7 @@ abbrev pub Answers : BytesOf → Status → Task → Type 0
 Answers held answer (runs r) = IsAnswer r.ordered r.limit held answer r.source
 Answers held answer (writes text) = UnlessNoMemory status.Ok answer
 Answers held answer (judges ordered names schedule) =
-    IfSome (held names.0) (λ domains. IfSome (held names.1) (λ work. IfSome (held schedule) (λ bytes. IsJudged ordered bytes answer (machine_of domains work))))
+    IfSome (held names.0) (λ domains. IfSome (held names.1) (λ work. IfSome (held schedule) (λ bytes. IsJudged ordered bytes answer (file_machine domains work))))
 
 -- how a task ends, by the status that is answered then
 unfoldable pub Outcome : BytesOf → Counts → Counts → Option (List ℕ) → Option (List ℕ) → ℕ → ℕ → Task → Status → Type 0

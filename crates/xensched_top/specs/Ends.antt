@@ -14,6 +14,6 @@ HasEnded run_end.Finished ordered limit m entries = EndsWithin ordered limit m e
 HasEnded run_end.Full ordered limit m entries = FillsLimit ordered limit m entries
 
 -- the status of a run that ended so
-abbrev pub status_of : ℕ → RunEnd → Status
-status_of limit run_end.Finished = status.Ok
-status_of limit run_end.Full = status.Full limit
+abbrev pub run_status : ℕ → RunEnd → Status
+run_status limit run_end.Finished = status.Ok
+run_status limit run_end.Full = status.Full limit

@@ -1,7 +1,7 @@
 -- Options: words that stand in any order, each once.
 use Rattle.std.specs.Prelude.{◌≡◌, ℕ, ◌+◌, Bool, true, false, List, [], ◌∷◌, Option, Some, None, Result, Ok, Err, option_map, is_none, bytes_eq, codes, take, drop, if◌then◌else◌}
 use Rattle.std.specs.Option.{IfSome, option_map_or}
-use Rattle.sched_base.specs.Names.{is_name}
+use Rattle.sched_base.specs.Names.{is_valid_name}
 use Rattle.sched_model.specs.CheckedMachine.{IsCheckedWhich, IsGivenNumber}
 use Rattle.sched_model.specs.declared.command.Syntax.{Syntax}
 use Rattle.xl_words.specs.declared.options.NewPool.{NewPool}
@@ -126,7 +126,7 @@ rtds_open g = open_one g.dom + open_one g.vcpu + open_one g.period + open_one g.
 
 -- the values of the options are in their ranges
 pub record IsCheckedNewPool (g : NewPool) : Type 0 where
-  pub name : IfSome g.name (λ name. is_name name ≡ true)
+  pub name : IfSome g.name (λ name. is_valid_name name ≡ true)
 
 -- the same of those of a domain
 pub record IsCheckedCredit2OfDomain (g : Credit2OfDomain) : Type 0 where

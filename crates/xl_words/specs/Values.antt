@@ -2,7 +2,7 @@
 use Rattle.std.specs.Prelude.{ℕ, ◌+◌, ◌*◌, ◌-◌, ◌==◌, ◌&&◌, ◌||◌, Bool, true, false, List, [], ◌∷◌, Option, Some, None, option_map, length, bytes_eq, nat_le, codes, if◌then◌else◌}
 use Rattle.std.specs.Char.{is_ascii_digit}
 use Rattle.std.specs.List.{list_all, fold}
-use Rattle.sched_base.specs.Names.{is_name}
+use Rattle.sched_base.specs.Names.{is_valid_name}
 use Rattle.sched_model.specs.declared.command.Which.{Which}
 use Rattle.sched_model.specs.declared.command.Which.TheVariants.{Name, Number}
 use Rattle.sched_model.specs.declared.command.ArincEntry.{ArincEntry}
@@ -25,11 +25,11 @@ number_of word = if spells_number word then Some (decimal word) else None
 
 -- the name that a word spells
 abbrev pub name_of : List ℕ → Option (List ℕ)
-name_of word = if is_name word then Some word else None
+name_of word = if is_valid_name word then Some word else None
 
 -- a pool or a domain, by its name or its number
 abbrev pub which_of : List ℕ → Option Which
-which_of word = if is_name word then Some (Name word) else option_map Number (number_of word)
+which_of word = if is_valid_name word then Some (Name word) else option_map Number (number_of word)
 
 -- the index of a vCPU, or all of them
 abbrev pub vcpu_of : List ℕ → Option (Option ℕ)

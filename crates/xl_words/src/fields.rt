@@ -2,7 +2,7 @@
 
 ghost use Rattle.std.specs.Prelude.{◌≡◌, true, Ok, Err, MatchResult, IfOk};
 ghost use Rattle.std.specs.List.{All};
-ghost use Rattle.sched_base.specs.Names.{is_name};
+ghost use Rattle.sched_base.specs.Names.{is_valid_name};
 ghost use Rattle.sched_model.specs.CheckedMachine.{IsCheckedWhich, IsNumber, IsGivenNumber};
 ghost use Rattle.xl_words.specs.Parts.{words};
 ghost use Rattle.xl_words.specs.Values.{which_of, number_of, name_of};
@@ -50,7 +50,7 @@ pub(crate) fn name_at(place: u32, rest: &[u8]) -> Result<(Name, &[u8]), Syntax>
     ensures value { MatchResult result (λ found. field name_of place (words rest.now)
         ≡ Ok (found.0, words found.1.now)) (λ fault. field name_of place (words rest.now)
         ≡ Err fault) }
-    ensures checked { IfOk result (λ found. is_name found.0 ≡ true) }
+    ensures checked { IfOk result (λ found. is_valid_name found.0 ≡ true) }
 {
     let Some((word, rest)) = next_word(rest) else {
         return Err(Syntax { place });

@@ -1,5 +1,5 @@
 use Rattle.std.proofs.Common.{◌≡◌, ◌+◌, ◌-◌, ◌/◌, ◌<◌, ℕ, length, set, sym, subst, ◌∙◌, arith, rules}
-use Rattle.due_heap.specs.Winners.{winner}
+use Rattle.due_heap.specs.Winners.{node_winner}
 use Rattle.due_heap.proofs.Tree.{winner-inner, winner-leaf, winner-set_same}
 use Rattle.due_heap.proofs.Rise.{IsRising, rise_begins, rise_on, rise_ends, rise_rests}
 use Rattle.due_heap.proofs.settle.Goals as goal
@@ -41,7 +41,7 @@ returns-then-first-id c =
     let size = rising.size in
     let inner = rising.inner in
     let above = c.loop-k-test.true in
-    let stays : winner c.loop-k.winners (c.loop-k.k / 2) ≡ c.play_beside-first.result =
+    let stays : node_winner c.loop-k.winners (c.loop-k.k / 2) ≡ c.play_beside-first.result =
     winner-inner c.loop-k.winners (c.loop-k.k / 2) (omega (arith, size, inner)) ∙ c.if-winners-k.true
     in
     rise_rests c.args.id c.args.moments.now c.loop-k.invariant.0 c.loop-k.winners (c.loop-k.k / 2) rising (omega (arith, above))

@@ -1,6 +1,6 @@
 use Rattle.std.proofs.Common.{ℕ, ◌<◌, length, set, refl, ◌∙◌, ap, rules}
 use Rattle.std.specs.Prelude.{None}
-use Rattle.unit_places.specs.Places.{number_of, index_of as place_index}
+use Rattle.unit_places.specs.Places.{number_of, unit_index}
 use Rattle.unit_ring.specs.Lists as l
 use Rattle.unit_ring.specs.Lists.{Item, Lists, item, has_node, is_live, room_of, after_take, after_give, after_append}
 use Rattle.arrival_queue.specs.Tables.{all_items, has_number}
@@ -28,6 +28,6 @@ returns-clause-gone g c =
 pub returns-clause-tables : goal.returns-clause-tables
 returns-clause-tables g c =
     let f = found c.args.tables.now.ring c.args.u c.args.n c.requires.tables.apart c.requires.here in
-    same_queue (after_give (l.lists_without c.args.tables.now.ring c.args.n.0)) c.unlink.new.self (set c.args.tables.now.nodes.items (place_index c.args.u) None) (set c.args.tables.now.nodes.items c.index_of.result None) c.args.tables.now.keys.items c.args.tables.now.keys.items c.args.tables.now.arrivals.items c.args.tables.now.arrivals.items c.args.tables.now.fresh.items c.args.tables.now.fresh.items c.args.tables.now.next c.args.tables.now.next
+    same_queue (after_give (l.lists_without c.args.tables.now.ring c.args.n.0)) c.unlink.new.self (set c.args.tables.now.nodes.items (unit_index c.args.u) None) (set c.args.tables.now.nodes.items c.index_of.result None) c.args.tables.now.keys.items c.args.tables.now.keys.items c.args.tables.now.arrivals.items c.args.tables.now.arrivals.items c.args.tables.now.fresh.items c.args.tables.now.fresh.items c.args.tables.now.next c.args.tables.now.next
     c.unlink.ensures.after (ap (λ (k : ℕ). set c.args.tables.now.nodes.items k None) c.index_of.ensures.index) refl refl refl refl
     (take_kept c.args.tables.now.ring c.args.tables.now.nodes.items c.args.tables.now.keys.items c.args.tables.now.arrivals.items c.args.tables.now.fresh.items c.args.tables.now.next c.args.u c.args.n c.requires.tables f (found_place (length c.args.tables.now.arrivals.items) c.args.tables.now.next c.args.tables.now.arrivals.items c.args.tables.now.ring c.args.u c.args.n f c.requires.tables.tabled (search rules)))

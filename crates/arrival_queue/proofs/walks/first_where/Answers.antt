@@ -2,7 +2,7 @@ use Rattle.std.proofs.Common.{◌≡◌, ℕ, ◌+◌, ◌-◌, Bool, true, fals
 use Rattle.std.specs.Prelude.{Some}
 use Rattle.sched_base.specs.declared.UnitId.{UnitId}
 use Rattle.unit_ring.specs.Lists.{first_in}
-use Rattle.arrival_queue.specs.Filters.{has_domain as domain_in}
+use Rattle.arrival_queue.specs.Filters.{has_core_bit}
 use Rattle.arrival_queue.specs.Tables.{first_unit}
 use Rattle.arrival_queue.proofs.Walking.{stand, stand_live, stand_next, stand_unit, unit_more, unit_found}
 use Rattle.arrival_queue.proofs.walks.first_where.Goals as goal
@@ -20,7 +20,7 @@ next-at-requires g c =
 pub returns-then-has_domain-clause-unit : goal.returns-then-has_domain-clause-unit
 returns-then-has_domain-clause-unit g c =
     let k = c.loop-at.steps - c.first-at.new.steps in
-    let p : UnitId → Bool = λ u. domain_in c.args.allowed.0 u.dom.0 in
+    let p : UnitId → Bool = λ u. has_core_bit c.args.allowed.0 u.dom.0 in
     let there = stand c.args.ring.now k c.loop-at.at c.in-Some.n c.requires c.loop-at.invariant.stands c.in-Some.is in
     let is = c.unit-u.ensures ∙ stand_unit c.args.ring.now k c.in-Some.n there in
     let holds : p there.x.unit ≡ true = subst (λ (u : UnitId). p u ≡ true) is (sym c.if-has_domain.ensures) in
@@ -29,7 +29,7 @@ returns-then-has_domain-clause-unit g c =
 pub loop-at-preserved : goal.loop-at-preserved
 loop-at-preserved g c =
     let k = c.loop-at.steps - c.first-at.new.steps in
-    let p : UnitId → Bool = λ u. domain_in c.args.allowed.0 u.dom.0 in
+    let p : UnitId → Bool = λ u. has_core_bit c.args.allowed.0 u.dom.0 in
     let ring = c.args.ring.now in
     let there = stand ring k c.loop-at.at c.in-Some.n c.requires c.loop-at.invariant.stands c.in-Some.is in
     let is = c.unit-u.ensures ∙ stand_unit ring k c.in-Some.n there in

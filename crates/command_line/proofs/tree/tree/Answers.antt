@@ -1,8 +1,8 @@
-use Rattle.command_line.specs.Tree.{tree}
+use Rattle.command_line.specs.Tree.{command_tree}
 use Rattle.command_line.proofs.tree.tree.Goals as goal
 
 pub returns : goal.returns
-unfolding tree
+unfolding command_tree
 returns c =
     let first = c.with_command-program.ensures _ _ c.program.ensures c.run.ensures in
     let second = c.with_command-program-2.ensures _ _ first c.run-2.ensures in

@@ -1,7 +1,7 @@
 use Rattle.std.proofs.Common.{◌≡◌, take}
 use Rattle.std.specs.Prelude.{map}
-use Rattle.cpupool.specs.Tool.{entry_of}
+use Rattle.cpupool.specs.Tool.{domain_entry}
 use Rattle.cpupool.proofs.opening.opened_entries.Given as goal
 
 abbrev pub invariant-loop-d : goal.invariant-loop-d
-invariant-loop-d l = l.all.items ≡ map entry_of (take l.d-index l.domains)
+invariant-loop-d l = l.all.items ≡ map domain_entry (take l.d-index l.domains)

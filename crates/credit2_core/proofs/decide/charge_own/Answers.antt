@@ -3,7 +3,7 @@ use Rattle.std.specs.Prelude.{Some, option_map}
 use Rattle.sched_base.specs.declared.UnitId.{UnitId}
 use Rattle.sched_model.specs.declared.state.Credit2Records.{Credit2Records}
 use Rattle.sched_model.specs.Places.{at_place}
-use Rattle.sched_model.specs.Credit2.{max_weight}
+use Rattle.sched_model.specs.Credit2.{most_weight}
 use Rattle.sched_laws.proofs.EachPlace.{length_set}
 use Rattle.scheduler_records.specs.Bounds.{PoolFits, own_charged}
 use Rattle.scheduler_records.proofs.Ranges.{pool_in_range}
@@ -26,7 +26,7 @@ pub follow-requires-clause-few : goal.follow-requires-clause-few
 follow-requires-clause-few c =
     let records : Credit2Records = c.args.state.now.records in
     let u : UnitId = c.in-Some.u in
-    let f = own_charged (max_weight records) c.args.ask.now.at.0 u.n in
+    let f = own_charged (most_weight records) c.args.ask.now.at.0 u.n in
     let is = ap (λ (r : Credit2Records). length r.domains) (c.charge.ensures ∙ burn_cur-own u c.args.ask.now.at.0 records) in
     let long = length_set u.dom.0 (option_map f (at_place records.domains u.dom.0)) records.domains in
     let few = c.requires.sound.range.few in
@@ -36,9 +36,9 @@ pub follow-requires-clause-but : goal.follow-requires-clause-but
 follow-requires-clause-but c =
     let h : Credit2State = c.args.state.now in
     let u : UnitId = c.in-Some.u in
-    let f = own_charged (max_weight h.records) c.args.ask.now.at.0 u.n in
+    let f = own_charged (most_weight h.records) c.args.ask.now.at.0 u.n in
     subst (λ (r : Credit2Records). IsReadyBut u.dom.0 true r h.queue.units c.args.ready.now) (sym (c.charge.ensures ∙ burn_cur-own u c.args.ask.now.at.0 h.records))
-    (but_again u.dom.0 true f h.records h.queue.units c.args.ready.now (own_weight (max_weight h.records) c.args.ask.now.at.0 u.n) (but_of u.dom.0 true h c.args.ready.now c.requires.ready))
+    (but_again u.dom.0 true f h.records h.queue.units c.args.ready.now (own_weight (most_weight h.records) c.args.ask.now.at.0 u.n) (but_of u.dom.0 true h c.args.ready.now c.requires.ready))
 
 pub returns-in-Some-clause-fits : goal.returns-in-Some-clause-fits
 returns-in-Some-clause-fits c =

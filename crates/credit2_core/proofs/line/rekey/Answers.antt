@@ -2,7 +2,7 @@ use Rattle.std.proofs.Common.{◌≡◌, ◌∙◌, true, sym, ap, subst, refl, 
 use Rattle.std.specs.Int.{w128}
 use Rattle.std.proofs.lemmas.Int.{to_z-of_z}
 use Rattle.std.specs.Prelude.{ℤ, List}
-use Rattle.sched_model.specs.Credit2.{credit_of}
+use Rattle.sched_model.specs.Credit2.{unit_credit}
 use Rattle.runq.specs.Queue.{Queue, after_rekey}
 use Rattle.arrival_queue.specs.Queues.{Queued, has_unit, rank_in}
 use Rattle.credit2_core.specs.Keys.{KeysWhere, is_passed, key_in}
@@ -12,7 +12,7 @@ use Rattle.credit2_core.proofs.Rekeying.{keys_moved, keys_absent}
 use Rattle.credit2_core.proofs.line.rekey.Goals as goal
 use Rattle.queue_laws.proofs.Arrivals.{length-arrivals}
 
-rekeyed_is : (c : goal.After-rekey) → c.rekey.new.self ≡ after_rekey c.args.queue.now c.args.u (neg_ℤ (credit_of c.args.records.now c.args.u))
+rekeyed_is : (c : goal.After-rekey) → c.rekey.new.self ≡ after_rekey c.args.queue.now c.args.u (neg_ℤ (unit_credit c.args.records.now c.args.u))
 rekeyed_is c =
     let fits : FitsSigned w128 c.key_of.result = search rules in
     c.rekey.ensures ∙ ap (λ (k : ℤ). after_rekey c.args.queue.now c.args.u k) (to_z-of_z w128 c.key_of.result fits ∙ c.key_of.ensures)

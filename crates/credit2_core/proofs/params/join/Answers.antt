@@ -6,7 +6,7 @@ use Rattle.sched_base.specs.declared.Moment.{Moment}
 use Rattle.sched_base.specs.declared.UnitId.{UnitId}
 use Rattle.sched_model.specs.declared.state.Credit2Domain.{Credit2Domain}
 use Rattle.sched_model.specs.Places.{at_place, put_at}
-use Rattle.sched_model.specs.Credit2.{fresh_domain}
+use Rattle.sched_model.specs.Credit2.{fresh_credit2_domain}
 use Rattle.credit2_core.specs.declared.state.Credit2State.{Credit2State}
 use Rattle.credit2_core.specs.Places.{refill_of}
 use Rattle.credit2_core.specs.Domains.{refreshed_cores}
@@ -19,7 +19,7 @@ returns-clause-sound c =
     let h : Credit2State = c.args.state.now in
     let d = c.args.d.0 in
     let sets : List Cores = c.copies-sets.result in
-    let fresh : Credit2Domain = fresh_domain c.args.weight c.args.cap c.args.units c.args.t.0 in
+    let fresh : Credit2Domain = fresh_credit2_domain c.args.weight c.args.cap c.args.units c.args.t.0 in
     let domains : List (Option Credit2Domain) = put_at d fresh h.records.domains in
     let placed : c.set_place-2.new.places ≡ domains = c.set_place-2.ensures ∙ ap (λ (x : Credit2Domain). put_at d x h.records.domains) c.fresh_domain-domain.ensures in
     let refills : c.rearm.new.refills ≡ slice_set h.refills d (refill_of (at_place domains d)) =

@@ -4,7 +4,7 @@ use Rattle.sched_base.specs.declared.Moment.{Moment}
 use Rattle.sched_model.specs.declared.state.Credit2Records.{Credit2Records}
 use Rattle.sched_model.specs.declared.state.Credit2Domain.{Credit2Domain}
 use Rattle.sched_model.specs.Places.{at_place}
-use Rattle.sched_model.specs.Credit2.{set_domain}
+use Rattle.sched_model.specs.Credit2.{records_with_terms}
 use Rattle.credit2_core.specs.declared.state.Credit2State.{Credit2State}
 use Rattle.credit2_core.specs.Places.{refill_of}
 use Rattle.credit2_core.specs.Credit2State.{IsSound}
@@ -18,7 +18,7 @@ set_domain-requires-clause-fits c = shared_fits c.args.t.0 c.args.state.now.reco
 pub returns-clause-sound : goal.returns-clause-sound
 returns-clause-sound c =
     let h : Credit2State = c.args.state.now in
-    let next : Credit2Records = set_domain c.args.t.0 c.args.d.0 c.args.weight c.args.cap h.records in
+    let next : Credit2Records = records_with_terms c.args.t.0 c.args.d.0 c.args.weight c.args.cap h.records in
     let refills : c.rearm.new.refills ≡ slice_set h.refills c.args.d.0 (refill_of (at_place next.domains c.args.d.0)) =
     c.rearm.ensures ∙ ap (λ (ds : List (Option Credit2Domain)). slice_set h.refills c.args.d.0 (refill_of (at_place ds c.args.d.0))) (c.as_slice.ensures ∙ ap (λ (r : Credit2Records). r.domains) c.set_domain.ensures)
     in

@@ -4,13 +4,13 @@ use Rattle.std.specs.Prelude.{ℤ, List, Option, None, filter}
 use Rattle.std.proofs.lemmas.Int.{to_z-of_z}
 use Rattle.sched_base.specs.declared.UnitId.{UnitId}
 use Rattle.sched_model.specs.declared.state.Credit2Records.{Credit2Records}
-use Rattle.sched_model.specs.Credit2.{credit_of, domain_has_budget, greatest_unit}
+use Rattle.sched_model.specs.Credit2.{unit_credit, has_domain_budget, richest_unit}
 use Rattle.sched_ops.specs.Seen.{Seen}
 use Rattle.scheduler_records.specs.Parts.{credit2_scheduler}
-use Rattle.runq.specs.Queue.{Queue, after_insert, plain}
+use Rattle.runq.specs.Queue.{Queue, after_insert, single_key}
 use Rattle.arrival_queue.specs.Queues.{Queued}
 use Rattle.queue_laws.specs.Arrivals.{arrivals}
-use Rattle.credit2_core.specs.Choice.{first_with}
+use Rattle.credit2_core.specs.Choice.{first_with_unit}
 use Rattle.credit2_core.specs.declared.state.Credit2State.{Credit2State}
 use Rattle.credit2_core.specs.Credit2State.{IsSound}
 use Rattle.credit2_core.proofs.Keeping.{sound_pushed}
@@ -19,7 +19,7 @@ use Rattle.credit2_core.proofs.Kept.{greatest_more}
 use Rattle.credit2_core.proofs.Waiting.{IsOrdered, first_greatest, has_arrived, placed_arrivals}
 use Rattle.credit2_core.proofs.queue.enqueue.Goals as goal
 
-inserted_is : (c : goal.After-ready-1) → c.insert.new.self ≡ after_insert c.args.state.now.queue c.args.u (neg_ℤ (credit_of c.args.state.now.records c.args.u))
+inserted_is : (c : goal.After-ready-1) → c.insert.new.self ≡ after_insert c.args.state.now.queue c.args.u (neg_ℤ (unit_credit c.args.state.now.records c.args.u))
 inserted_is c =
     let fits : FitsSigned w128 c.key_of-key.result = search rules in
     c.insert.ensures ∙ ap (λ (k : ℤ). after_insert c.args.state.now.queue c.args.u k) (to_z-of_z w128 c.key_of-key.result fits ∙ c.key_of-key.ensures)
@@ -42,7 +42,7 @@ ordered c = record { order = c.law_order.ensures.order; ranks = c.law_order.ensu
 
 -- the unit arrived behind all others
 order_is : (c : goal.After-ready-1) → arrivals c.insert.new.self.units ≡ arrivals c.args.state.now.queue.units ++ c.args.u ∷ []
-order_is c = ap (λ (q : Queue). arrivals q.units) (inserted_is c) ∙ placed_arrivals c.args.u (plain (neg_ℤ (credit_of c.args.state.now.records c.args.u))) c.args.state.now.queue.units (ordered c)
+order_is c = ap (λ (q : Queue). arrivals q.units) (inserted_is c) ∙ placed_arrivals c.args.u (single_key (neg_ℤ (unit_credit c.args.state.now.records c.args.u))) c.args.state.now.queue.units (ordered c)
 
 sound_is : (c : goal.After-ready-1) → IsSound (record c.args.state.now { queue = c.insert.new.self })
 sound_is c =
@@ -60,18 +60,18 @@ pub returns-clause-ready : goal.returns-clause-ready
 returns-clause-ready c =
     let h : Credit2State = c.args.state.now in
     let records : Credit2Records = h.records in
-    let p : UnitId → Bool = domain_has_budget records in
+    let p : UnitId → Bool = has_domain_budget records in
     let es : List Queued = h.queue.units in
     let ds : List Queued = c.insert.new.self.units in
     let after : IsOrdered ds = record { order = c.law_order-2.ensures.order; ranks = c.law_order-2.ensures.ranks; units = c.law_order-2.ensures.units } in
-    let before : c.args.ready.now.first ≡ greatest_unit records None (filter p (arrivals es)) = c.requires.ready.first ∙ first_greatest records p es (ordered c) c.requires.sound.line.keys in
+    let before : c.args.ready.now.first ≡ richest_unit records None (filter p (arrivals es)) = c.requires.ready.first ∙ first_greatest records p es (ordered c) c.requires.sound.line.keys in
     record {
       domains = c.requires.ready.domains;
       first = c.first_with-ready.ensures
-          ∙ ap (λ (b : Bool). first_with records b c.args.ready.now.first c.args.u) (c.requires.ready.domains.each c.args.u.dom.0)
-          ∙ ap (λ (o : Option UnitId). first_with records (p c.args.u) o c.args.u) before
+          ∙ ap (λ (b : Bool). first_with_unit records b c.args.ready.now.first c.args.u) (c.requires.ready.domains.each c.args.u.dom.0)
+          ∙ ap (λ (o : Option UnitId). first_with_unit records (p c.args.u) o c.args.u) before
           ∙ sym (greatest_more records p c.args.u None (arrivals es))
-          ∙ ap (λ (units : List UnitId). greatest_unit records None (filter p units)) (sym (order_is c))
+          ∙ ap (λ (units : List UnitId). richest_unit records None (filter p units)) (sym (order_is c))
           ∙ sym (first_greatest records p ds after (sound_is c).line.keys);
       most = c.requires.ready.most;
     }

@@ -8,7 +8,7 @@ use Rattle.sched_model.specs.Credit2.{refilled_pool}
 use Rattle.credit2_core.specs.declared.state.Credit2State.{Credit2State}
 use Rattle.credit2_core.specs.Places.{refill_of}
 use Rattle.credit2_core.specs.Credit2State.{IsSound}
-use Rattle.sched_model.specs.Credit2.{max_weight, refill_domain}
+use Rattle.sched_model.specs.Credit2.{most_weight, domain_after_refill}
 use Rattle.std.proofs.Common.{true, refl}
 use Rattle.credit2_core.specs.Whole.{IsReadyBut}
 use Rattle.credit2_core.proofs.Kept.{but_of, but_again}
@@ -34,4 +34,4 @@ pub follow-requires-clause-but : goal.follow-requires-clause-but
 follow-requires-clause-but c =
     let h : Credit2State = c.args.state.now in
     subst (λ (r : Credit2Records). IsReadyBut c.args.d.0 true r h.queue.units c.args.ready.now) (sym c.refill.ensures)
-    (but_again c.args.d.0 true (refill_domain (max_weight h.records) c.args.t.0) h.records h.queue.units c.args.ready.now (λ x. refl) (but_of c.args.d.0 true h c.args.ready.now c.requires.ready))
+    (but_again c.args.d.0 true (domain_after_refill (most_weight h.records) c.args.t.0) h.records h.queue.units c.args.ready.now (λ x. refl) (but_of c.args.d.0 true h c.args.ready.now c.requires.ready))

@@ -4,7 +4,7 @@ use Rattle.sched_base.specs.Numbers.{domain}
 use Rattle.sched_base.specs.declared.Moment.{Moment}
 use Rattle.sched_model.specs.declared.state.Credit2Domain.{Credit2Domain}
 use Rattle.sched_model.specs.Places.{at_place, numbered_items}
-use Rattle.sched_ops.specs.Timers.{Armed, refills, first_due, soonest_timer}
+use Rattle.sched_ops.specs.Timers.{Armed, refills, first_due_timer, soonest_timer}
 use Rattle.sched_ops.specs.declared.timer.Timer.TheVariants.{Refill}
 use Rattle.due_heap.specs.Dues.{GoesFirst}
 use Rattle.credit2_core.specs.Places.{refill_of}
@@ -25,7 +25,7 @@ returns-in-None c =
     let domains : List (Option Credit2Domain) = h.records.domains in
     let none : (i : ℕ) (at : Moment) → refill_of (at_place domains i) ≡ Some at → ⊥ = λ i at is. c.in-None.ensures.none i at (ap (λ (rs : List (Option Moment)). slice_index_or rs i None) c.requires.refills ∙ due_is domains i ∙ is) in
     let empty : refills (numbered_items 0 domains) ≡ [] = none_armed c.args.t.0 0 domains none in
-    ap (λ (xs : List Armed). first_or (first_due c.args.t.0 xs) (soonest_timer None xs)) (sym empty)
+    ap (λ (xs : List Armed). first_or (first_due_timer c.args.t.0 xs) (soonest_timer None xs)) (sym empty)
 
 pub returns-then-at-t : goal.returns-then-at-t
 returns-then-at-t c =
@@ -35,7 +35,7 @@ returns-then-at-t c =
     let is : refill_of (at_place domains c.in-Some.d) ≡ Some c.in-Some.at = sym (same c.in-Some.d) ∙ c.in-Some.ensures.armed in
     let first : (j : ℕ) (b : Moment) → refill_of (at_place domains j) ≡ Some b → GoesFirst c.in-Some.at c.in-Some.d b j = λ j b here. c.in-Some.ensures.first j b (same j ∙ here) in
     let after : c.args.t.0 < c.in-Some.at.0 = c.if-at-t.true in
-    let none : first_due c.args.t.0 (refills (numbered_items 0 domains)) ≡ None = none_due c.args.t.0 0 domains (λ i at here. (let g = (first i at here).by_moment in omega (arith, after, g))) in
+    let none : first_due_timer c.args.t.0 (refills (numbered_items 0 domains)) ≡ None = none_due c.args.t.0 0 domains (λ i at here. (let g = (first i at here).by_moment in omega (arith, after, g))) in
     let soon : soonest_timer None (refills (numbered_items 0 domains)) ≡ Some (c.in-Some.at, Refill (domain (0 + c.in-Some.d))) = soonest_is 0 None domains c.in-Some.d c.in-Some.at is first tt in
     ap (λ (k : ℕ). Some (c.in-Some.at, Refill (domain k))) (omega arith) ∙ sym soon ∙ ap (λ (o : Option Armed). first_or o (soonest_timer None (refills (numbered_items 0 domains)))) (sym none)
 
@@ -45,5 +45,5 @@ returns-else-at-t c =
     let domains : List (Option Credit2Domain) = h.records.domains in
     let is : refill_of (at_place domains c.in-Some.d) ≡ Some c.in-Some.at = sym (ap (λ (rs : List (Option Moment)). slice_index_or rs c.in-Some.d None) c.requires.refills ∙ due_is domains c.in-Some.d) ∙ c.in-Some.ensures.armed in
     let come : c.in-Some.at.0 ≤ c.args.t.0 = c.if-at-t.false in
-    let found : c.first_due.result ≡ first_due c.args.t.0 (refills (numbered_items 0 domains)) = c.first_due.ensures ∙ ap (λ (ds : List (Option Credit2Domain)). first_due c.args.t.0 (refills (numbered_items 0 ds))) c.as_slice.ensures in
-    found ∙ first_some (first_due c.args.t.0 (refills (numbered_items 0 domains))) (soonest_timer None (refills (numbered_items 0 domains))) (some_due c.args.t.0 0 domains c.in-Some.d c.in-Some.at is come)
+    let found : c.first_due.result ≡ first_due_timer c.args.t.0 (refills (numbered_items 0 domains)) = c.first_due.ensures ∙ ap (λ (ds : List (Option Credit2Domain)). first_due_timer c.args.t.0 (refills (numbered_items 0 ds))) c.as_slice.ensures in
+    found ∙ first_some (first_due_timer c.args.t.0 (refills (numbered_items 0 domains))) (soonest_timer None (refills (numbered_items 0 domains))) (some_due c.args.t.0 0 domains c.in-Some.d c.in-Some.at is come)

@@ -4,10 +4,10 @@ use Rattle.std.proofs.lemmas.Bool.{cases_Bool, false≢true}
 use Rattle.std.proofs.lemmas.Str.{IsUtf8-from_is_utf8, is_utf8-from_IsUtf8}
 use Rattle.toml.specs.Parse.{parse_document}
 use Rattle.toml.specs.Errors.{IsMemory}
-use Rattle.dom_file.specs.Configs.{document}
+use Rattle.dom_file.specs.Configs.{spelled_table}
 use Rattle.dom_file.proofs.read.document.Goals as goal
 
-refused : (bytes : List ℕ) → (IsUtf8 bytes → parse_document bytes ≡ None) → document bytes ≡ None
+refused : (bytes : List ℕ) → (IsUtf8 bytes → parse_document bytes ≡ None) → spelled_table bytes ≡ None
 refused bytes none = elim (cases_Bool (is_utf8 bytes)) [
   | inl text ↦ rw (text, none (IsUtf8-from_is_utf8 bytes text)) refl
   | inr other ↦ rw other refl

@@ -1,5 +1,5 @@
 use Rattle.std.proofs.Common.{◌≡◌, ◌∙◌, subst, sym, true}
-use Rattle.sched_ops.specs.Conditions.{has_joined}
+use Rattle.sched_ops.specs.Conditions.{has_joined_domain}
 use Rattle.sched_ops.specs.Seen.{units_of}
 use Rattle.pool_core.specs.Seen.{Seen}
 use Rattle.machine_opening.specs.OpeningPool.{IsStill}
@@ -15,7 +15,7 @@ returns-clause-still g c = subst IsStill (sym (returns-clause-after g c)) (recor
 
 pub returns-clause-joined : goal.returns-clause-joined
 returns-clause-joined g c =
-    subst (λ (s : Seen). has_joined s.pool.scheduler c.args.d.0 ≡ true) (sym (returns-clause-after g c)) (still_joined c.args.d.0 c.args.n c.args.cores c.args.pool.now.pool ∙ c.requires.joined)
+    subst (λ (s : Seen). has_joined_domain s.pool.scheduler c.args.d.0 ≡ true) (sym (returns-clause-after g c)) (still_joined c.args.d.0 c.args.n c.args.cores c.args.pool.now.pool ∙ c.requires.joined)
 
 pub returns-clause-units : goal.returns-clause-units
 returns-clause-units g c =

@@ -1,5 +1,5 @@
 use Rattle.std.proofs.Common.{◌≡◌, ◌≤◌, ◌∙◌, ap, sym, subst, arith}
-use Rattle.sched_model.specs.Policy.{kind_of}
+use Rattle.sched_model.specs.Policy.{records_kind}
 use Rattle.pool_core.specs.Seen.{Seen}
 use Rattle.machine_opening.proofs.Joining.{few_at_home}
 use Rattle.machine_opening.proofs.Parameters.{pool_fits}
@@ -10,7 +10,7 @@ use Rattle.sched_laws.proofs.Records.{kind_default}
 
 pub open-requires-clause-params : goal.open-requires-clause-params
 open-requires-clause-params g c =
-    let kind : kind_of c.in_ok-pool.pool.pool.scheduler.records ≡ c.args.home.now.kind = ap (λ (s : Seen). kind_of s.pool.scheduler.records) c.in_ok-pool.ensures ∙ kind_default _ _ _ ∙ c.requires.kind in
+    let kind : records_kind c.in_ok-pool.pool.pool.scheduler.records ≡ c.args.home.now.kind = ap (λ (s : Seen). records_kind s.pool.scheduler.records) c.in_ok-pool.ensures ∙ kind_default _ _ _ ∙ c.requires.kind in
     rw kind (pool_fits c.args.config.now c.args.home.now c.args.i c.requires.home c.requires.config)
 
 pub join_all-requires-clause-opening : goal.join_all-requires-clause-opening

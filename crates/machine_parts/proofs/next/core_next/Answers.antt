@@ -1,7 +1,7 @@
 use Rattle.std.proofs.Common.{◌≡◌, ◌<◌, ℕ, length, subst, sym, ap, ◌∙◌}
 use Rattle.std.proofs.lemmas.List.{get_or_default}
 use Rattle.std.specs.Prelude.{Option, None, Some}
-use Rattle.sched_model.specs.Actions.{home_of_core}
+use Rattle.sched_model.specs.Actions.{home_pool_of_core}
 use Rattle.sched_model.specs.Places.{at_place}
 use Rattle.pool_core.specs.Seen.{Seen}
 use Rattle.machine_parts.specs.Places.{state_of}
@@ -12,7 +12,7 @@ use Rattle.machine_parts.proofs.next.core_next.Goals as goal
 pub bounds-slots-from : goal.bounds-slots-from
 bounds-slots-from c =
     let w = c.args.at.now in
-    let home : home_of_core (state_of w) c.args.r.0 ≡ Some c.in-Some.i.0 = number-of _ c.in-Some.i (sym (c.home_of_core.ensures w.input (state_of w) c.requires.parts.known) ∙ c.in-Some.is) in
+    let home : home_pool_of_core (state_of w) c.args.r.0 ≡ Some c.in-Some.i.0 = number-of _ c.in-Some.i (sym (c.home_of_core.ensures w.input (state_of w) c.requires.parts.known) ∙ c.in-Some.is) in
     subst (λ (k : ℕ). k < length c.args.slots.now) (sym c.from.ensures) (core_below w c.args.slots.now c.args.tool.now c.requires.parts c.args.r.0 c.in-Some.i.0 home)
 
 -- without a home it leaves none
@@ -25,7 +25,7 @@ returns-in-None c =
 pub returns-in-Some : goal.returns-in-Some
 returns-in-Some c =
     let w = c.args.at.now in
-    let home : home_of_core (state_of w) c.args.r.0 ≡ Some c.in-Some.i.0 = number-of _ c.in-Some.i (sym (c.home_of_core.ensures w.input (state_of w) c.requires.parts.known) ∙ c.in-Some.is) in
+    let home : home_pool_of_core (state_of w) c.args.r.0 ≡ Some c.in-Some.i.0 = number-of _ c.in-Some.i (sym (c.home_of_core.ensures w.input (state_of w) c.requires.parts.known) ∙ c.in-Some.is) in
     let low : c.in-Some.i.0 < length c.args.slots.now = core_below w c.args.slots.now c.args.tool.now c.requires.parts c.args.r.0 c.in-Some.i.0 home in
     let low_read : c.from.result < length c.args.slots.now = subst (λ (k : ℕ). k < length c.args.slots.now) (sym c.from.ensures) low in
     let read : at_place c.args.slots.now c.in-Some.i.0 ≡ c.index-slots-from.result =

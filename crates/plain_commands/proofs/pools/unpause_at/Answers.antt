@@ -1,5 +1,5 @@
 use Rattle.std.proofs.Common.{refl}
-use Rattle.sched_model.specs.Pool.{unpause}
+use Rattle.sched_model.specs.Pool.{unpaused_pool}
 use Rattle.pool_records.specs.Fits.{PoolFits}
 use Rattle.plain_opening.specs.OpeningPool.{FewWait}
 use Rattle.plain_commands.proofs.Items.{changed-item}
@@ -11,4 +11,4 @@ unpause-requires-clause-fits c = place_fits PoolFits c.args.pools.now c.args.i c
 
 pub unpause-requires-clause-room : goal.unpause-requires-clause-room
 unpause-requires-clause-room c =
-    changed-item FewWait (unpause c.args.g c.args.d.0) c.args.pools.now c.args.i c.in-Some.place.now c.in-Some-place.pool c.requires.room (c.in-Some.ensures.some.0 refl) c.in-Some.ensures.value c.in-Some-place.is
+    changed-item FewWait (unpaused_pool c.args.g c.args.d.0) c.args.pools.now c.args.i c.in-Some.place.now c.in-Some-place.pool c.requires.room (c.in-Some.ensures.some.0 refl) c.in-Some.ensures.value c.in-Some-place.is

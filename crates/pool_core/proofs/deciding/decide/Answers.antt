@@ -12,7 +12,7 @@ use Rattle.sched_model.specs.declared.state.Resource.{Resource}
 use Rattle.sched_model.specs.EligibleUnits.{Decision}
 use Rattle.sched_model.specs.Places.{change_at}
 use Rattle.sched_model.specs.Policy.{after_decision, decision_of}
-use Rattle.sched_model.specs.Pool.{after_decide, ask_of, lateness}
+use Rattle.sched_model.specs.Pool.{after_decide, core_ask, lateness}
 use Rattle.sched_ops.specs.Seen.{Seen as SchedulerSeen}
 use Rattle.core_state.specs.Seen.{Seen as CoresSeen, changed_core, chosen_core}
 use Rattle.sched_laws.proofs.EachPlace.{place_below}
@@ -36,8 +36,8 @@ returns-clause-event g c =
     let pool : Pool = pool_of c.args.guests.now c.args.cores.now s in
     let core = c.in-Some.c.now in
     let choice = c.choose-choice.result in
-    let asked : c.ask_of-ask.result ≡ ask_of k c.args.t.0 pool c.args.r.0 core = c.ask_of-ask.ensures ∙ ap (λ (home : Cores). record (ask_of k c.args.t.0 pool c.args.r.0 core) { home = home }) c.home.ensures in
-    let made : Option Resource → Decision = λ o. elim o as (λ _. Decision) [ None ↦ record { unit = None; due = None; reset = 0; records = s.scheduler.records } | Some x ↦ decision_of (ask_of k c.args.t.0 pool c.args.r.0 x) s.scheduler ] in
+    let asked : c.ask_of-ask.result ≡ core_ask k c.args.t.0 pool c.args.r.0 core = c.ask_of-ask.ensures ∙ ap (λ (home : Cores). record (core_ask k c.args.t.0 pool c.args.r.0 core) { home = home }) c.home.ensures in
+    let made : Option Resource → Decision = λ o. elim o as (λ _. Decision) [ None ↦ record { unit = None; due = None; reset = 0; records = s.scheduler.records } | Some x ↦ decision_of (core_ask k c.args.t.0 pool c.args.r.0 x) s.scheduler ] in
     let late : Option Resource → Span = λ o. elim o as (λ _. Span) [ None ↦ span 0 | Some x ↦ span (lateness c.args.t.0 x) ] in
     let unit : choice.unit ≡ (made (Some core)).unit = c.choose-choice.ensures.answer.unit ∙ ap (λ (a : Ask). (decision_of a s.scheduler).unit) asked in
     let due : choice.due ≡ (made (Some core)).due = c.choose-choice.ensures.answer.due ∙ ap (λ (a : Ask). (decision_of a s.scheduler).due) asked in
@@ -58,8 +58,8 @@ returns-clause-pool g c =
     let pool : Pool = pool_of c.args.guests.now cores s in
     let core = c.in-Some.c.now in
     let choice = c.choose-choice.result in
-    let asked : c.ask_of-ask.result ≡ ask_of k t pool r core = c.ask_of-ask.ensures ∙ ap (λ (home : Cores). record (ask_of k t pool r core) { home = home }) c.home.ensures in
-    let made : Decision = decision_of (ask_of k t pool r core) s.scheduler in
+    let asked : c.ask_of-ask.result ≡ core_ask k t pool r core = c.ask_of-ask.ensures ∙ ap (λ (home : Cores). record (core_ask k t pool r core) { home = home }) c.home.ensures in
+    let made : Decision = decision_of (core_ask k t pool r core) s.scheduler in
     let unit : choice.unit ≡ made.unit = c.choose-choice.ensures.answer.unit ∙ ap (λ (a : Ask). (decision_of a s.scheduler).unit) asked in
     let due : choice.due ≡ made.due = c.choose-choice.ensures.answer.due ∙ ap (λ (a : Ask). (decision_of a s.scheduler).due) asked in
     subst (λ (o : Option Resource). pool_of c.args.guests.now c.decide.new.self (g.P.Policy.seen c.choose-choice.new.self) ≡ elim o as (λ _. Pool) [ None ↦ pool | Some x ↦ after_decide k t r x pool ]) c.in-Some.ensures

@@ -3,7 +3,7 @@ use Rattle.sched_model.specs.declared.state.Pool.{Pool}
 use Rattle.sched_model.specs.declared.state.Scheduler.{Scheduler}
 use Rattle.sched_model.specs.Places.{put_at}
 use Rattle.sched_model.specs.Policy as policy
-use Rattle.sched_model.specs.Pool.{unit_count}
+use Rattle.sched_model.specs.Pool.{domain_unit_count}
 use Rattle.policy_laws.proofs.Members.{joined}
 use Rattle.unit_state.specs.Seen as guests
 use Rattle.pool_core.specs.Domains.{MayQueue}
@@ -15,9 +15,9 @@ use Rattle.pool_core.proofs.domains.join.Goals as goal
 pub queue_units-requires : goal.queue_units-requires
 queue_units-requires g c =
     let before : Pool = pool_of c.args.guests.now c.args.cores.now (g.P.Policy.seen c.args.policy.now) in
-    let count : c.unit_count-count.result ≡ unit_count c.args.guests.now.granularity c.args.part.domain = c.unit_count-count.ensures.count ∙ ap (λ (k : ℕ). unit_count k c.args.part.domain) c.requires.granularity in
-    let scheduler : (g.P.Policy.seen c.join.new.self).scheduler ≡ policy.join c.args.part.d.0 (unit_count c.args.guests.now.granularity c.args.part.domain) c.args.params.now c.args.t.0 (g.P.Policy.seen c.args.policy.now).scheduler =
-    c.join.ensures.scheduler ∙ ap (λ (k : ℕ). policy.join c.args.part.d.0 k c.args.params.now c.args.t.0 (g.P.Policy.seen c.args.policy.now).scheduler) count in
+    let count : c.unit_count-count.result ≡ domain_unit_count c.args.guests.now.granularity c.args.part.domain = c.unit_count-count.ensures.count ∙ ap (λ (k : ℕ). domain_unit_count k c.args.part.domain) c.requires.granularity in
+    let scheduler : (g.P.Policy.seen c.join.new.self).scheduler ≡ policy.joined_scheduler c.args.part.d.0 (domain_unit_count c.args.guests.now.granularity c.args.part.domain) c.args.params.now c.args.t.0 (g.P.Policy.seen c.args.policy.now).scheduler =
+    c.join.ensures.scheduler ∙ ap (λ (k : ℕ). policy.joined_scheduler c.args.part.d.0 k c.args.params.now c.args.t.0 (g.P.Policy.seen c.args.policy.now).scheduler) count in
     let after : pool_of c.add.new.self c.args.cores.now (g.P.Policy.seen c.join.new.self) ≡ joined c.args.guests.now.granularity c.args.t.0 c.args.part.d.0 c.args.part.domain c.args.params.now before =
     ap (λ (x : guests.Seen). pool_of x c.args.cores.now (g.P.Policy.seen c.join.new.self)) c.add.ensures
     ∙ ap (λ (s : Scheduler). record before { domains = put_at c.args.part.d.0 c.args.part.domain c.args.guests.now.domains; scheduler = s }) scheduler in

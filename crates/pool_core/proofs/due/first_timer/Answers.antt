@@ -1,8 +1,8 @@
 use Rattle.std.proofs.Common.{◌≡◌, ◌∙◌, true, sym, ap, subst}
 use Rattle.sched_model.specs.declared.action.Action.{Action}
 use Rattle.sched_model.specs.declared.state.Pool.{Pool}
-use Rattle.sched_base.specs.Numbers.{has_come}
-use Rattle.pool_laws.specs.ReadyMoments.{lowest_end}
+use Rattle.sched_base.specs.Numbers.{has_moment_come}
+use Rattle.pool_laws.specs.ReadyMoments.{lowest_stall_end}
 use Rattle.policy_laws.proofs.TimerLaw as law
 use Rattle.pool_core.specs.Order.{IsFirstOf, is_any}
 use Rattle.pool_core.specs.Seen.{pool_of}
@@ -12,13 +12,13 @@ use Rattle.pool_core.proofs.due.first_timer.Goals as goal
 pub returns-in-None : goal.returns-in-None
 returns-in-None g c granularity guests on =
     let pool : Pool = pool_of guests c.args.cores.now (g.P.Policy.seen c.args.policy.now) in
-    no_timer_due granularity c.args.t.0 pool on (λ x. ap (has_come c.args.t.0) (law.none c.args.t.0 pool.scheduler (sym c.timer_due.ensures ∙ c.in-None.is) x))
+    no_timer_due granularity c.args.t.0 pool on (λ x. ap (has_moment_come c.args.t.0) (law.none c.args.t.0 pool.scheduler (sym c.timer_due.ensures ∙ c.in-None.is) x))
 
 pub returns-then-at-t : goal.returns-then-at-t
 returns-then-at-t g c granularity guests on =
     let pool : Pool = pool_of guests c.args.cores.now (g.P.Policy.seen c.args.policy.now) in
     let is = sym c.timer_due.ensures ∙ c.in-Some.is in
-    let up : has_come c.args.t.0 (lowest_end pool) ≡ true = ap (has_come c.args.t.0) (sym c.lowest_end.ensures) ∙ sym c.has_come.ensures ∙ c.if-not-has_come.false in
+    let up : has_moment_come c.args.t.0 (lowest_stall_end pool) ≡ true = ap (has_moment_come c.args.t.0) (sym c.lowest_end.ensures) ∙ sym c.has_come.ensures ∙ c.if-not-has_come.false in
     subst (λ (a : Action). IsFirstOf is_any 7 9 granularity c.args.t.0 pool a) (sym c.action_of.ensures)
     (first_timer granularity c.args.t.0 pool on c.in-Some.timer
     (timer_come c.args.t.0 pool.scheduler (c.in-Some.at, c.in-Some.timer) is c.if-at-t.true) up (timers_first c.args.t.0 pool.scheduler (c.in-Some.at, c.in-Some.timer) is))

@@ -3,7 +3,7 @@ use Rattle.std.specs.Prelude.{Some}
 use Rattle.sched_base.specs.declared.UnitId.{UnitId}
 use Rattle.sched_model.specs.declared.state.Resource.{Resource}
 use Rattle.sched_model.specs.Places.{first_place, is_unit}
-use Rattle.sched_model.specs.Pool.{unit_of}
+use Rattle.sched_model.specs.Pool.{vcpu_unit}
 use Rattle.core_state.proofs.ChangeLemmas.{first_below}
 use Rattle.pool_core.specs.Seen.{pool_of}
 use Rattle.pool_core.specs.Wakes.{idles_among}
@@ -26,8 +26,8 @@ overflow_add-p c =
 
 pub returns-else-is_idle_at-clause-pool : goal.returns-else-is_idle_at-clause-pool
 returns-else-is_idle_at-clause-pool c s =
-    let unit : c.unit_of.result ≡ unit_of c.args.guests.now.granularity c.args.v = c.unit_of.ensures ∙ ap (λ (k : ℕ). unit_of k c.args.v) c.granularity-g.ensures in
-    let own : first_place 0 (λ (x : Resource). is_unit x.cur (unit_of c.args.guests.now.granularity c.args.v)) c.args.cores.now.resources ≡ Some c.in-Some.r =
+    let unit : c.unit_of.result ≡ vcpu_unit c.args.guests.now.granularity c.args.v = c.unit_of.ensures ∙ ap (λ (k : ℕ). vcpu_unit k c.args.v) c.granularity-g.ensures in
+    let own : first_place 0 (λ (x : Resource). is_unit x.cur (vcpu_unit c.args.guests.now.granularity c.args.v)) c.args.cores.now.resources ≡ Some c.in-Some.r =
     ap (λ (u : UnitId). first_place 0 (λ (x : Resource). is_unit x.cur u) c.args.cores.now.resources) (sym unit) ∙ sym c.in-Some.ensures in
     let busy : idles_among c.args.guests.now.granularity c.args.cores.now.resources (c.in-Some.r * c.args.guests.now.granularity + c.args.v.n % c.args.guests.now.granularity) ≡ false =
     subst (λ (k : ℕ). idles_among k c.args.cores.now.resources (c.in-Some.r * c.args.guests.now.granularity + c.args.v.n % c.args.guests.now.granularity) ≡ false) c.requires.same

@@ -1,7 +1,7 @@
 use Rattle.std.proofs.Common.{◌≡◌, ◌∙◌, ap, sym}
 use Rattle.sched_model.specs.declared.facts.Facts.{Facts}
 use Rattle.sched_model.specs.declared.facts.Subject.{Subject}
-use Rattle.cpupool.specs.Facts.{facts_of, rate_at, stored_at}
+use Rattle.cpupool.specs.Facts.{command_facts, subject_rate, subject_stored}
 use Rattle.cpupool.specs.Tool.{tool_of}
 use Rattle.sched_plain.proofs.Bridges.{stands-pool}
 use Rattle.cpupool.proofs.FactLemmas.{facts-kept}
@@ -19,6 +19,6 @@ returns-clause-verdict c =
     let m = c.args.m.now in
     let s = c.args.s.now in
     let read : tool_of m s ≡ c.read.new.self = sym (c.requires.tool s) ∙ sym c.read.ensures in
-    let by : Subject → Facts = λ x. record { rate = rate_at s x; units = stored_at m.config.granularity s x } in
-    let facts : facts_of m s c.args.c.now ≡ c.facts_at-facts.result = sym (c.facts_at-facts.ensures ∙ ap by (c.subject-subject.ensures m s read)) in
+    let by : Subject → Facts = λ x. record { rate = subject_rate s x; units = subject_stored m.config.granularity s x } in
+    let facts : command_facts m s c.args.c.now ≡ c.facts_at-facts.result = sym (c.facts_at-facts.ensures ∙ ap by (c.subject-subject.ensures m s read)) in
     c.judge.ensures m s read facts (facts-kept m s c.args.c.now (stands-recorded m s c.requires.stands))

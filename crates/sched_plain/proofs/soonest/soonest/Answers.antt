@@ -6,8 +6,8 @@ use Rattle.sched_model.specs.declared.state.Pool.{Pool}
 use Rattle.sched_model.specs.declared.state.State.{State}
 use Rattle.sched_model.specs.Places.{numbered_items}
 use Rattle.sched_laws.specs.EachPlace.{EachPlace}
-use Rattle.plain_pool.specs.Ready.{AreWhole, IsLeastWith, ScanFits, lesser}
-use Rattle.sched_plain.specs.Soonest.{IsReadyAmong, command_ready, last_moment, least_of_free, stall_ready}
+use Rattle.plain_pool.specs.Ready.{AreWhole, IsLeastWith, ScanFits, lesser_moment}
+use Rattle.sched_plain.specs.Soonest.{IsReadyAmong, command_ready, last_moment, least_of_free, next_stall_moment}
 use Rattle.sched_plain.proofs.Bridges.{stands-state}
 use Rattle.sched_plain.proofs.Turns.{are_whole, scans_fit, soonest_is}
 use Rattle.sched_plain.proofs.soonest.soonest.Goals as goal
@@ -23,9 +23,9 @@ returns c =
     let m : Machine = c.args.m.now in
     let s : State = c.args.s.now in
     let g : ℕ = m.config.granularity in
-    let stall : c.lesser.result ≡ lesser last_moment (stall_ready m s) = c.lesser.ensures ∙ ap (lesser last_moment) c.stall_ready.ensures in
-    let lines : c.of_command-lines.result ≡ lesser (lesser last_moment (stall_ready m s)) (command_ready m s) = c.of_command-lines.ensures ∙ ap (λ (n : ℕ). lesser n (command_ready m s)) stall in
-    let free : c.of_free-free.result ≡ least_of_free (lesser (lesser last_moment (stall_ready m s)) (command_ready m s)) (numbered_items 0 s.free) =
+    let stall : c.lesser.result ≡ lesser_moment last_moment (next_stall_moment m s) = c.lesser.ensures ∙ ap (lesser_moment last_moment) c.stall_ready.ensures in
+    let lines : c.of_command-lines.result ≡ lesser_moment (lesser_moment last_moment (next_stall_moment m s)) (command_ready m s) = c.of_command-lines.ensures ∙ ap (λ (n : ℕ). lesser_moment n (command_ready m s)) stall in
+    let free : c.of_free-free.result ≡ least_of_free (lesser_moment (lesser_moment last_moment (next_stall_moment m s)) (command_ready m s)) (numbered_items 0 s.free) =
     c.of_free-free.ensures ∙ ap (λ (cores : List (Option FreeCore)). least_of_free c.of_command-lines.result (numbered_items 0 cores)) c.as_slice.ensures ∙ ap (λ (n : ℕ). least_of_free n (numbered_items 0 s.free)) lines
     in
     let least : EachPlace (AreWhole g) s.pools → IsLeastWith c.of_free-free.result (IsReadyAmong g s.pools) c.of_pools.result =

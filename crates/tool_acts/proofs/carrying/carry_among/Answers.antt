@@ -1,7 +1,7 @@
 use Rattle.std.proofs.Common.{◌≡◌, ◌∙◌, ◌<◌, length, sym, subst, arith}
 use Rattle.std.specs.Prelude.{None, Some, slice_set}
 use Rattle.sched_base.specs.declared.PoolId.{PoolId}
-use Rattle.sched_model.specs.Commands.{pool_of_plan}
+use Rattle.sched_model.specs.Commands.{plan_pool}
 use Rattle.sched_laws.proofs.Lists.{same_read, some_same}
 use Rattle.machine_parts.specs.Places.{state_of}
 use Rattle.machine_parts.proofs.AtPlaces.{number-of}
@@ -13,7 +13,7 @@ use Rattle.tool_acts.proofs.carrying.carry_among.Goals as goal
 use Rattle.tool_acts.proofs.carrying.carry_among.Goals.{In-Some}
 
 -- the pool of the plan
-home : (c : In-Some) → pool_of_plan (state_of c.args.at.now) c.args.plan ≡ Some c.in-Some.i.0
+home : (c : In-Some) → plan_pool (state_of c.args.at.now) c.args.plan ≡ Some c.in-Some.i.0
 home c = number-of _ c.in-Some.i (sym c.requires.home ∙ c.in-Some.is)
 
 low : (c : In-Some) → c.in-Some.i.0 < 16

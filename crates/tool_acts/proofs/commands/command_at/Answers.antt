@@ -2,7 +2,7 @@ use Rattle.std.proofs.Common.{◌≡◌, ◌∙◌, ◌+◌, ap, arith, suc, sym
 use Rattle.std.specs.Prelude.{Err, Some, slice_get}
 use Rattle.std.proofs.lemmas.Option.{slice_get_within}
 use Rattle.cpupool.specs.Tool.{Tool}
-use Rattle.sched_model.specs.Machine.{verdict}
+use Rattle.sched_model.specs.Machine.{line_verdict}
 use Rattle.machine_parts.specs.Places.{state_of}
 use Rattle.tool_acts.proofs.Carried.{answer-is, parts-refused, parts-told, told-answer}
 use Rattle.tool_acts.proofs.Spared.{few-commands, is-idle, spares-on}
@@ -30,7 +30,7 @@ returns-in-Err-clause-parts c =
     let s = state_of w in
     let line = c.command.result.now in
     let next : slice_get m.work.commands s.next_command ≡ Some line = ap (λ (x : Tool). slice_get x.commands s.next_command) c.requires.parts.known ∙ ap (slice_get c.args.tool.now.commands) (sym c.requires.number) ∙ c.command.ensures in
-    let says : verdict m s line ≡ Err c.in-Err.fault = sym c.verdict_of.ensures ∙ c.in-Err.is in
+    let says : line_verdict m s line ≡ Err c.in-Err.fault = sym c.verdict_of.ensures ∙ c.in-Err.is in
     let one : c.args.k + 1 ≡ suc s.next_command = (let number = c.requires.number in omega (arith, number)) in
     parts-told w c.args.t.0 _ c.args.slots.now c.refuse.new.self c.requires.now (told-answer m s line next _ one _ (sym (answer-is m s line (Err c.in-Err.fault) says)))
     (parts-refused w c.args.slots.now c.args.tool.now c.requires.parts c.requires.enabled line next c.in-Err.fault c.refuse.new.self says (c.refuse.ensures.state m s s.now line c.in-Err.fault c.requires.parts.known says))

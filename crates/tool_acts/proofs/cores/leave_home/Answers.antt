@@ -1,6 +1,6 @@
 use Rattle.std.proofs.Common.{◌≡◌, ◌<◌, ◌∙◌, length, refl, sym}
 use Rattle.std.specs.Prelude.{Some}
-use Rattle.sched_model.specs.Actions.{home_of_core}
+use Rattle.sched_model.specs.Actions.{home_pool_of_core}
 use Rattle.machine_parts.specs.Places.{state_of}
 use Rattle.machine_parts.proofs.AtPlaces.{core_below, number-of}
 use Rattle.tool_acts.specs.Acts.{told_event}
@@ -11,7 +11,7 @@ use Rattle.tool_acts.proofs.cores.leave_home.Goals as goal
 use Rattle.tool_acts.proofs.cores.leave_home.Goals.{In-Some}
 
 -- the pool that has the core
-home : (c : In-Some) → home_of_core (state_of c.args.at.now) c.args.r.0 ≡ Some c.in-Some.i.0
+home : (c : In-Some) → home_pool_of_core (state_of c.args.at.now) c.args.r.0 ≡ Some c.in-Some.i.0
 home c = (let w = c.args.at.now in number-of _ c.in-Some.i (sym (c.home_of_core.ensures w.input (state_of w) c.requires.parts.known) ∙ c.in-Some.is))
 
 below : (c : In-Some) → c.in-Some.i.0 < length c.args.slots.now

@@ -1,7 +1,7 @@
 use Rattle.std.proofs.Common.{◌≡◌, ◌/◌, ◌<◌, length, refl, arith}
 use Rattle.std.specs.Prelude.{option_map}
 use Rattle.sched_base.specs.Numbers.{pool as pool_number}
-use Rattle.sched_model.specs.Actions.{home_of_core}
+use Rattle.sched_model.specs.Actions.{home_pool_of_core}
 use Rattle.machine_parts.specs.Places.{state_of}
 use Rattle.tool_acts.specs.Acts.{told_event}
 use Rattle.tool_acts.proofs.Acting.{parts-alone}
@@ -10,7 +10,7 @@ use Rattle.tool_acts.proofs.stalls.stall.Goals as goal
 use Rattle.tool_acts.proofs.stalls.stall.Goals.{In-Some}
 
 -- the pool that has the processor, told in the state that the trail leads to
-told : (c : In-Some) → c.home_of_core.result ≡ option_map pool_number (home_of_core (state_of c.args.at.now) (c.take_stall-line.result.cpu.0 / c.args.g))
+told : (c : In-Some) → c.home_of_core.result ≡ option_map pool_number (home_pool_of_core (state_of c.args.at.now) (c.take_stall-line.result.cpu.0 / c.args.g))
 told c =
     let w = c.args.at.now in
     let line = c.take_stall-line in

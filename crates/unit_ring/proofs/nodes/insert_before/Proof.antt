@@ -7,7 +7,7 @@ use Rattle.core.specs.contracts.slots.Slots as S
 use Rattle.core.proofs.slots.Opens.{row_opens, row_closes}
 use Rattle.core.proofs.slots.Places.{besides}
 use Rattle.core.proofs.mem.Facts.{says_three}
-use Rattle.unit_ring.specs.Nodes.{node_at, place, blank_node, with_after, with_before}
+use Rattle.unit_ring.specs.Nodes.{numbered_node, place, empty_node, with_after, with_before}
 use Rattle.unit_ring.specs.declared.nodes.NodeRecord.{NodeRecord}
 use Rattle.unit_ring.specs.declared.nodes.Address.{Address}
 use Rattle.unit_ring.specs.contracts.nodes.NodeRecord.{the_row as Node}
@@ -36,7 +36,7 @@ insert_before_spec 𝓤 𝓛 𝓜 𝓡 wired =
     f.Key.name code.function (code.unfolded 𝓤 𝓛.H 𝓜 𝓡 wired)
     (λ κs. (mut_vals, ((λ x. address.lowered x ∷ []), (uint_vals w32, (uint_vals w32, tt))))) (λ κs. (mut_Tells (named 0) κs.0 Row, (address.lowers.val_is, (uint_Tells w32, (uint_Tells w32, tt))))) (λ κs qs bounds a last are.
     let κ = κs.0 in let q = qs.0 in let h : Slots NodeRecord = a.0.now in let rb = a.0.ref_ptr.0 in let ro = a.0.ref_ptr.1 in let base = a.1.0 in let at = a.1.1.0 in let n = a.1.1.1.0 in
-    let xs : List NodeRecord = slots_items h in let fs : List Bool = slots_filled h in let x : NodeRecord = node_at xs at in
+    let xs : List NodeRecord = slots_items h in let fs : List Bool = slots_filled h in let x : NodeRecord = numbered_node xs at in
     let small_at : at < 2 ^ 32 = are.1.1.0.1 in let small : n < 2 ^ 32 = are.1.1.1.0.1 in let counts = slots_counts h in
     let y : W.Ghost = ((κs, qs, bounds, a, (mut_vals a.0, (address.lowered base ∷ [], (vint w32 at ∷ [], (vint w32 n ∷ [], tt))))), last) in
     qed 𝓛 (((‵ (flft κ q) ⊛ ‵ ftrue) ⊛ ‵ (owns (types_at f.ended.signature.params κs) a y.0.4)) ∷ (raw (fact 𝓤 (slots_ptr h ≡ base.ptr)) ⊛ raw (fact 𝓤 (IsFull h)) ⊛ raw (fact 𝓤 (n < slots_len h))
@@ -51,10 +51,10 @@ insert_before_spec 𝓤 𝓛 𝓜 𝓡 wired =
     let long : length xs ≡ slots_len h = sym counts.0 in
     let held : (k : ℕ) → k < slots_len h → get_or fs k false ≡ true = λ k low. full k (omega arith) low in
     let low : (k : ℕ) → k < slots_len h → k < length fs = λ k lower. omega (arith, lower, counts.1) in
-    let l0 : NodeRecord = node_at xs last in let r1 : NodeRecord = record l0 { after = At n } in let ys1 : List NodeRecord = set xs last r1 in
-    let n1 : NodeRecord = node_at ys1 n in let r2 : NodeRecord = record n1 { after = At at } in let ys2 : List NodeRecord = set ys1 n r2 in
-    let n2 : NodeRecord = node_at ys2 n in let r3 : NodeRecord = record n2 { before = At last } in let ys3 : List NodeRecord = set ys2 n r3 in
-    let a3 : NodeRecord = node_at ys3 at in let r4 : NodeRecord = record a3 { before = At n } in
+    let l0 : NodeRecord = numbered_node xs last in let r1 : NodeRecord = record l0 { after = At n } in let ys1 : List NodeRecord = set xs last r1 in
+    let n1 : NodeRecord = numbered_node ys1 n in let r2 : NodeRecord = record n1 { after = At at } in let ys2 : List NodeRecord = set ys1 n r2 in
+    let n2 : NodeRecord = numbered_node ys2 n in let r3 : NodeRecord = record n2 { before = At last } in let ys3 : List NodeRecord = set ys2 n r3 in
+    let a3 : NodeRecord = numbered_node ys3 at in let r4 : NodeRecord = record a3 { before = At n } in
     let same1 : length ys1 ≡ length xs = length-set xs last r1 in let same2 : length ys2 ≡ length ys1 = length-set ys1 n r2 in let same3 : length ys3 ≡ length ys2 = length-set ys2 n r3 in
     let ix : at < length xs = omega (arith, at_low, long) in let il : last < length xs = omega (arith, last_low, long) in
     let i1 : n < length ys1 = omega (arith, below, long, same1) in let i2 : n < length ys2 = omega (arith, i1, same2) in let i3 : at < length ys3 = omega (arith, ix, same1, same2, same3) in
@@ -72,7 +72,7 @@ insert_before_spec 𝓤 𝓛 𝓜 𝓡 wired =
     -- the node after is read
     use1 𝓛 (‵ (Cell 𝓛 b o xs fs at ix (low at at_low) (held at at_low) x) ⊛ ‵ (Node.own_val x (node.lowered x ∷ [])) ⊛ ‵ (besides E b o xs fs at)) (cell_out 𝓛 b o xs fs at ix (low at at_low) (held at at_low)) $ split ! $
     sets ! (is ! (of_opd ! (load ! (through ! refl (fld ! refl (stop !))) (look_in ! 0 (sub ! 1 refl (whole !))))) (ap (λ (p : Address). address.lowered p) (back ∙ spot last))) refl (tt, (tt, tt)) $
-    use2 𝓛 (‵ (slots Node (block_ptr b o) (set xs at x) fs)) (cell_in 𝓛 b o xs fs at ix (low at at_low) (held at at_low) x) $ rewrite ! 0 (λ (zs : List NodeRecord). ‵ (slots Node (block_ptr b o) zs fs)) (set-get_or xs at blank_node) refl $
+    use2 𝓛 (‵ (slots Node (block_ptr b o) (set xs at x) fs)) (cell_in 𝓛 b o xs fs at ix (low at at_low) (held at at_low) x) $ rewrite ! 0 (λ (zs : List NodeRecord). ‵ (slots Node (block_ptr b o) zs fs)) (set-get_or xs at empty_node) refl $
     -- the node before leads to the node
     sets ! (agg ! (and_then ! (get ! refl) (no_more !))) refl (tt, (tt, tt)) $
     use1 𝓛 (‵ (Cell 𝓛 b o xs fs last il (low last last_low) (held last last_low) l0) ⊛ ‵ (Node.own_val l0 (node.lowered l0 ∷ [])) ⊛ ‵ (besides E b o xs fs last)) (cell_out 𝓛 b o xs fs last il (low last last_low) (held last last_low)) $ split ! $

@@ -4,7 +4,7 @@ use Rattle.core.specs.Mem.Slots.{slots_items, slots_ptr, slots_len, slots_filled
 use Rattle.core.specs.Mem.Slots.Ownership.{slots_lent}
 use Rattle.core.specs.contracts.slots.Slots as S
 use Rattle.core.proofs.slots.Lent.{shown, none_at_null, value_lent}
-use Rattle.unit_ring.specs.Nodes.{node_at, blank_node}
+use Rattle.unit_ring.specs.Nodes.{numbered_node, empty_node}
 use Rattle.unit_ring.specs.declared.nodes.NodeRecord.{NodeRecord}
 use lib.ListN.{get_or}
 use prog.Wp.{WpFn}
@@ -30,7 +30,7 @@ number_spec 𝓤 𝓛 𝓜 𝓡 wired =
     f.Key.name code.function (code.unfolded 𝓤 𝓛.H 𝓜 𝓡 wired)
     (λ κs. (shr_vals, ((λ x. address.lowered x ∷ []), tt))) (λ κs. (shr_Tells (named 0) κs.0 Row, (address.lowers.val_is, tt))) (λ κs qs bounds a to are.
     let κ = κs.0 in let q = qs.0 in let h = a.0.now in let rb = a.0.ref_ptr.0 in let ro = a.0.ref_ptr.1 in let at = a.1.0 in
-    let xs : List NodeRecord = slots_items h in let fs : List Bool = slots_filled h in let z : NodeRecord = node_at xs to in let counts = slots_counts h in
+    let xs : List NodeRecord = slots_items h in let fs : List Bool = slots_filled h in let z : NodeRecord = numbered_node xs to in let counts = slots_counts h in
     let y : W.Ghost = ((κs, qs, bounds, a, (shr_vals a.0, (address.lowered at ∷ [], tt))), to) in
     qed 𝓛 (((‵ (flft κ q) ⊛ ‵ ftrue) ⊛ ‵ (owns (types_at f.ended.signature.params κs) a y.0.4)) ∷ (raw (fact 𝓤 (IsFull h)) ⊛ raw (fact 𝓤 (at.ptr ≡ slots_ptr h +ₚ to * 24)) ⊛ raw (fact 𝓤 (to < slots_len h))) ∷ []) ∵
     move ! (1 ∷ []) $ split ! $ heard ! _ (λ full. split ! $ heard ! _ (λ is_at. heard ! _ (λ target.
@@ -41,7 +41,7 @@ number_spec 𝓤 𝓛 𝓜 𝓡 wired =
     in_a_block ! (slots_ptr h) (λ p. slots_lent Node p xs fs κ) (none_at_null E 𝓛 κ xs fs to iz fz held) (λ b o at_b.
     let turned : o + to * 24 ≡ to * 24 + o = omega arith in
     let there : at.ptr ≡ block_ptr b (to * 24 + o) = is_at ∙ ap (λ (p : Ptr). p +ₚ to * 24) at_b ∙ ap (λ (k : ℕ). block_ptr b k) turned in
-    use1 𝓛 (‵ (hidden_shr Node κ z b (to * 24 + o))) (value_lent E 𝓛 κ b o xs fs to blank_node iz fz held) $
+    use1 𝓛 (‵ (hidden_shr Node κ z b (to * 24 + o))) (value_lent E 𝓛 κ b o xs fs to empty_node iz fz held) $
     -- [the node; the token]
     regoal ! (λ p. prop (WpFn 𝓤 𝓛.H 𝓣.C 𝓣.Λ code.function (vptr rb ro ∷ vstruct (vcons (ptr_val p) vnil) ∷ []) (W.post y))) there refl $
     enter ! _ _ _ _ _ $ alloc_all ! (λ l. pass_all ! refl ((tt, tt), ((tt, (tt, tt)), tt)) $

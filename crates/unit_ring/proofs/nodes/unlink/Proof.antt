@@ -7,7 +7,7 @@ use Rattle.core.specs.contracts.slots.Slots as S
 use Rattle.core.proofs.slots.Opens.{row_opens, row_closes}
 use Rattle.core.proofs.slots.Places.{besides}
 use Rattle.core.proofs.mem.Facts.{says_three}
-use Rattle.unit_ring.specs.Nodes.{node_at, place, blank_node, with_after, with_before}
+use Rattle.unit_ring.specs.Nodes.{numbered_node, place, empty_node, with_after, with_before}
 use Rattle.unit_ring.specs.declared.nodes.NodeRecord.{NodeRecord}
 use Rattle.unit_ring.specs.declared.nodes.Address.{Address}
 use Rattle.unit_ring.specs.contracts.nodes.NodeRecord.{the_row as Node}
@@ -37,7 +37,7 @@ unlink_spec 𝓤 𝓛 𝓜 𝓡 wired =
     (λ κs. (mut_vals, ((λ x. address.lowered x ∷ []), (uint_vals w32, tt)))) (λ κs. (mut_Tells (named 0) κs.0 Row, (address.lowers.val_is, (uint_Tells w32, tt)))) (λ κs qs bounds a g are.
     let κ = κs.0 in let q = qs.0 in let h : Slots NodeRecord = a.0.now in let rb = a.0.ref_ptr.0 in let ro = a.0.ref_ptr.1 in let base = a.1.0 in let n = a.1.1.0 in
     let last : ℕ = g.0 in let next : ℕ = g.1 in
-    let xs : List NodeRecord = slots_items h in let fs : List Bool = slots_filled h in let x : NodeRecord = node_at xs n in
+    let xs : List NodeRecord = slots_items h in let fs : List Bool = slots_filled h in let x : NodeRecord = numbered_node xs n in
     let small : n < 2 ^ 32 = are.1.1.0.1 in let counts = slots_counts h in
     let y : W.Ghost = ((κs, qs, bounds, a, (mut_vals a.0, (address.lowered base ∷ [], (vint w32 n ∷ [], tt)))), g) in
     qed 𝓛 (((‵ (flft κ q) ⊛ ‵ ftrue) ⊛ ‵ (owns (types_at f.ended.signature.params κs) a y.0.4)) ∷ (raw (fact 𝓤 (slots_ptr h ≡ base.ptr)) ⊛ raw (fact 𝓤 (IsFull h)) ⊛ raw (fact 𝓤 (n < slots_len h))
@@ -51,7 +51,7 @@ unlink_spec 𝓤 𝓛 𝓜 𝓡 wired =
     let spot : (k : ℕ) → place base k ≡ At k = λ k. let turned : o + k * 24 ≡ k * 24 + o = omega arith in ap (λ (p : Ptr). record { ptr = p +ₚ k * 24 }) e ∙ ap (λ (j : ℕ). record { ptr = block_ptr b j }) turned in
     let ix : n < length xs = omega (arith, below, counts.0) in let fx : n < length fs = omega (arith, below, counts.1) in let held : get_or fs n false ≡ true = full n (omega arith) below in
     let il : last < length xs = omega (arith, last_low, counts.0) in let fl' : last < length fs = omega (arith, last_low, counts.1) in let held_l : get_or fs last false ≡ true = full last (omega arith) last_low in
-    let l0 : NodeRecord = node_at xs last in let ys : List NodeRecord = set xs last (record l0 { after = At next }) in let n0 : NodeRecord = node_at ys next in
+    let l0 : NodeRecord = numbered_node xs last in let ys : List NodeRecord = set xs last (record l0 { after = At next }) in let n0 : NodeRecord = numbered_node ys next in
     let long : length ys ≡ length xs = length-set xs last (record l0 { after = At next }) in
     let iy : next < length ys = omega (arith, next_low, counts.0, long) in let fy : next < length fs = omega (arith, next_low, counts.1) in let held_y : get_or fs next false ≡ true = full next (omega arith) next_low in
     let new : Slots NodeRecord = slots_with (slots_with h last (record l0 { after = At next })) next (record n0 { before = At last }) in
@@ -66,7 +66,7 @@ unlink_spec 𝓤 𝓛 𝓜 𝓡 wired =
     use1 𝓛 (‵ (Cell 𝓛 b o xs fs n ix fx held x) ⊛ ‵ (Node.own_val x (node.lowered x ∷ [])) ⊛ ‵ (besides E b o xs fs n)) (cell_out 𝓛 b o xs fs n ix fx held) $ split ! $
     sets ! (is ! (of_opd ! (load ! (through ! refl (fld ! refl (stop !))) (look_in ! 0 (sub ! 0 refl (whole !))))) (ap (λ (p : Address). address.lowered p) (forth ∙ spot next))) refl (tt, (tt, tt)) $
     sets ! (is ! (of_opd ! (load ! (through ! refl (fld ! refl (stop !))) (look_in ! 0 (sub ! 1 refl (whole !))))) (ap (λ (p : Address). address.lowered p) (back ∙ spot last))) refl (tt, (tt, tt)) $
-    use2 𝓛 (‵ (slots Node (block_ptr b o) (set xs n x) fs)) (cell_in 𝓛 b o xs fs n ix fx held x) $ rewrite ! 0 (λ (zs : List NodeRecord). ‵ (slots Node (block_ptr b o) zs fs)) (set-get_or xs n blank_node) refl $
+    use2 𝓛 (‵ (slots Node (block_ptr b o) (set xs n x) fs)) (cell_in 𝓛 b o xs fs n ix fx held x) $ rewrite ! 0 (λ (zs : List NodeRecord). ‵ (slots Node (block_ptr b o) zs fs)) (set-get_or xs n empty_node) refl $
     -- the node before leads to the one after
     use1 𝓛 (‵ (Cell 𝓛 b o xs fs last il fl' held_l l0) ⊛ ‵ (Node.own_val l0 (node.lowered l0 ∷ [])) ⊛ ‵ (besides E b o xs fs last)) (cell_out 𝓛 b o xs fs last il fl' held_l) $ split ! $
     assigns ! (of_opd ! (get ! refl)) (from ! (fld ! refl (hop ! (look_in_at ! 6 (sub ! 0 refl (whole !))) (fld ! refl (stop !))))) (store_in ! 0 (sub ! 0 refl (whole !)) (tt, (tt, tt))) $

@@ -3,7 +3,7 @@ use Rattle.std.specs.Prelude.{Some, true}
 use Rattle.sched_model.specs.declared.state.Resource.{Resource}
 use Rattle.sched_model.specs.Places.{first_place, put_at}
 use Rattle.sched_model.specs.Pool.{cores_from}
-use Rattle.core_state.specs.Seen.{Seen, without_works}
+use Rattle.core_state.specs.Seen.{Seen, cleared_works}
 use Rattle.core_state.proofs.ChangeLemmas.{few_after, may_rearm, some_has, placed_change, placed_kept, seen_is}
 use Rattle.core_state.proofs.cores.CoreState.put.Goals as goal
 
@@ -24,4 +24,4 @@ invariant_of-self c =
 pub returns : goal.returns
 returns c =
     seen_is c.set_place.ensures c.clear_works.ensures
-    ∙ ap (λ (seen : Seen). record seen { resources = put_at c.args.r.0 c.args.core seen.resources; works = without_works (c.args.r.0 * seen.granularity) seen.granularity seen.works }) c.self.view_is
+    ∙ ap (λ (seen : Seen). record seen { resources = put_at c.args.r.0 c.args.core seen.resources; works = cleared_works (c.args.r.0 * seen.granularity) seen.granularity seen.works }) c.self.view_is

@@ -3,7 +3,7 @@ use Rattle.std.specs.Prelude.{Option}
 use Rattle.sched_laws.proofs.SiblingsLaw.{some_processor}
 use Rattle.sched_model.specs.declared.state.Processor.{Processor}
 use Rattle.sched_model.specs.declared.state.Resource.{Resource}
-use Rattle.core_state.specs.Seen.{Seen, changed_processor, processor_among, stall_until, stalled_to, with_sibling}
+use Rattle.core_state.specs.Seen.{Seen, changed_processor, processor_among, extended_stall_end, stalled_to, with_sibling}
 use Rattle.core_state.proofs.ChangeLemmas.{may_rearm, core_change, changed_kept, seen_is, sibling_keeps}
 use Rattle.core_state.proofs.cores.CoreState.stall.Goals as goal
 
@@ -25,8 +25,8 @@ invariant_of-self c = changed_kept (c.args.p.0 / c.self.inside.granularity) (wit
 pub returns-clause-end : goal.returns-clause-end
 returns-clause-end c =
     c.later_end-end.ensures
-    ∙ ap (λ (o : Option Processor). stall_until o c.args.until) (c.processor_at.ensures ∙ ap (λ (xs : List (Option Resource)). processor_among c.self.inside.granularity xs c.args.p.0) c.as_slice.ensures)
-    ∙ ap (λ (seen : Seen). stall_until (processor_among seen.granularity seen.resources c.args.p.0) c.args.until) c.self.view_is
+    ∙ ap (λ (o : Option Processor). extended_stall_end o c.args.until) (c.processor_at.ensures ∙ ap (λ (xs : List (Option Resource)). processor_among c.self.inside.granularity xs c.args.p.0) c.as_slice.ensures)
+    ∙ ap (λ (seen : Seen). extended_stall_end (processor_among seen.granularity seen.resources c.args.p.0) c.args.until) c.self.view_is
 
 pub returns-clause-after : goal.returns-clause-after
 returns-clause-after c = seen_is c.end_stall.ensures refl ∙ ap (λ (seen : Seen). changed_processor c.args.p.0 (stalled_to c.later_end-end.result) seen) c.self.view_is

@@ -3,7 +3,7 @@ use Rattle.std.specs.Prelude.{None, true}
 use Rattle.sched_model.specs.declared.state.Resource.{Resource}
 use Rattle.sched_model.specs.Places.{at_place, clear_at, first_place}
 use Rattle.sched_model.specs.Pool.{cores_from}
-use Rattle.core_state.specs.Seen.{Seen, without_works}
+use Rattle.core_state.specs.Seen.{Seen, cleared_works}
 use Rattle.core_state.proofs.ChangeLemmas.{few_after, may_rearm, none_has, placed_change, placed_kept, seen_is}
 use Rattle.core_state.proofs.cores.CoreState.take.Goals as goal
 
@@ -27,4 +27,4 @@ returns-clause-core c = c.take_item-core.ensures.item ∙ ap (λ (seen : Seen). 
 pub returns-clause-after : goal.returns-clause-after
 returns-clause-after c =
     seen_is c.take_item-core.ensures.places c.clear_works.ensures
-    ∙ ap (λ (seen : Seen). record seen { resources = clear_at c.args.r.0 seen.resources; works = without_works (c.args.r.0 * seen.granularity) seen.granularity seen.works }) c.self.view_is
+    ∙ ap (λ (seen : Seen). record seen { resources = clear_at c.args.r.0 seen.resources; works = cleared_works (c.args.r.0 * seen.granularity) seen.granularity seen.works }) c.self.view_is

@@ -1,5 +1,5 @@
 use Rattle.std.proofs.Common.{◌∙◌, ap}
-use Rattle.sched_model.specs.Machine.{first_enabled}
+use Rattle.sched_model.specs.Machine.{first_enabled_action}
 use Rattle.machine_parts.specs.Places.{state_of}
 use Rattle.sched_model.specs.Standing.{Standing}
 use Rattle.std.proofs.Common.{List, sym, subst}
@@ -21,4 +21,4 @@ whole_first-requires-clause-firsts c =
 pub returns : goal.returns
 returns c =
     let w = c.self.inside.trail in
-    c.whole_first.ensures ∙ ap (first_enabled w.input (state_of w)) c.self.invariant.0.now_is ∙ ap (λ (x : Standing). first_enabled x.machine x.state x.state.now) c.self.view_is
+    c.whole_first.ensures ∙ ap (first_enabled_action w.input (state_of w)) c.self.invariant.0.now_is ∙ ap (λ (x : Standing). first_enabled_action x.machine x.state x.state.now) c.self.view_is

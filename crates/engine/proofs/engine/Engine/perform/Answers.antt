@@ -2,7 +2,7 @@ use Rattle.std.proofs.Common.{◌≡◌, ◌∙◌, ℕ, sym, ap}
 use Rattle.std.specs.Prelude.{None, Some, option_map}
 use Rattle.sched_base.specs.Numbers.{pool as pool_number}
 use Rattle.machine_parts.specs.Places.{state_of}
-use Rattle.machine_parts.specs.Parts.{pool_of_event}
+use Rattle.machine_parts.specs.Parts.{event_pool}
 use Rattle.sched_model.specs.Standing.{Standing}
 use Rattle.machine_parts.proofs.Performing.{first-comes}
 use Rattle.engine.proofs.engine.Engine.perform.Goals as goal
@@ -15,9 +15,9 @@ pub perform_in_pool-requires-clause-home : goal.perform_in_pool-requires-clause-
 perform_in_pool-requires-clause-home c =
     let in_self = c.self.inside in
     let w = in_self.trail in
-    let told : option_map pool_number (pool_of_event in_self.granularity (state_of w) c.args.action) ≡ Some c.in-Some.i = sym (c.pool_of_event.ensures w.input (state_of w) c.self.invariant.0.parts.known) ∙ c.in-Some.is in
-    sym (ap (λ (x : Standing). pool_of_event x.machine.config.granularity x.state c.args.action) c.self.view_is)
-    ∙ ap (λ (g : ℕ). pool_of_event g (state_of w) c.args.action) (sym c.self.invariant.0.granularity_is) ∙ number-of _ c.in-Some.i told
+    let told : option_map pool_number (event_pool in_self.granularity (state_of w) c.args.action) ≡ Some c.in-Some.i = sym (c.pool_of_event.ensures w.input (state_of w) c.self.invariant.0.parts.known) ∙ c.in-Some.is in
+    sym (ap (λ (x : Standing). event_pool x.machine.config.granularity x.state c.args.action) c.self.view_is)
+    ∙ ap (λ (g : ℕ). event_pool g (state_of w) c.args.action) (sym c.self.invariant.0.granularity_is) ∙ number-of _ c.in-Some.i told
 
 pub perform_by_tool-requires-clause-enabled : goal.perform_by_tool-requires-clause-enabled
 perform_by_tool-requires-clause-enabled c = first-comes c.args.self.now.machine c.args.self.now.state c.args.action c.requires
@@ -26,6 +26,6 @@ pub perform_by_tool-requires-clause-no_pool : goal.perform_by_tool-requires-clau
 perform_by_tool-requires-clause-no_pool c =
     let in_self = c.self.inside in
     let w = in_self.trail in
-    let told : option_map pool_number (pool_of_event in_self.granularity (state_of w) c.args.action) ≡ None = sym (c.pool_of_event.ensures w.input (state_of w) c.self.invariant.0.parts.known) ∙ c.in-None.is in
-    sym (ap (λ (x : Standing). pool_of_event x.machine.config.granularity x.state c.args.action) c.self.view_is)
-    ∙ ap (λ (g : ℕ). pool_of_event g (state_of w) c.args.action) (sym c.self.invariant.0.granularity_is) ∙ no-number _ told
+    let told : option_map pool_number (event_pool in_self.granularity (state_of w) c.args.action) ≡ None = sym (c.pool_of_event.ensures w.input (state_of w) c.self.invariant.0.parts.known) ∙ c.in-None.is in
+    sym (ap (λ (x : Standing). event_pool x.machine.config.granularity x.state c.args.action) c.self.view_is)
+    ∙ ap (λ (g : ℕ). event_pool g (state_of w) c.args.action) (sym c.self.invariant.0.granularity_is) ∙ no-number _ told

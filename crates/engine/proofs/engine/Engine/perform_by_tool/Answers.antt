@@ -1,6 +1,6 @@
 use Rattle.std.proofs.Common.{◌≡◌, ◌∙◌, true, List, length, sym, ap, subst}
 use Rattle.std.specs.Prelude.{Option}
-use Rattle.sched_model.specs.Machine.{after, is_enabled}
+use Rattle.sched_model.specs.Machine.{after, is_action_enabled}
 use Rattle.pool_core.specs.Seen.{Seen}
 use Rattle.machine_parts.specs.Places.{state_of}
 use Rattle.engine.specs.EngineState.{AreKept, IsIdleFrom}
@@ -15,7 +15,7 @@ invariant_of-self c =
     let in_self = c.self.inside in
     let w = in_self.trail in
     let running = c.self.invariant.0 in
-    let on : is_enabled w.input (state_of w) (state_of w).now c.args.action ≡ true = ap (λ (x : Standing). is_enabled x.machine x.state x.state.now c.args.action) c.self.view_is ∙ c.requires.enabled in
+    let on : is_action_enabled w.input (state_of w) (state_of w).now c.args.action ≡ true = ap (λ (x : Standing). is_action_enabled x.machine x.state x.state.now c.args.action) c.self.view_is ∙ c.requires.enabled in
     let e = c.act_of_tool-event.ensures in
     let left : List (Option Seen) = c.act_of_tool-event.new.slots in
     let slots = written in_self.slots left (e.parts.stand.count ∙ sym running.parts.stand.count) in
@@ -34,6 +34,6 @@ pub returns-clause-state : goal.returns-clause-state
 returns-clause-state c =
     let in_self = c.self.inside in
     let w = in_self.trail in
-    let on : is_enabled w.input (state_of w) (state_of w).now c.args.action ≡ true = ap (λ (x : Standing). is_enabled x.machine x.state x.state.now c.args.action) c.self.view_is ∙ c.requires.enabled in
+    let on : is_action_enabled w.input (state_of w) (state_of w).now c.args.action ≡ true = ap (λ (x : Standing). is_action_enabled x.machine x.state x.state.now c.args.action) c.self.view_is ∙ c.requires.enabled in
     standing-done w c.add.new.self c.self.invariant.0.parts.goes c.args.action on in_self.moment.0 c.self.invariant.0.now_is c.act_of_tool-event.result c.act_of_tool-event.ensures.event c.add.ensures
     ∙ ap (λ (x : Standing). let y : Standing = record x { state = after x.machine x.state x.state.now c.args.action } in y) c.self.view_is

@@ -2,12 +2,12 @@ use Rattle.std.proofs.Common.{◌≡◌, ◌≢◌, ◌∙◌, ◌<◌, ℕ, tru
 use Rattle.std.specs.Prelude.{Option, None, Some}
 use Rattle.sched_base.specs.declared.Moment.{Moment}
 use Rattle.sched_model.specs.declared.action.Action.{Action}
-use Rattle.sched_model.specs.Machine.{is_enabled}
+use Rattle.sched_model.specs.Machine.{is_action_enabled}
 use Rattle.sched_model.specs.Places.{at_place}
 use Rattle.pool_core.specs.Seen.{Seen}
 use Rattle.machine_parts.specs.Places.{state_of}
 use Rattle.machine_parts.proofs.Stepping.{few-pools}
-use Rattle.machine_parts.specs.Parts.{IsFirstOfPlace, IsNextOfPlace, pool_of_event}
+use Rattle.machine_parts.specs.Parts.{IsFirstOfPlace, IsNextOfPlace, event_pool}
 use Rattle.engine.specs.EngineState.{IsIdleFrom, IsRunning}
 use Rattle.sched_model.specs.Standing.{Standing}
 use Rattle.engine.proofs.Kept.{idle-more, written}
@@ -19,8 +19,8 @@ pub read_one-requires-clause-place : goal.read_one-requires-clause-place
 read_one-requires-clause-place c =
     let in_self = c.self.inside in
     let w = in_self.trail in
-    let home : pool_of_event w.input.config.granularity (state_of w) c.args.action ≡ Some c.args.i = ap (λ (x : Standing). pool_of_event x.machine.config.granularity x.state c.args.action) c.self.view_is ∙ c.requires.home in
-    let on : is_enabled w.input (state_of w) (state_of w).now c.args.action ≡ true = ap (λ (x : Standing). is_enabled x.machine x.state x.state.now c.args.action) c.self.view_is ∙ c.requires.enabled in
+    let home : event_pool w.input.config.granularity (state_of w) c.args.action ≡ Some c.args.i = ap (λ (x : Standing). event_pool x.machine.config.granularity x.state c.args.action) c.self.view_is ∙ c.requires.home in
+    let on : is_action_enabled w.input (state_of w) (state_of w).now c.args.action ≡ true = ap (λ (x : Standing). is_action_enabled x.machine x.state x.state.now c.args.action) c.self.view_is ∙ c.requires.enabled in
     let own = own-event w.input.config.granularity (state_of w) c.args.action c.args.i home in
     let low = few-pools w c.self.invariant.0.parts.goes in_self.moment.0 c.self.invariant.0.now_is c.args.action own.0 on c.args.i own.1 in
     let stand = c.perform_among-event.ensures.stand in
@@ -32,8 +32,8 @@ pub invariant_of-self : goal.invariant_of-self
 invariant_of-self c =
     let in_self = c.self.inside in
     let w = in_self.trail in
-    let home : pool_of_event w.input.config.granularity (state_of w) c.args.action ≡ Some c.args.i = ap (λ (x : Standing). pool_of_event x.machine.config.granularity x.state c.args.action) c.self.view_is ∙ c.requires.home in
-    let on : is_enabled w.input (state_of w) (state_of w).now c.args.action ≡ true = ap (λ (x : Standing). is_enabled x.machine x.state x.state.now c.args.action) c.self.view_is ∙ c.requires.enabled in
+    let home : event_pool w.input.config.granularity (state_of w) c.args.action ≡ Some c.args.i = ap (λ (x : Standing). event_pool x.machine.config.granularity x.state c.args.action) c.self.view_is ∙ c.requires.home in
+    let on : is_action_enabled w.input (state_of w) (state_of w).now c.args.action ≡ true = ap (λ (x : Standing). is_action_enabled x.machine x.state x.state.now c.args.action) c.self.view_is ∙ c.requires.enabled in
     let own = own-event w.input.config.granularity (state_of w) c.args.action c.args.i home in
     let low = few-pools w c.self.invariant.0.parts.goes in_self.moment.0 c.self.invariant.0.now_is c.args.action own.0 on c.args.i own.1 in
     let e = c.perform_among-event.ensures in

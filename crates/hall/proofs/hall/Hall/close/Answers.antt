@@ -1,7 +1,7 @@
 use Rattle.std.proofs.Common.{◌≡◌, ◌∙◌, List, length, replicate, sym, ap, subst, arith}
 use Rattle.std.specs.Prelude.{Option, None, Some}
 use Rattle.sched_model.specs.declared.action.Action.{Action}
-use Rattle.sched_model.specs.Machine.{first_enabled, next_in_horizon}
+use Rattle.sched_model.specs.Machine.{first_enabled_action, next_in_horizon}
 use Rattle.pool_core.specs.Seen.{Seen as PoolSeen}
 use Rattle.machine_parts.specs.Places.{state_of}
 use Rattle.machine_parts.specs.Told.{Told, told_of}
@@ -38,7 +38,7 @@ whole_next-next-requires-clause-quiet c =
     let b = c.args.book in
     let told : c.of-trail.result ≡ told_of b = c.of-trail.ensures ∙ ap told_of c.get-2.ensures in
     let now = c.requires.now ∙ now-held c.args.self.now b c.args.seat.now c.requires.has c.requires.current in
-    subst (λ (w : Told). first_enabled w.input (state_of w) c.args.t.0 ≡ None) (sym told) (ap (first_enabled b.input (state_of (told_of b))) now ∙ c.requires.quiet)
+    subst (λ (w : Told). first_enabled_action w.input (state_of w) c.args.t.0 ≡ None) (sym told) (ap (first_enabled_action b.input (state_of (told_of b))) now ∙ c.requires.quiet)
 
 pub end_moment-requires-clause-all : goal.end_moment-requires-clause-all
 end_moment-requires-clause-all c = held-all c.args.all.now c.args.seat.now.view c.requires.knows

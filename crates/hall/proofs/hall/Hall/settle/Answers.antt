@@ -1,7 +1,7 @@
 use Rattle.std.proofs.Common.{◌≡◌, ◌≤◌, ◌<◌, ◌∙◌, length, ap, subst}
 use Rattle.sched_model.specs.declared.event.Event.{Event}
 use Rattle.sched_model.specs.CheckedMachine.{IsChecked}
-use Rattle.sched_model.specs.Runs.{action_of}
+use Rattle.sched_model.specs.Runs.{event_action}
 use Rattle.std.specs.Prelude.{Some}
 use Rattle.journal_core.specs.Books.{Chronicle}
 use Rattle.lock_moves.specs.Sets.{LockTable}
@@ -38,4 +38,4 @@ returns-clause-done c =
     event-held c.args.self.now c.args.book c.args.seat.now c.requires.has c.requires.current (subst (λ (x : LockTable). IsChecked x.opened.input) c.self.view_is c.self.invariant.checked) c.requires.input c.args.i c.requires.number c.args.slot.now c.requires.knows c.requires.some c.args.t.0 c.requires.now c.args.actor c.requires.actor c.args.found c.requires.found c.in-Some.action c.in-Some.is c.len-place.result c.perform_at-event.result c.decides_before-decides.result c.perform_at-event.new.seat
     (c.len-place.ensures ∙ ap (λ (x : Chronicle). length x.history) c.get-3.ensures)
     c.perform_at-event.ensures.event c.perform_at-event.ensures.entered
-    (subst (λ (x : Chronicle). (e : Event) → action_of e ≡ Some c.in-Some.action → IsCountBefore c.args.self.now.opened.input.config.granularity x.history e c.decides_before-decides.result) c.get-4.ensures c.decides_before-decides.ensures)
+    (subst (λ (x : Chronicle). (e : Event) → event_action e ≡ Some c.in-Some.action → IsCountBefore c.args.self.now.opened.input.config.granularity x.history e c.decides_before-decides.result) c.get-4.ensures c.decides_before-decides.ensures)

@@ -4,7 +4,7 @@ use Rattle.sched_model.specs.declared.action.Action.{Action}
 use Rattle.sched_model.specs.declared.action.Actor.TheVariants.{Tool}
 use Rattle.sched_model.specs.declared.event.Event.{Event}
 use Rattle.sched_model.specs.CheckedMachine.{IsChecked}
-use Rattle.sched_model.specs.Runs.{action_of}
+use Rattle.sched_model.specs.Runs.{event_action}
 use Rattle.journal_core.specs.Books.{Chronicle}
 use Rattle.journal_core.specs.Histories.{now_at, reached_by}
 use Rattle.pool_core.specs.Seen.{Seen as PoolSeen}
@@ -120,4 +120,4 @@ returns-clause-done c =
     settles-event b s c.perform-event.new.seat Tool c.in-Some.action (first-is c.args.self.now b s c.requires.has c.requires.current checked ∙ found) c.len-place.result e decides c.perform-event.ensures.event
     (adds-event b s c.perform-event.new.seat c.in-Some.action c.now-t.result c.len-place.result e decides c.args.self.now.opened.input c.requires.input (now ∙ now_of-is (told_of b))
     (c.len-place.ensures ∙ ap (λ (x : Chronicle). length x.history) c.get-6.ensures) c.perform-event.ensures.event c.perform-event.ensures.entered
-    (subst (λ (x : Chronicle). (e : Event) → action_of e ≡ Some c.in-Some.action → IsCountBefore c.args.self.now.opened.input.config.granularity x.history e decides) c.get-7.ensures c.decides_before-decides.ensures))
+    (subst (λ (x : Chronicle). (e : Event) → event_action e ≡ Some c.in-Some.action → IsCountBefore c.args.self.now.opened.input.config.granularity x.history e decides) c.get-7.ensures c.decides_before-decides.ensures))

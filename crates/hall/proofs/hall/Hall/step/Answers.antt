@@ -1,7 +1,7 @@
 use Rattle.std.proofs.Common.{◌≡◌, ◌∙◌, length, ap, subst}
 use Rattle.std.specs.Prelude.{Some}
 use Rattle.sched_model.specs.declared.event.Event.{Event}
-use Rattle.sched_model.specs.Runs.{action_of}
+use Rattle.sched_model.specs.Runs.{event_action}
 use Rattle.journal_core.specs.Books.{Chronicle}
 use Rattle.machine_parts.proofs.Performing.{first-comes}
 use Rattle.machine_parts.specs.Places.{state_of}
@@ -31,5 +31,5 @@ returns-clause-turn c =
       is_event = c.perform-event.ensures.event;
       adds = adds-event b s c.perform-event.new.seat c.args.action c.args.t c.len-place.result c.perform-event.result decides c.args.self.now.opened.input c.requires.input (c.requires.now ∙ now-held c.args.self.now b s c.requires.has c.requires.current)
           (c.len-place.ensures ∙ ap (λ (x : Chronicle). length x.history) c.get.ensures) c.perform-event.ensures.event c.perform-event.ensures.entered
-          (subst (λ (x : Chronicle). (e : Event) → action_of e ≡ Some c.args.action → IsCountBefore c.args.self.now.opened.input.config.granularity x.history e decides) c.get-2.ensures c.decides_before-decides.ensures);
+          (subst (λ (x : Chronicle). (e : Event) → event_action e ≡ Some c.args.action → IsCountBefore c.args.self.now.opened.input.config.granularity x.history e decides) c.get-2.ensures c.decides_before-decides.ensures);
     }

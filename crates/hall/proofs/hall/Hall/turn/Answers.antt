@@ -1,7 +1,7 @@
 use Rattle.std.proofs.Common.{◌≡◌, ◌∙◌, ◌<◌, ◌≤◌, true, false, List, length, sym, ap, subst}
 use Rattle.std.specs.Prelude.{Option}
 use Rattle.sched_model.specs.CheckedMachine.{IsChecked}
-use Rattle.sched_model.specs.Machine.{first_enabled}
+use Rattle.sched_model.specs.Machine.{first_enabled_action}
 use Rattle.journal_core.specs.Books.{Chronicle}
 use Rattle.journal_core.specs.Histories.{now_at, reached_by}
 use Rattle.pool_core.specs.Seen.{Seen as PoolSeen}
@@ -60,8 +60,8 @@ step-requires-clause-first c =
     let b = c.args.book in
     let told : c.of-trail.result ≡ told_of b = c.of-trail.ensures ∙ ap told_of c.get-5.ensures in
     let time : c.now-t.result.0 ≡ (state_of (told_of b)).now = c.now-t.ensures ∙ ap (λ (x : Chronicle). now_at x.input x.history) c.get-4.ensures ∙ now_of-is (told_of b) in
-    let found : c.whole_first.result ≡ first_enabled b.input (state_of (told_of b)) (state_of (told_of b)).now =
-    c.whole_first.ensures ∙ ap (λ (w : Told). first_enabled w.input (state_of w) c.now-t.result.0) told ∙ ap (first_enabled b.input (state_of (told_of b))) time in
+    let found : c.whole_first.result ≡ first_enabled_action b.input (state_of (told_of b)) (state_of (told_of b)).now =
+    c.whole_first.ensures ∙ ap (λ (w : Told). first_enabled_action w.input (state_of w) c.now-t.result.0) told ∙ ap (first_enabled_action b.input (state_of (told_of b))) time in
     sym found ∙ c.in-Some.is
 
 pub close-requires-clause-quiet : goal.close-requires-clause-quiet
@@ -69,6 +69,6 @@ close-requires-clause-quiet c =
     let b = c.args.book in
     let told : c.of-trail.result ≡ told_of b = c.of-trail.ensures ∙ ap told_of c.get-5.ensures in
     let time : c.now-t.result.0 ≡ (state_of (told_of b)).now = c.now-t.ensures ∙ ap (λ (x : Chronicle). now_at x.input x.history) c.get-4.ensures ∙ now_of-is (told_of b) in
-    let found : c.whole_first.result ≡ first_enabled b.input (state_of (told_of b)) (state_of (told_of b)).now =
-    c.whole_first.ensures ∙ ap (λ (w : Told). first_enabled w.input (state_of w) c.now-t.result.0) told ∙ ap (first_enabled b.input (state_of (told_of b))) time in
+    let found : c.whole_first.result ≡ first_enabled_action b.input (state_of (told_of b)) (state_of (told_of b)).now =
+    c.whole_first.ensures ∙ ap (λ (w : Told). first_enabled_action w.input (state_of w) c.now-t.result.0) told ∙ ap (first_enabled_action b.input (state_of (told_of b))) time in
     sym found ∙ c.in-None.is

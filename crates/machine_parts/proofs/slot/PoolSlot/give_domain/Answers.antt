@@ -1,6 +1,6 @@
 use Rattle.std.proofs.Common.{◌≡◌, ◌≤◌, ◌∙◌, ℕ, refl, sym, ap, subst}
 use Rattle.std.specs.Prelude.{Some}
-use Rattle.sched_model.specs.Pool.{unit_count}
+use Rattle.sched_model.specs.Pool.{domain_unit_count}
 use Rattle.pool_core.specs.Seen.{Seen}
 use Rattle.machine_parts.specs.Places.{StandsAt}
 use Rattle.machine_parts.specs.Rooms.{IsPlaced}
@@ -28,7 +28,7 @@ give_domain-requires-clause-room c =
     let d : Seen = c.deref_mut.result.now in
     let here : c.args.self.now ≡ Some d = view-some _ _ _ c.self.view_is c.in-Some.pool c.in-Some.is ∙ ap Some (sym c.deref_mut.ensures.value) in
     let stands = (subst (StandsAt c.args.at.now c.args.i) here c.requires.stands) in
-    subst (λ (g : ℕ). unit_count g c.args.part.domain ≤ d.spare) ((stands.suits d refl).granularity ∙ sym c.requires.granularity)
+    subst (λ (g : ℕ). domain_unit_count g c.args.part.domain ≤ d.spare) ((stands.suits d refl).granularity ∙ sym c.requires.granularity)
     (room-here c.args.at.now c.requires.goes c.args.i d stands (subst IsPlaced (sym c.deref_mut.ensures.value) (c.self.invariant c.in-Some.pool c.in-Some.is)) c.args.part.d.0 c.args.part.domain (c.requires.absent d here) c.requires.domain)
 
 pub invariant_of-self : goal.invariant_of-self
@@ -38,8 +38,8 @@ invariant_of-self c x is =
     let stands = (subst (StandsAt c.args.at.now c.args.i) here c.requires.stands) in
     let placed : IsPlaced d = (subst IsPlaced (sym c.deref_mut.ensures.value) (c.self.invariant c.in-Some.pool c.in-Some.is)) in
     let same : c.args.part.granularity ≡ d.granularity = c.requires.granularity ∙ sym (stands.suits d refl).granularity in
-    let room : unit_count c.args.part.granularity c.args.part.domain ≤ d.spare =
-    subst (λ (g : ℕ). unit_count g c.args.part.domain ≤ d.spare) (sym same)
+    let room : domain_unit_count c.args.part.granularity c.args.part.domain ≤ d.spare =
+    subst (λ (g : ℕ). domain_unit_count g c.args.part.domain ≤ d.spare) (sym same)
     (room-here c.args.at.now c.requires.goes c.args.i d stands placed c.args.part.d.0 c.args.part.domain (c.requires.absent d here) c.requires.domain) in
     some-out (λ b. IsPlaced b.value) _ x is
     (subst IsPlaced (sym c.give_domain.ensures)

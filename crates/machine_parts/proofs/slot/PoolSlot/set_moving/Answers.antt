@@ -1,5 +1,5 @@
 use Rattle.std.proofs.Common.{sym, subst}
-use Rattle.sched_model.specs.Pool.{set_moving, settled_pool}
+use Rattle.sched_model.specs.Pool.{pool_with_moving, settled_pool}
 use Rattle.pool_core.specs.Seen.{Seen}
 use Rattle.machine_parts.specs.Rooms.{IsPlaced}
 use Rattle.machine_parts.proofs.Rooming.{placed-same, some-out, units-moving}
@@ -9,4 +9,4 @@ pub invariant_of-self-2 : goal.invariant_of-self-2
 invariant_of-self-2 c x is =
     let d : Seen = c.deref_mut.result.now in
     let placed : IsPlaced d = subst IsPlaced (sym c.deref_mut.ensures.value) (c.self.invariant c.in-Some.pool c.in-Some.is) in
-    some-out (λ b. IsPlaced b.value) _ x is (subst IsPlaced (sym c.set_moving.ensures) (placed-same d c.args.t.0 (settled_pool c.args.t.0 (set_moving c.args.d.0 c.args.to.0 d.pool)) (units-moving d.granularity c.args.d.0 c.args.to.0 d.pool) placed))
+    some-out (λ b. IsPlaced b.value) _ x is (subst IsPlaced (sym c.set_moving.ensures) (placed-same d c.args.t.0 (settled_pool c.args.t.0 (pool_with_moving c.args.d.0 c.args.to.0 d.pool)) (units-moving d.granularity c.args.d.0 c.args.to.0 d.pool) placed))

@@ -2,9 +2,9 @@ use Rattle.std.proofs.Common.{◌≡◌, ◌<◌, ◌*◌, ℕ, sym, ap, subst, 
 use Rattle.std.specs.Prelude.{None}
 use Rattle.sched_model.specs.declared.state.Pool.{Pool}
 use Rattle.sched_model.specs.declared.state.Resource.{Resource}
-use Rattle.sched_model.specs.Opening.{fresh_core}
+use Rattle.sched_model.specs.Opening.{joined_core}
 use Rattle.sched_model.specs.Places.{at_place, put_at}
-use Rattle.core_state.specs.Seen.{Seen as CoresSeen, without_works}
+use Rattle.core_state.specs.Seen.{Seen as CoresSeen, cleared_works}
 use Rattle.policy_laws.proofs.Kept.{core_comes, later}
 use Rattle.pool_core.specs.Seen.{IsNow, Seen, pool_of}
 use Rattle.pool_core.proofs.Coming.{cores_kept, works_come}
@@ -22,9 +22,9 @@ invariant_of-self g c = unsettled (
     let place : r < length pool.resources = subst (λ (x : Seen). r < length x.pool.resources) (sym c.self.view_is) c.requires.place in
     let absent : at_place pool.resources r ≡ None = subst (λ (x : Seen). at_place x.pool.resources r ≡ None) (sym c.self.view_is) c.requires.absent in
     let cores : CoresSeen = c.self.inside.cores in
-    let after : c.put.new.self ≡ record cores { resources = put_at r (fresh_core ends) cores.resources; works = without_works (r * k) k cores.works } =
-    c.put.ensures ∙ ap (λ (x : Resource). record cores { resources = put_at r x cores.resources; works = without_works (r * cores.granularity) cores.granularity cores.works }) c.fresh_core.ensures
-    ∙ ap (λ (i : ℕ). record cores { resources = put_at r (fresh_core ends) cores.resources; works = without_works (r * i) i cores.works }) c.self.invariant.kept.linked.granularity in
-    cores_kept c.self.inside.latest.0 c.args.t.0 c.self.inside.guests cores c.put.new.self s (without_works (r * k) k cores.works) (put_at r (fresh_core ends) cores.resources) c.self.invariant.kept now.after now.early after
+    let after : c.put.new.self ≡ record cores { resources = put_at r (joined_core ends) cores.resources; works = cleared_works (r * k) k cores.works } =
+    c.put.ensures ∙ ap (λ (x : Resource). record cores { resources = put_at r x cores.resources; works = cleared_works (r * cores.granularity) cores.granularity cores.works }) c.fresh_core.ensures
+    ∙ ap (λ (i : ℕ). record cores { resources = put_at r (joined_core ends) cores.resources; works = cleared_works (r * i) i cores.works }) c.self.invariant.kept.linked.granularity in
+    cores_kept c.self.inside.latest.0 c.args.t.0 c.self.inside.guests cores c.put.new.self s (cleared_works (r * k) k cores.works) (put_at r (joined_core ends) cores.resources) c.self.invariant.kept now.after now.early after
     (works_come k r ends cores.works pool c.self.invariant.kept.pool.some place c.self.invariant.kept.linked.works)
     (core_comes k c.args.t.0 r ends pool absent (later k c.self.inside.latest.0 c.args.t.0 pool now.after c.self.invariant.kept.pool)))

@@ -3,7 +3,7 @@ use Rattle.std.specs.Prelude.{IsTrue, Some, None, slice_set}
 use Rattle.sched_model.specs.declared.action.Action.TheVariants.{Block}
 use Rattle.sched_model.specs.declared.state.Pool.{Pool}
 use Rattle.pool_laws.specs.CoreLooks.{IsSettled}
-use Rattle.sched_model.specs.Pool.{enabled_in, guest_of}
+use Rattle.sched_model.specs.Pool.{enabled_in, running_guest}
 use Rattle.pool_core.specs.Seen.{IsNow, Seen, guest_among, pool_of}
 use Rattle.pool_core.proofs.Acting.{acted, block_done, block_happens}
 use Rattle.pool_core.proofs.ActedWorks.{works_block}
@@ -14,7 +14,7 @@ pub block-requires-clause-done : goal.block-requires-clause-done
 block-requires-clause-done g c =
     let pool : Pool = pool_of c.self.inside.guests c.self.inside.cores (g.P.Policy.seen c.self.inside.policy) in
     let on : enabled_in c.self.inside.guests.granularity c.args.t.0 pool (Block c.args.p) ≡ true = subst (λ (x : Seen). enabled_in x.granularity c.args.t.0 x.pool (Block c.args.p) ≡ true) (sym c.self.view_is) c.requires.enabled in
-    let guest : guest_of c.self.inside.guests.granularity pool c.args.p.0 ≡ Some c.in-Some.v = ap (λ (k : ℕ). guest_among k c.self.inside.cores.resources c.args.p.0) (sym c.self.invariant.kept.linked.granularity) ∙ sym c.in-Some.ensures in
+    let guest : running_guest c.self.inside.guests.granularity pool c.args.p.0 ≡ Some c.in-Some.v = ap (λ (k : ℕ). guest_among k c.self.inside.cores.resources c.args.p.0) (sym c.self.invariant.kept.linked.granularity) ∙ sym c.in-Some.ensures in
     block_done c.self.inside.guests.granularity c.args.t.0 c.args.p.0 c.in-Some.v pool on guest
 
 pub invariant_of-self : goal.invariant_of-self
@@ -24,7 +24,7 @@ invariant_of-self g c =
     let k = c.self.inside.guests.granularity in
     let now : IsNow (record { pool = pool; granularity = k; spare = c.self.inside.guests.spare; latest = c.self.inside.latest.0; in_use = c.self.inside.in_use }) c.args.t.0 = subst (λ (x : Seen). IsNow x c.args.t.0) (sym c.self.view_is) c.requires.now in
     let on : enabled_in k c.args.t.0 pool (Block c.args.p) ≡ true = subst (λ (x : Seen). enabled_in x.granularity c.args.t.0 x.pool (Block c.args.p) ≡ true) (sym c.self.view_is) c.requires.enabled in
-    let guest : guest_of k pool c.args.p.0 ≡ Some c.in-Some.v = ap (λ (i : ℕ). guest_among i c.self.inside.cores.resources c.args.p.0) (sym c.self.invariant.kept.linked.granularity) ∙ sym c.in-Some.ensures in
+    let guest : running_guest k pool c.args.p.0 ≡ Some c.in-Some.v = ap (λ (i : ℕ). guest_among i c.self.inside.cores.resources c.args.p.0) (sym c.self.invariant.kept.linked.granularity) ∙ sym c.in-Some.ensures in
     let latest : s.latest ≤ c.args.t.0 = (let l = c.self.invariant.kept.linked.scheduler_latest in let a = now.after in omega (arith, l, a)) in
     let happens = block_happens k c.args.t.0 c.args.p.0 c.in-Some.v pool guest in
     let before : IsTrue c.is_settled-settled.result → IsSettled c.args.t.0 pool = λ e. subst (λ (x : Seen). IsSettled c.args.t.0 x.pool) (sym c.self.view_is) (c.is_settled-settled.ensures e) in

@@ -2,8 +2,8 @@ use Rattle.std.proofs.Common.{◌≡◌, ◌<◌, ◌-◌, ℕ, sym, ap, subst, 
 use Rattle.std.specs.Prelude.{None}
 use Rattle.sched_model.specs.declared.state.Pool.{Pool}
 use Rattle.sched_model.specs.Places.{at_place}
-use Rattle.sched_model.specs.Policy.{kind_of}
-use Rattle.sched_model.specs.Pool.{unit_count, with_domain}
+use Rattle.sched_model.specs.Policy.{records_kind}
+use Rattle.sched_model.specs.Pool.{domain_unit_count, pool_with_domain}
 use Rattle.sched_ops.specs.Conditions.{AreDomParams}
 use Rattle.unit_state.specs.Seen.{Seen as GuestsSeen}
 use Rattle.policy_laws.specs.Holds.{Holds}
@@ -26,12 +26,12 @@ invariant_of-self g c = unsettled (
     let now : IsNow (record { pool = pool; granularity = k; spare = guests.spare; latest = c.self.inside.latest.0; in_use = c.self.inside.in_use }) c.args.t.0 = subst (λ (x : Seen). IsNow x c.args.t.0) (sym c.self.view_is) c.requires.now in
     let place : d < length pool.domains = subst (λ (x : Seen). d < length x.pool.domains) (sym c.self.view_is) c.requires.place in
     let absent : at_place pool.domains d ≡ None = subst (λ (x : Seen). at_place x.pool.domains d ≡ None) (sym c.self.view_is) c.requires.absent in
-    let params : AreDomParams (kind_of s.scheduler.records) c.args.params.now = subst (λ (x : Seen). AreDomParams (kind_of x.pool.scheduler.records) c.args.params.now) (sym c.self.view_is) c.requires.params in
+    let params : AreDomParams (records_kind s.scheduler.records) c.args.params.now = subst (λ (x : Seen). AreDomParams (records_kind x.pool.scheduler.records) c.args.params.now) (sym c.self.view_is) c.requires.params in
     let linked = c.self.invariant.kept.linked in
-    let next : Pool = with_domain k c.args.t.0 d domain c.args.params.now pool in
+    let next : Pool = pool_with_domain k c.args.t.0 d domain c.args.params.now pool in
     let is : pool_of c.join.new.guests c.self.inside.cores (g.P.Policy.seen c.join.new.policy) ≡ next = c.join.ensures.pool in
     let same : c.join.new.guests.granularity ≡ k = ap (λ (x : GuestsSeen). x.granularity) c.join.ensures.guests in
-    let spare : c.join.new.guests.spare ≡ guests.spare - unit_count c.args.part.granularity domain = ap (λ (x : GuestsSeen). x.spare) c.join.ensures.guests in
+    let spare : c.join.new.guests.spare ≡ guests.spare - domain_unit_count c.args.part.granularity domain = ap (λ (x : GuestsSeen). x.spare) c.join.ensures.guests in
     let latest : c.join.new.guests.latest ≡ guests.latest = ap (λ (x : GuestsSeen). x.latest) c.join.ensures.guests in
     let holds : Holds k c.args.t.0 next = domain_comes k c.args.t.0 d domain c.args.params.now pool c.requires.stays c.requires.part.still absent place (some_units k domain c.self.invariant.kept.pool.some c.requires.part.guests.some) (matches s.scheduler.records c.args.params.now params) (later k c.self.inside.latest.0 c.args.t.0 pool now.after c.self.invariant.kept.pool) in
     let works : AreWorks k c.self.inside.cores.works next = works_given k c.args.t.0 d domain c.args.params.now c.self.inside.cores.works pool absent c.requires.part.still linked.works in

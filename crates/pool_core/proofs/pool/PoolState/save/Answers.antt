@@ -4,8 +4,8 @@ use Rattle.pool_laws.specs.CoreLooks.{IsSettled}
 use Rattle.sched_model.specs.declared.action.Action.TheVariants.{Save}
 use Rattle.sched_model.specs.declared.state.Pool.{Pool}
 use Rattle.sched_model.specs.Pool.{enabled_in, saved_at}
-use Rattle.sched_model.specs.State.{is_runnable}
-use Rattle.pool_core.specs.Wakes.{is_queued}
+use Rattle.sched_model.specs.State.{may_unit_run}
+use Rattle.pool_core.specs.Wakes.{is_queued_save}
 use Rattle.core_state.specs.Seen.{Seen as CoresSeen}
 use Rattle.pool_core.specs.Seen.{IsNow, Seen, pool_of}
 use Rattle.pool_core.proofs.Acting.{acted, unmoved}
@@ -30,6 +30,6 @@ invariant_of-self g c =
           (works_save k c.args.t.0 c.self.inside.cores.works pool c.self.invariant.kept.pool.known c.self.invariant.kept.linked.works c.args.r.0);
       settled = λ e. (
           let mark = mark_kept c.is_settled-settled.result c.is_queued-queued.result e in
-          let queued : c.is_queued-queued.result ≡ is_runnable k pool (saved_at pool c.args.r.0) = c.is_queued-queued.ensures ∙ ap is_queued c.save-event.ensures.event in
+          let queued : c.is_queued-queued.result ≡ may_unit_run k pool (saved_at pool c.args.r.0) = c.is_queued-queued.ensures ∙ ap is_queued_save c.save-event.ensures.event in
           subst (IsSettled c.args.t.0) (sym c.save-event.ensures.pool) (spared_save k c.args.t.0 pool (before mark.0) c.args.r.0 (sym queued ∙ mark.1)));
     }

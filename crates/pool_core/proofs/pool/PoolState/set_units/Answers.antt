@@ -1,7 +1,7 @@
 use Rattle.std.proofs.Common.{◌≤◌, ◌+◌, ℕ, sym, ap, subst, ◌∙◌, arith}
 use Rattle.sched_model.specs.declared.state.Pool.{Pool}
 use Rattle.sched_model.specs.declared.state.Scheduler.{Scheduler}
-use Rattle.sched_model.specs.Commands.{set_rtds}
+use Rattle.sched_model.specs.Commands.{pool_with_rtds}
 use Rattle.sched_model.specs.Places.{at_place, numbers_from}
 use Rattle.sched_model.specs.Pool.{settled_pool}
 use Rattle.unit_state.specs.Seen.{units_at}
@@ -40,7 +40,7 @@ returns g c =
     let t = c.args.t.0 in
     let given = c.args.given in
     let pool : Pool = pool_of inside.guests inside.cores (g.P.Policy.seen inside.policy) in
-    let after : Pool → Pool = λ p. set_rtds t c.args.d.0 given.period given.budget given.extra (numbers_from c.args.first c.args.count) p in
+    let after : Pool → Pool = λ p. pool_with_rtds t c.args.d.0 given.period given.budget given.extra (numbers_from c.args.first c.args.count) p in
     let made : Pool → Seen = λ p. record { pool = settled_pool t p; granularity = inside.guests.granularity; spare = inside.guests.spare; latest = t; in_use = inside.in_use } in
     c.look.ensures
     ∙ ap (λ (x : Scheduler). made (record pool { scheduler = x })) c.set_units.ensures.scheduler

@@ -2,7 +2,7 @@ use Rattle.std.proofs.Common.{◌≡◌, ◌+◌, ℕ, true, sym, ap, subst, ◌
 use Rattle.sched_model.specs.declared.action.Action.TheVariants.{DomMoved}
 use Rattle.sched_model.specs.declared.state.Pool.{Pool}
 use Rattle.sched_model.specs.Places.{clear_at}
-use Rattle.sched_model.specs.Pool.{enabled_in, unit_count}
+use Rattle.sched_model.specs.Pool.{enabled_in, domain_unit_count}
 use Rattle.pool_core.specs.Seen.{Seen, pool_of}
 use Rattle.pool_core.proofs.Goers.{goer_here, goer_idle, goer_joined, goer_still}
 use Rattle.pool_core.proofs.Parting.{parted_seen, taken_kept}
@@ -39,7 +39,7 @@ invariant_of-self g c = unsettled (
     let pool : Pool = pool_of c.self.inside.guests c.self.inside.cores s in
     let on : enabled_in c.self.inside.guests.granularity c.self.inside.latest.0 pool (DomMoved c.args.d) ≡ true = subst (λ (x : Seen). enabled_in x.granularity x.latest x.pool (DomMoved c.args.d) ≡ true) (sym c.self.view_is) c.requires.ready in
     taken_kept c.self.inside.latest.0 c.args.d.0 c.self.inside.guests c.take.new.guests c.self.inside.cores s (g.P.Policy.seen c.take.new.policy) c.take.result.domain c.self.invariant.kept on c.take.ensures.domain (c.take.ensures.pool c.self.inside.cores)
-    (c.take.ensures.guests ∙ ap (λ (i : ℕ). record c.self.inside.guests { domains = clear_at c.args.d.0 c.self.inside.guests.domains; spare = c.self.inside.guests.spare + unit_count i c.take.result.domain }) c.take.ensures.granularity)
+    (c.take.ensures.guests ∙ ap (λ (i : ℕ). record c.self.inside.guests { domains = clear_at c.args.d.0 c.self.inside.guests.domains; spare = c.self.inside.guests.spare + domain_unit_count i c.take.result.domain }) c.take.ensures.granularity)
     c.take.ensures.spare c.take.ensures.latest)
 
 pub returns-clause-after : goal.returns-clause-after

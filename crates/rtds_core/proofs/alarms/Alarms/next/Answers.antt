@@ -4,7 +4,7 @@ use Rattle.sched_base.specs.declared.UnitId.{UnitId}
 use Rattle.sched_ops.specs.declared.timer.Timer.TheVariants.{Repl}
 use Rattle.due_heap.specs.Dues.{IsArmed, HasCome}
 use Rattle.rtds_core.specs.Alarms.{armed_timers as armed, timer_of}
-use Rattle.sched_ops.specs.Timers.{next_of}
+use Rattle.sched_ops.specs.Timers.{next_armed}
 use Rattle.rtds_core.proofs.Armed.{none_armed, next_later, next_due, IsLeast}
 use Rattle.rtds_core.proofs.alarms.Alarms.next.Goals as goal
 use Rattle.due_heap.proofs.Tree.{armed_below}
@@ -30,7 +30,7 @@ returns-in-Some c =
 pub returns-in_err-at-in-None : goal.returns-in_err-at-in-None
 returns-in_err-at-in-None c =
     let empty : armed 0 c.args.self.now ≡ [] = none_armed 0 c.args.self.now (λ id at is. c.in_err-at-in-None.ensures.none id at (subst (λ (dues : List (Option Moment)). IsArmed dues id at) (sym c.self.view_is ∙ sym c.self.invariant.0) is)) in
-    c.from_residual.ensures ∙ sym (ap (next_of c.args.t.0) empty)
+    c.from_residual.ensures ∙ sym (ap (next_armed c.args.t.0) empty)
 
 pub unit_of-requires : goal.unit_of-requires
 unit_of-requires c = (let below = armed_below c.self.inside.heap c.in_ok-at-in-None.id c.in_ok-at-in-None.at c.in_ok-at-in-None.ensures.armed in let long : length c.self.inside.heap ≡ 2048 = ap (λ (xs : List (Option Moment)). length xs) c.self.invariant.0 ∙ c.self.invariant.1 in omega (arith, below, long))

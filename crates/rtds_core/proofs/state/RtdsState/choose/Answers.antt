@@ -5,7 +5,7 @@ use Rattle.sched_base.specs.declared.UnitId.{UnitId}
 use Rattle.sched_base.specs.declared.Moment.{Moment}
 use Rattle.sched_model.specs.declared.state.RtdsUnit.{RtdsUnit}
 use Rattle.sched_model.specs.declared.state.Records.TheVariants.{RtdsPool}
-use Rattle.sched_model.specs.Rtds.{burn_cur, switch_off, choice, budget_left}
+use Rattle.sched_model.specs.Rtds.{own_burned_domains, off_domains, rtds_choice, unit_left_budget}
 use Rattle.sched_model.specs.Policy.{decision_of, after_decision}
 use Rattle.sched_ops.specs.Seen.{Seen, seen_at}
 use Rattle.scheduler_records.specs.Parts.{scheduler_of}
@@ -49,7 +49,7 @@ pick-chosen-requires-clause-shape c =
 
 pub due_of-due-requires-clause-left : goal.due_of-due-requires-clause-left
 due_of-due-requires-clause-left c u =
-    subst (λ (ds : List (Option (List RtdsUnit))). budget_left ds u ≤ 1000000000000) (sym c.as_slice-3.ensures) (c.burn_cur.ensures.left u)
+    subst (λ (ds : List (Option (List RtdsUnit))). unit_left_budget ds u ≤ 1000000000000) (sym c.as_slice-3.ensures) (c.burn_cur.ensures.left u)
 
 pub stop-requires : goal.stop-requires
 stop-requires c =
@@ -65,12 +65,12 @@ start-requires c =
     let later = kept_asked i.domains i.affinity i.queues i.masks i.alarms i.spare i.latest ask c.args.self.now c.self.view_is c.requires.asked c.self.invariant in
     let own = own_asked i.domains i.affinity i.queues i.spare i.latest ask c.args.self.now c.self.view_is c.requires.asked c.self.invariant.shape in
     let charged = kept_charged i.affinity i.queues i.masks i.spare ask.at.0 ask.cur i.domains i.alarms own later in
-    let burned : List (Option (List RtdsUnit)) = burn_cur ask.cur ask.at.0 i.domains in
+    let burned : List (Option (List RtdsUnit)) = own_burned_domains ask.cur ask.at.0 i.domains in
     let order : IsOrdered i.queues = record { order = c.law_order.ensures.order; ranks = c.law_order.ensures.ranks; units = c.law_order.ensures.units } in
     let slice : c.as_slice.result.now ≡ burned = c.as_slice.ensures ∙ c.burn_cur.ensures.domains in
-    let chosen : c.pick-chosen.result ≡ choice ask (seen_of i.domains i.affinity i.queues i.spare i.latest).scheduler burned =
-    c.pick-chosen.ensures ∙ ap (λ (a : List (Option (List Cores))). choice ask (scheduler_of (queue_of i.queues) a (RtdsPool c.as_slice.result.now)) c.as_slice.result.now) c.as_slice-2.ensures
-    ∙ ap (λ (ds : List (Option (List RtdsUnit))). choice ask (scheduler_of (queue_of i.queues) i.affinity (RtdsPool ds)) ds) slice in
+    let chosen : c.pick-chosen.result ≡ rtds_choice ask (seen_of i.domains i.affinity i.queues i.spare i.latest).scheduler burned =
+    c.pick-chosen.ensures ∙ ap (λ (a : List (Option (List Cores))). rtds_choice ask (scheduler_of (queue_of i.queues) a (RtdsPool c.as_slice.result.now)) c.as_slice.result.now) c.as_slice-2.ensures
+    ∙ ap (λ (ds : List (Option (List RtdsUnit))). rtds_choice ask (scheduler_of (queue_of i.queues) i.affinity (RtdsPool ds)) ds) slice in
     let known : IfSome c.pick-chosen.result (IsKnown burned) = subst (λ (o : Option UnitId). IfSome o (IsKnown burned)) (sym chosen) (choice_known burned ask (seen_of i.domains i.affinity i.queues i.spare i.latest).scheduler) in
     record { known = λ u is. (known_low burned i.affinity c.pick-chosen.result charged.shape known u is).id }
 
@@ -81,20 +81,20 @@ invariant_of-self c =
     let later = kept_asked i.domains i.affinity i.queues i.masks i.alarms i.spare i.latest ask c.args.self.now c.self.view_is c.requires.asked c.self.invariant in
     let own = own_asked i.domains i.affinity i.queues i.spare i.latest ask c.args.self.now c.self.view_is c.requires.asked c.self.invariant.shape in
     let charged = kept_charged i.affinity i.queues i.masks i.spare ask.at.0 ask.cur i.domains i.alarms own later in
-    let burned : List (Option (List RtdsUnit)) = burn_cur ask.cur ask.at.0 i.domains in
+    let burned : List (Option (List RtdsUnit)) = own_burned_domains ask.cur ask.at.0 i.domains in
     let order : IsOrdered i.queues = record { order = c.law_order.ensures.order; ranks = c.law_order.ensures.ranks; units = c.law_order.ensures.units } in
     let slice : c.as_slice.result.now ≡ burned = c.as_slice.ensures ∙ c.burn_cur.ensures.domains in
-    let chosen : c.pick-chosen.result ≡ choice ask (seen_of i.domains i.affinity i.queues i.spare i.latest).scheduler burned =
-    c.pick-chosen.ensures ∙ ap (λ (a : List (Option (List Cores))). choice ask (scheduler_of (queue_of i.queues) a (RtdsPool c.as_slice.result.now)) c.as_slice.result.now) c.as_slice-2.ensures
-    ∙ ap (λ (ds : List (Option (List RtdsUnit))). choice ask (scheduler_of (queue_of i.queues) i.affinity (RtdsPool ds)) ds) slice in
+    let chosen : c.pick-chosen.result ≡ rtds_choice ask (seen_of i.domains i.affinity i.queues i.spare i.latest).scheduler burned =
+    c.pick-chosen.ensures ∙ ap (λ (a : List (Option (List Cores))). rtds_choice ask (scheduler_of (queue_of i.queues) a (RtdsPool c.as_slice.result.now)) c.as_slice.result.now) c.as_slice-2.ensures
+    ∙ ap (λ (ds : List (Option (List RtdsUnit))). rtds_choice ask (scheduler_of (queue_of i.queues) i.affinity (RtdsPool ds)) ds) slice in
     let known : IfSome c.pick-chosen.result (IsKnown burned) = subst (λ (o : Option UnitId). IfSome o (IsKnown burned)) (sym chosen) (choice_known burned ask (seen_of i.domains i.affinity i.queues i.spare i.latest).scheduler) in
-    let off : c.stop.new.domains ≡ switch_off ask.cur burned = c.stop.ensures.domains ∙ ap (switch_off ask.cur) c.burn_cur.ensures.domains in
-    let domains : c.start.new.domains ≡ run_from ask.at.0 c.pick-chosen.result (switch_off ask.cur burned) = c.start.ensures.domains ∙ ap (run_from ask.at.0 c.pick-chosen.result) off in
-    let alarms : c.start.new.alarms ≡ dues_with (switch_off ask.cur burned) c.pick-chosen.result (dues_without ask.cur i.alarms) =
+    let off : c.stop.new.domains ≡ off_domains ask.cur burned = c.stop.ensures.domains ∙ ap (off_domains ask.cur) c.burn_cur.ensures.domains in
+    let domains : c.start.new.domains ≡ run_from ask.at.0 c.pick-chosen.result (off_domains ask.cur burned) = c.start.ensures.domains ∙ ap (run_from ask.at.0 c.pick-chosen.result) off in
+    let alarms : c.start.new.alarms ≡ dues_with (off_domains ask.cur burned) c.pick-chosen.result (dues_without ask.cur i.alarms) =
     c.start.ensures.alarms ∙ ap (λ (ds : List (Option (List RtdsUnit))). dues_with ds c.pick-chosen.result c.stop.new.alarms) off
-    ∙ ap (λ (dues : List (Option Moment)). dues_with (switch_off ask.cur burned) c.pick-chosen.result dues) c.stop.ensures.alarms in
-    kept_as (run_from ask.at.0 c.pick-chosen.result (switch_off ask.cur burned)) c.start.new.domains i.affinity i.affinity (queues_without c.pick-chosen.result i.queues) c.start.new.queues i.masks
-    (dues_with (switch_off ask.cur burned) c.pick-chosen.result (dues_without ask.cur i.alarms)) c.start.new.alarms i.spare ask.at.0 domains refl c.start.ensures.queues alarms
+    ∙ ap (λ (dues : List (Option Moment)). dues_with (off_domains ask.cur burned) c.pick-chosen.result dues) c.stop.ensures.alarms in
+    kept_as (run_from ask.at.0 c.pick-chosen.result (off_domains ask.cur burned)) c.start.new.domains i.affinity i.affinity (queues_without c.pick-chosen.result i.queues) c.start.new.queues i.masks
+    (dues_with (off_domains ask.cur burned) c.pick-chosen.result (dues_without ask.cur i.alarms)) c.start.new.alarms i.spare ask.at.0 domains refl c.start.ensures.queues alarms
     (kept_chosen i.affinity i.queues i.masks i.spare ask.at.0 ask.cur c.pick-chosen.result i.domains i.alarms own known order later)
 
 pub returns-clause-after : goal.returns-clause-after
@@ -104,16 +104,16 @@ returns-clause-after c =
     let later = kept_asked i.domains i.affinity i.queues i.masks i.alarms i.spare i.latest ask c.args.self.now c.self.view_is c.requires.asked c.self.invariant in
     let own = own_asked i.domains i.affinity i.queues i.spare i.latest ask c.args.self.now c.self.view_is c.requires.asked c.self.invariant.shape in
     let charged = kept_charged i.affinity i.queues i.masks i.spare ask.at.0 ask.cur i.domains i.alarms own later in
-    let burned : List (Option (List RtdsUnit)) = burn_cur ask.cur ask.at.0 i.domains in
+    let burned : List (Option (List RtdsUnit)) = own_burned_domains ask.cur ask.at.0 i.domains in
     let order : IsOrdered i.queues = record { order = c.law_order.ensures.order; ranks = c.law_order.ensures.ranks; units = c.law_order.ensures.units } in
     let slice : c.as_slice.result.now ≡ burned = c.as_slice.ensures ∙ c.burn_cur.ensures.domains in
-    let chosen : c.pick-chosen.result ≡ choice ask (seen_of i.domains i.affinity i.queues i.spare i.latest).scheduler burned =
-    c.pick-chosen.ensures ∙ ap (λ (a : List (Option (List Cores))). choice ask (scheduler_of (queue_of i.queues) a (RtdsPool c.as_slice.result.now)) c.as_slice.result.now) c.as_slice-2.ensures
-    ∙ ap (λ (ds : List (Option (List RtdsUnit))). choice ask (scheduler_of (queue_of i.queues) i.affinity (RtdsPool ds)) ds) slice in
+    let chosen : c.pick-chosen.result ≡ rtds_choice ask (seen_of i.domains i.affinity i.queues i.spare i.latest).scheduler burned =
+    c.pick-chosen.ensures ∙ ap (λ (a : List (Option (List Cores))). rtds_choice ask (scheduler_of (queue_of i.queues) a (RtdsPool c.as_slice.result.now)) c.as_slice.result.now) c.as_slice-2.ensures
+    ∙ ap (λ (ds : List (Option (List RtdsUnit))). rtds_choice ask (scheduler_of (queue_of i.queues) i.affinity (RtdsPool ds)) ds) slice in
     let known : IfSome c.pick-chosen.result (IsKnown burned) = subst (λ (o : Option UnitId). IfSome o (IsKnown burned)) (sym chosen) (choice_known burned ask (seen_of i.domains i.affinity i.queues i.spare i.latest).scheduler) in
-    let off : c.stop.new.domains ≡ switch_off ask.cur burned = c.stop.ensures.domains ∙ ap (switch_off ask.cur) c.burn_cur.ensures.domains in
-    let domains : c.start.new.domains ≡ run_from ask.at.0 c.pick-chosen.result (switch_off ask.cur burned) = c.start.ensures.domains ∙ ap (run_from ask.at.0 c.pick-chosen.result) off in
+    let off : c.stop.new.domains ≡ off_domains ask.cur burned = c.stop.ensures.domains ∙ ap (off_domains ask.cur) c.burn_cur.ensures.domains in
+    let domains : c.start.new.domains ≡ run_from ask.at.0 c.pick-chosen.result (off_domains ask.cur burned) = c.start.ensures.domains ∙ ap (run_from ask.at.0 c.pick-chosen.result) off in
     ap (λ (ds : List (Option (List RtdsUnit))). seen_of ds i.affinity c.start.new.queues i.spare ask.at.0) domains
-    ∙ ap (λ (q : Lists). seen_of (run_from ask.at.0 c.pick-chosen.result (switch_off ask.cur burned)) i.affinity q i.spare ask.at.0) c.start.ensures.queues
+    ∙ ap (λ (q : Lists). seen_of (run_from ask.at.0 c.pick-chosen.result (off_domains ask.cur burned)) i.affinity q i.spare ask.at.0) c.start.ensures.queues
     ∙ seen_chosen i.affinity i.queues i.masks i.spare ask.at.0 ask c.pick-chosen.result i.domains i.alarms i.latest refl own known order later chosen
     ∙ ap (λ (s : Seen). seen_at ask.at.0 (after_decision (decision_of ask s.scheduler) s.scheduler) s) c.self.view_is

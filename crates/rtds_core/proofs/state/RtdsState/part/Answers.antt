@@ -6,7 +6,7 @@ use Rattle.sched_laws.proofs.Lists.{some_is}
 use Rattle.sched_model.specs.Places.{at_place, clear_at}
 use Rattle.sched_model.specs.declared.state.RtdsUnit.{RtdsUnit}
 use Rattle.sched_ops.specs.Seen.{Seen}
-use Rattle.sched_ops.specs.Conditions.{HasNoneBusy, has_joined}
+use Rattle.sched_ops.specs.Conditions.{HasNoneBusy, has_joined_domain}
 use Rattle.rtds_core.specs.RtdsParts.{IsKept, seen_of, size}
 use Rattle.rtds_core.proofs.Queues.{IsOrdered}
 use Rattle.rtds_core.proofs.Calls.{on_record}
@@ -17,7 +17,7 @@ pub invariant_of-self : goal.invariant_of-self
 invariant_of-self c =
     let i = c.self.inside in
     let order : IsOrdered i.queues = record { order = c.law_order.ensures.order; ranks = c.law_order.ensures.ranks; units = c.law_order.ensures.units } in
-    let joined : is_some (at_place i.affinity c.args.d.0) ≡ true = subst (λ (s : Seen). has_joined s.scheduler c.args.d.0 ≡ true) (sym c.self.view_is) c.requires.joined in
+    let joined : is_some (at_place i.affinity c.args.d.0) ≡ true = subst (λ (s : Seen). has_joined_domain s.scheduler c.args.d.0 ≡ true) (sym c.self.view_is) c.requires.joined in
     let there = some_is (at_place i.affinity c.args.d.0) joined in
     let place : c.args.d.0 < length i.affinity = place_below i.affinity c.args.d.0 there.0 there.1 in
     let idle : HasNoneBusy (seen_of i.domains i.affinity i.queues i.spare i.latest).scheduler c.args.d.0 = subst (λ (s : Seen). HasNoneBusy s.scheduler c.args.d.0) (sym c.self.view_is) c.requires.idle in

@@ -1,5 +1,5 @@
 use Rattle.std.proofs.Common.{◌≡◌, subst}
-use Rattle.sched_model.specs.Machine.{first_enabled}
+use Rattle.sched_model.specs.Machine.{first_enabled_action}
 use Rattle.sched_model.specs.Standing.{Standing}
 use Rattle.sched_plain.proofs.Bridges.{stands-machine, stands-state}
 use Rattle.sched_plain.proofs.plain.Plain.first_enabled.Goals as goal
@@ -11,4 +11,4 @@ pub first_enabled-requires-clause-state : goal.first_enabled-requires-clause-sta
 first_enabled-requires-clause-state c = stands-state c.self.inside.machine c.self.inside.state c.self.invariant.0
 
 pub returns : goal.returns
-returns c = subst (λ (v : Standing). c.first_enabled.result ≡ first_enabled v.machine v.state v.state.now) c.self.view_is c.first_enabled.ensures
+returns c = subst (λ (v : Standing). c.first_enabled.result ≡ first_enabled_action v.machine v.state v.state.now) c.self.view_is c.first_enabled.ensures

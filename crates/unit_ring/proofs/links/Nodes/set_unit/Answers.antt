@@ -2,12 +2,12 @@ use Rattle.std.proofs.Common.{◌≡◌, List, length, set, ◌∙◌, ap, arith
 use Rattle.core.specs.Mem.Slots.{slots_items}
 use Rattle.std.proofs.lemmas.List.{length-map}
 use Rattle.unit_ring.specs.declared.nodes.NodeRecord.{NodeRecord}
-use Rattle.unit_ring.specs.Nodes.{Links, links_of, node_at}
+use Rattle.unit_ring.specs.Nodes.{Links, links_of, numbered_node}
 use Rattle.unit_ring.proofs.Linked.{read_node, unit-keeps_after, unit-keeps_before, unit-written}
 use Rattle.unit_ring.proofs.links.Nodes.set_unit.Goals as goal
 
 -- the node that was read
-read : (c : goal.After-put) → c.get-node.result.now ≡ node_at (slots_items c.self.inside.row) c.args.n
+read : (c : goal.After-put) → c.get-node.result.now ≡ numbered_node (slots_items c.self.inside.row) c.args.n
 read c =
     let seen : length (links_of c.self.inside.base (slots_items c.self.inside.row)).units ≡ length c.args.self.now.units = ap (λ (ls : Links). length ls.units) c.self.view_is in
     let long = length-map (slots_items c.self.inside.row) (λ (x : NodeRecord). x.unit) in

@@ -2,9 +2,9 @@ use Rattle.std.proofs.Common.{◌≡◌, ◌≤◌, ◌<◌, ◌+◌, ◌*◌, �
 use Rattle.std.specs.Option.{ForSome}
 use Rattle.sched_model.specs.declared.state.Domain.{Domain}
 use Rattle.sched_model.specs.Places.{at_place, clear_at}
-use Rattle.sched_model.specs.Pool.{unit_count}
+use Rattle.sched_model.specs.Pool.{domain_unit_count}
 use Rattle.sched_laws.proofs.EachPlace.{place_below}
-use Rattle.due_heap.specs.Dues.{due_of}
+use Rattle.due_heap.specs.Dues.{armed_moment}
 use Rattle.unit_state.specs.Seen.{Seen, wake_among}
 use Rattle.unit_state.specs.Parts.{IsStill}
 use Rattle.unit_state.specs.Guests.{KeepsGuests, AreSleepers, vcpu_id}
@@ -19,11 +19,11 @@ invariant_of-self c =
     let d = c.args.d.0 in
     let domain = c.take_out-domain.result in
     let next = clear_at d seen.domains in
-    let own : (n : ℕ) → n < 32 → due_of c.rearm_domain.new.sleepers (d * 32 + n) ≡ wake_among next (vcpu_id d n) =
-    subst (λ (ds : List (Option Domain)). (n : ℕ) → n < 32 → due_of c.rearm_domain.new.sleepers (d * 32 + n) ≡ wake_among ds (vcpu_id d n)) (c.as_slice.ensures ∙ c.take_out-domain.ensures.domains) c.rearm_domain.ensures.own
+    let own : (n : ℕ) → n < 32 → armed_moment c.rearm_domain.new.sleepers (d * 32 + n) ≡ wake_among next (vcpu_id d n) =
+    subst (λ (ds : List (Option Domain)). (n : ℕ) → n < 32 → armed_moment c.rearm_domain.new.sleepers (d * 32 + n) ≡ wake_among ds (vcpu_id d n)) (c.as_slice.ensures ∙ c.take_out-domain.ensures.domains) c.rearm_domain.ensures.own
     in
     subst (λ (k : ℕ). KeepsGuests (record seen { domains = c.take_out-domain.new.domains; spare = seen.spare + k }) × AreSleepers c.take_out-domain.new.domains c.rearm_domain.new.sleepers) (sym c.unit_count.ensures.count)
-    (subst (λ (ds : List (Option Domain)). KeepsGuests (record seen { domains = ds; spare = seen.spare + unit_count seen.granularity domain }) × AreSleepers ds c.rearm_domain.new.sleepers) (sym c.take_out-domain.ensures.domains) (
+    (subst (λ (ds : List (Option Domain)). KeepsGuests (record seen { domains = ds; spare = seen.spare + domain_unit_count seen.granularity domain }) × AreSleepers ds c.rearm_domain.new.sleepers) (sym c.take_out-domain.ensures.domains) (
       keeps_taken seen d domain c.take_out-domain.ensures.domain c.self.invariant.0,
       sleepers_replaced seen.domains next c.self.inside.sleepers c.rearm_domain.new.sleepers d c.rearm_domain.ensures.ids own c.rearm_domain.ensures.others (λ w other. wake_among-clear_at_other d w seen.domains other) c.self.invariant.1,
     ))

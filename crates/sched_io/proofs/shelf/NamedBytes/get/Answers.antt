@@ -1,7 +1,7 @@
 use Rattle.std.proofs.Common.{ap}
 use Rattle.std.specs.Option.{option_map}
 use Rattle.sched_io.proofs.ShelfLemmas.{lookup_plain}
-use Rattle.sched_io.proofs.shelf.Shelf.get.Goals as goal
+use Rattle.sched_io.proofs.shelf.NamedBytes.get.Goals as goal
 
 pub returns-in-Some : goal.returns-in-Some
 returns-in-Some c =

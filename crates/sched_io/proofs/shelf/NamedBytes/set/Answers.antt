@@ -1,7 +1,7 @@
 use Rattle.std.proofs.Common.{Some, ap, ◌∙◌, rules}
 use Rattle.sched_io.specs.HeldBytes.{bytes_under}
 use Rattle.sched_io.proofs.ShelfLemmas.{set_held, set_others}
-use Rattle.sched_io.proofs.shelf.Shelf.set.Goals as goal
+use Rattle.sched_io.proofs.shelf.NamedBytes.set.Goals as goal
 
 pub returns-clause-held : goal.returns-clause-held
 returns-clause-held c =
