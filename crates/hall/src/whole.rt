@@ -48,12 +48,12 @@ fn lock_of(pool: Option<PoolId>) -> LockId
 }
 
 /// The core that moves goes from the lock of its pool, or the tool's, to that of the pool where it is to be, or the tool's.
-fn core_move(tool: &ToolState, at: &Trail, r: ResId) -> NameMove
-    requires goes { GoesOn at.now }
-    requires known { tool_of at.now.input (state_of at.now) ≡ tool.now }
-    requires enabled { is_action_enabled at.now.input (state_of at.now) (state_of at.now).now
+fn core_move(tool: &ToolState, trail: &Trail, r: ResId) -> NameMove
+    requires goes { GoesOn trail.now }
+    requires known { tool_of trail.now.input (state_of trail.now) ≡ tool.now }
+    requires enabled { is_action_enabled trail.now.input (state_of trail.now) (state_of trail.now).now
         (actions.Moved r) ≡ true }
-    ensures { HandsNameOver at.now (actions.Moved r) result }
+    ensures { HandsNameOver trail.now (actions.Moved r) result }
 {
     let Some(Move::Res { to, .. }) = tool.moving() else {
         unreachable!();
@@ -68,12 +68,12 @@ fn core_move(tool: &ToolState, at: &Trail, r: ResId) -> NameMove
 }
 
 /// The domain that moves goes from the lock of its pool to that of the other pool.
-fn domain_move(tool: &ToolState, at: &Trail, d: DomId) -> NameMove
-    requires goes { GoesOn at.now }
-    requires known { tool_of at.now.input (state_of at.now) ≡ tool.now }
-    requires enabled { is_action_enabled at.now.input (state_of at.now) (state_of at.now).now
+fn domain_move(tool: &ToolState, trail: &Trail, d: DomId) -> NameMove
+    requires goes { GoesOn trail.now }
+    requires known { tool_of trail.now.input (state_of trail.now) ≡ tool.now }
+    requires enabled { is_action_enabled trail.now.input (state_of trail.now) (state_of trail.now).now
         (actions.DomMoved d) ≡ true }
-    ensures { HandsNameOver at.now (actions.DomMoved d) result }
+    ensures { HandsNameOver trail.now (actions.DomMoved d) result }
 {
     let Some(Move::Dom { to, .. }) = tool.moving() else {
         unreachable!();
@@ -87,16 +87,16 @@ fn domain_move(tool: &ToolState, at: &Trail, d: DomId) -> NameMove
 }
 
 /// Which name an action hands over, from which lock to which: that of the core or the domain that moves. None of every other action.
-fn name_move(tool: &ToolState, at: &Trail, action: Action) -> Option<NameMove>
-    requires goes { GoesOn at.now }
-    requires known { tool_of at.now.input (state_of at.now) ≡ tool.now }
-    requires enabled { is_action_enabled at.now.input (state_of at.now) (state_of at.now).now action
+fn name_move(tool: &ToolState, trail: &Trail, action: Action) -> Option<NameMove>
+    requires goes { GoesOn trail.now }
+    requires known { tool_of trail.now.input (state_of trail.now) ≡ tool.now }
+    requires enabled { is_action_enabled trail.now.input (state_of trail.now) (state_of trail.now).now action
         ≡ true }
-    ensures { HandsName at.now action result }
+    ensures { HandsName trail.now action result }
 {
     match action {
-        Action::Moved(r) => Some(core_move(tool, at, r)),
-        Action::DomMoved(d) => Some(domain_move(tool, at, d)),
+        Action::Moved(r) => Some(core_move(tool, trail, r)),
+        Action::DomMoved(d) => Some(domain_move(tool, trail, d)),
         _ => None,
     }
 }

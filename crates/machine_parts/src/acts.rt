@@ -22,19 +22,19 @@ impl PoolSlot {
 
     /// An event of the pool that is the part i of the machine, which stands where the trail leads: the machine's own event, after which
     /// the place stands where the trail leads with the entry added. The event's moment is the machine's.
-    pub fn perform(&mut self, at: &Trail, i: u8, action: Action, t: Moment) -> Event
-        requires goes { GoesOn at.now }
-        requires now { t.0 ≡ (state_of at.now).now }
-        requires stands { StandsAt at.now i self.old }
+    pub fn perform(&mut self, trail: &Trail, i: u8, action: Action, t: Moment) -> Event
+        requires goes { GoesOn trail.now }
+        requires now { t.0 ≡ (state_of trail.now).now }
+        requires stands { StandsAt trail.now i self.old }
         requires own { IsOfPool action }
-        requires enabled { is_action_enabled at.now.input (state_of at.now) (state_of at.now).now action
+        requires enabled { is_action_enabled trail.now.input (state_of trail.now) (state_of trail.now).now action
             ≡ true }
-        requires home { home_pool_of_action at.now.input.config.granularity (state_of at.now) action ≡ Some i }
-        ensures event { result ≡ event_of at.now.input (state_of at.now) (state_of at.now).now
+        requires home { home_pool_of_action trail.now.input.config.granularity (state_of trail.now) action ≡ Some i }
+        ensures event { result ≡ event_of trail.now.input (state_of trail.now) (state_of trail.now).now
             action }
         ensures part { slot_part self.new
-            ≡ part_of (after at.now.input (state_of at.now) (state_of at.now).now action) i }
-        ensures stands { StandsAt (told_more at.now (record { at = t; event = result })) i
+            ≡ part_of (after trail.now.input (state_of trail.now) (state_of trail.now).now action) i }
+        ensures stands { StandsAt (told_more trail.now (record { at = t; event = result })) i
             self.new }
     {
         let Some(pool) = &mut self.state else {
@@ -45,12 +45,12 @@ impl PoolSlot {
 
     /// A spare pool of the machine comes to the place, which is empty, with these parameters of its scheduler. It is in use, and has
     /// neither a domain nor a core.
-    pub fn open_with(&mut self, at: &Trail, spare: AnyPool, params: &PoolParams)
+    pub fn open_with(&mut self, trail: &Trail, spare: AnyPool, params: &PoolParams)
         requires empty { self.old ≡ None }
-        requires spare { IsSpare at.now.input (state_of at.now).now
+        requires spare { IsSpare trail.now.input (state_of trail.now).now
             (records_kind spare.value.pool.scheduler.records) spare.value }
         requires params { ArePoolParams (records_kind spare.value.pool.scheduler.records) params.now }
-        ensures { self.new ≡ Some (made_seen at.now.input.config params.now spare.value.latest) }
+        ensures { self.new ≡ Some (made_seen trail.now.input.config params.now spare.value.latest) }
     {
         let mut pool = spare;
         pool.open(params);
@@ -59,14 +59,14 @@ impl PoolSlot {
 
     /// The pool of the place, the part i of the machine, goes out, which has neither a domain nor a core. It is in use no longer, and is
     /// a spare one.
-    pub fn shut(&mut self, at: &Trail, i: u8) -> AnyPool
-        requires goes { GoesOn at.now }
-        requires stands { StandsAt at.now i self.old }
+    pub fn shut(&mut self, trail: &Trail, i: u8) -> AnyPool
+        requires goes { GoesOn trail.now }
+        requires stands { StandsAt trail.now i self.old }
         requires some { IsSome self.old }
         requires empty { ForSome self.old (λ seen. IsEmpty seen.pool) }
         ensures after { self.new ≡ None }
         ensures pool { ForSome self.old (λ seen. result.value ≡ record seen { in_use = false }) }
-        ensures spare { IsSpare at.now.input (state_of at.now).now
+        ensures spare { IsSpare trail.now.input (state_of trail.now).now
             (records_kind result.value.pool.scheduler.records) result.value }
     {
         let Some(mut pool) = self.state.take() else {

@@ -164,15 +164,15 @@ impl PoolSlot {
 
     /// A domain of the machine, none of whose vCPUs is started, comes into the pool that is the part i, with these parameters. Its units
     /// that are runnable wait. There is room for them, since the pool has room for all units of the machine.
-    pub fn give_domain(&mut self, at: &Trail, i: u8, part: DomPart, params: &DomParams, t: Moment)
-        requires goes { GoesOn at.now }
-        requires stands { StandsAt at.now i self.old }
+    pub fn give_domain(&mut self, trail: &Trail, i: u8, part: DomPart, params: &DomParams, t: Moment)
+        requires goes { GoesOn trail.now }
+        requires stands { StandsAt trail.now i self.old }
         requires some { IsSome self.old }
-        requires now { t.0 ≡ (state_of at.now).now }
+        requires now { t.0 ≡ (state_of trail.now).now }
         requires part { IsPart part }
         requires stays { part.domain.moving ≡ None }
-        requires domain { DomainInRange at.now.input (state_of at.now).now part.d.0 part.domain }
-        requires granularity { part.granularity ≡ at.now.input.config.granularity }
+        requires domain { DomainInRange trail.now.input (state_of trail.now).now part.d.0 part.domain }
+        requires granularity { part.granularity ≡ trail.now.input.config.granularity }
         requires absent { ForSome self.old (λ seen. at_place seen.pool.domains part.d.0 ≡ None) }
         requires params { ForSome self.old
             (λ seen. AreDomParams (records_kind seen.pool.scheduler.records) params.now) }

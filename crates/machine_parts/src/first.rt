@@ -24,9 +24,9 @@ fn if_ready(ready: bool, action: Action) -> Option<Action>
 }
 
 /// Whether a core that is on its way out of its pool may leave it at t.
-fn core_ready(slots: &[PoolSlot], tool: &ToolState, at: &Trail, r: ResId, t: Moment) -> bool
-    requires parts { AreParts at.now slots.now tool.now }
-    ensures { result ≡ enabled_at_home at.now.input (state_of at.now) t.0 (Moved r) }
+fn core_ready(slots: &[PoolSlot], tool: &ToolState, trail: &Trail, r: ResId, t: Moment) -> bool
+    requires parts { AreParts trail.now slots.now tool.now }
+    ensures { result ≡ enabled_at_home trail.now.input (state_of trail.now) t.0 (Moved r) }
 {
     match tool.home_of_core(r) {
         None => false,
@@ -35,9 +35,9 @@ fn core_ready(slots: &[PoolSlot], tool: &ToolState, at: &Trail, r: ResId, t: Mom
 }
 
 /// Whether a domain that is on its way may leave its pool.
-fn domain_ready(slots: &[PoolSlot], tool: &ToolState, at: &Trail, d: DomId) -> bool
-    requires parts { AreParts at.now slots.now tool.now }
-    ensures { (t : ℕ) → result ≡ enabled_at_home at.now.input (state_of at.now) t (DomMoved d) }
+fn domain_ready(slots: &[PoolSlot], tool: &ToolState, trail: &Trail, d: DomId) -> bool
+    requires parts { AreParts trail.now slots.now tool.now }
+    ensures { (t : ℕ) → result ≡ enabled_at_home trail.now.input (state_of trail.now) t (DomMoved d) }
 {
     match tool.home_of_domain(d) {
         None => false,
@@ -46,34 +46,34 @@ fn domain_ready(slots: &[PoolSlot], tool: &ToolState, at: &Trail, d: DomId) -> b
 }
 
 /// The move of what is on its way, where it may come at t.
-fn move_first(slots: &[PoolSlot], tool: &ToolState, at: &Trail, t: Moment) -> Option<Action>
-    requires parts { AreParts at.now slots.now tool.now }
-    ensures { result ≡ first_tool_move at.now.input (state_of at.now) t.0
-        (state_under_way (state_of at.now)) }
+fn move_first(slots: &[PoolSlot], tool: &ToolState, trail: &Trail, t: Moment) -> Option<Action>
+    requires parts { AreParts trail.now slots.now tool.now }
+    ensures { result ≡ first_tool_move trail.now.input (state_of trail.now) t.0
+        (state_under_way (state_of trail.now)) }
 {
     match tool.moving() {
         None => None,
         Some(Move::Res { r, to: None }) => if_ready(
-            core_ready(slots, tool, at, r, t),
+            core_ready(slots, tool, trail, r, t),
             Action::Moved(r),
         ),
         Some(Move::Res { r, to: Some(_) }) => if_ready(tool.free_ready(t), Action::Moved(r)),
         Some(Move::Dom { d, .. }) => if_ready(
-            domain_ready(slots, tool, at, d),
+            domain_ready(slots, tool, trail, d),
             Action::DomMoved(d),
         ),
     }
 }
 
 /// The tool's first action that may come at t: the stall, or else the command, or else the move of what is on its way.
-pub fn tool_first(slots: &[PoolSlot], tool: &ToolState, at: &Trail, t: Moment) -> Option<Action>
-    requires parts { AreParts at.now slots.now tool.now }
-    ensures { result ≡ first_tool_action at.now.input (state_of at.now) t.0 }
+pub fn tool_first(slots: &[PoolSlot], tool: &ToolState, trail: &Trail, t: Moment) -> Option<Action>
+    requires parts { AreParts trail.now slots.now tool.now }
+    ensures { result ≡ first_tool_action trail.now.input (state_of trail.now) t.0 }
 {
     match tool.tool_enabled(t) {
         Some(ToolEvent::Stall(_)) => Some(Action::Stall),
         Some(ToolEvent::Command(_)) => Some(Action::Xl),
-        None => move_first(slots, tool, at, t),
+        None => move_first(slots, tool, trail, t),
     }
 }
 
@@ -83,15 +83,15 @@ pub fn whole_first(
     slots: &[PoolSlot],
     tool: &ToolState,
     firsts: &[Option<Action>],
-    at: &Trail,
+    trail: &Trail,
     t: Moment,
 ) -> Option<Action>
-    requires parts { AreParts at.now slots.now tool.now }
+    requires parts { AreParts trail.now slots.now tool.now }
     requires firsts { AreFirsts t.0 slots.now firsts.now }
-    ensures { result ≡ first_enabled_action at.now.input (state_of at.now) t.0 }
+    ensures { result ≡ first_enabled_action trail.now.input (state_of trail.now) t.0 }
 {
     law_whole_first();
-    match tool_first(slots, tool, at, t) {
+    match tool_first(slots, tool, trail, t) {
         Some(action) => Some(action),
         None => earliest(firsts),
     }

@@ -17,9 +17,9 @@ use cpupool::{Move, ToolState};
 use sched_base::{Moment, ResId};
 
 /// From when on a core may leave its pool.
-fn core_next(slots: &[PoolSlot], tool: &ToolState, at: &Trail, r: ResId) -> Option<Moment>
-    requires parts { AreParts at.now slots.now tool.now }
-    ensures { result ≡ leaves_at at.now.input.config.granularity (state_of at.now) r.0 }
+fn core_next(slots: &[PoolSlot], tool: &ToolState, trail: &Trail, r: ResId) -> Option<Moment>
+    requires parts { AreParts trail.now slots.now tool.now }
+    ensures { result ≡ leaves_at trail.now.input.config.granularity (state_of trail.now) r.0 }
 {
     match tool.home_of_core(r) {
         None => None,
@@ -28,13 +28,13 @@ fn core_next(slots: &[PoolSlot], tool: &ToolState, at: &Trail, r: ResId) -> Opti
 }
 
 /// From when on the core that is on its way out of its pool may leave it.
-fn leaving_next(slots: &[PoolSlot], tool: &ToolState, at: &Trail) -> Option<Moment>
-    requires parts { AreParts at.now slots.now tool.now }
-    ensures { result ≡ leaving_at at.now.input.config.granularity (state_of at.now)
-        (state_under_way (state_of at.now)) }
+fn leaving_next(slots: &[PoolSlot], tool: &ToolState, trail: &Trail) -> Option<Moment>
+    requires parts { AreParts trail.now slots.now tool.now }
+    ensures { result ≡ leaving_at trail.now.input.config.granularity (state_of trail.now)
+        (state_under_way (state_of trail.now)) }
 {
     match tool.moving() {
-        Some(Move::Res { r, to: None }) => core_next(slots, tool, at, r),
+        Some(Move::Res { r, to: None }) => core_next(slots, tool, trail, r),
         _ => None,
     }
 }
@@ -55,18 +55,18 @@ pub fn whole_next(
     slots: &[PoolSlot],
     tool: &ToolState,
     nexts: &[Option<Moment>],
-    at: &Trail,
+    trail: &Trail,
     t: Moment,
     horizon: Moment,
 ) -> Option<Moment>
-    requires parts { AreParts at.now slots.now tool.now }
-    requires now { t.0 ≡ (state_of at.now).now }
+    requires parts { AreParts trail.now slots.now tool.now }
+    requires now { t.0 ≡ (state_of trail.now).now }
     requires nexts { AreNexts slots.now nexts.now }
-    requires quiet { first_enabled_action at.now.input (state_of at.now) t.0 ≡ None }
-    requires horizon { horizon.0 ≡ at.now.input.config.horizon.0 }
-    ensures { result ≡ option_map moment (next_in_horizon at.now.input (state_of at.now)) }
+    requires quiet { first_enabled_action trail.now.input (state_of trail.now) t.0 ≡ None }
+    requires horizon { horizon.0 ≡ trail.now.input.config.horizon.0 }
+    ensures { result ≡ option_map moment (next_in_horizon trail.now.input (state_of trail.now)) }
 {
     law_whole_next();
-    let others = earlier(leaving_next(slots, tool, at), soonest(nexts));
+    let others = earlier(leaving_next(slots, tool, trail), soonest(nexts));
     up_to(horizon, earlier(tool.next_due(t), others))
 }

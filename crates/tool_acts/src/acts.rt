@@ -24,30 +24,30 @@ pub fn act_of_tool(
     slots: &mut [PoolSlot],
     tool: &mut ToolState,
     spares: &mut Spares,
-    at: &Trail,
+    trail: &Trail,
     granularity: u8,
     action: Action,
     t: Moment,
 ) -> Event
-    requires parts { AreParts at.now slots.old tool.old }
-    requires granularity { granularity ≡ at.now.input.config.granularity }
-    requires now { t.0 ≡ (state_of at.now).now }
-    requires enabled { is_action_enabled at.now.input (state_of at.now) (state_of at.now).now action
+    requires parts { AreParts trail.now slots.old tool.old }
+    requires granularity { granularity ≡ trail.now.input.config.granularity }
+    requires now { t.0 ≡ (state_of trail.now).now }
+    requires enabled { is_action_enabled trail.now.input (state_of trail.now) (state_of trail.now).now action
         ≡ true }
     requires first { action ≡ actions.Xl →
-        is_action_enabled at.now.input (state_of at.now) (state_of at.now).now actions.Stall ≡ false }
-    requires spares { AreSpares at.now.input t.0 tool.old.part spares.old }
-    requires no_pool { event_pool at.now.input.config.granularity (state_of at.now) action
+        is_action_enabled trail.now.input (state_of trail.now) (state_of trail.now).now actions.Stall ≡ false }
+    requires spares { AreSpares trail.now.input t.0 tool.old.part spares.old }
+    requires no_pool { event_pool trail.now.input.config.granularity (state_of trail.now) action
         ≡ None }
-    ensures event { result ≡ event_of at.now.input (state_of at.now) (state_of at.now).now action }
-    ensures parts { AreParts (told_event at.now t.0 result) slots.new tool.new }
-    ensures spares { AreSpares at.now.input t.0 tool.new.part spares.new }
+    ensures event { result ≡ event_of trail.now.input (state_of trail.now) (state_of trail.now).now action }
+    ensures parts { AreParts (told_event trail.now t.0 result) slots.new tool.new }
+    ensures spares { AreSpares trail.now.input t.0 tool.new.part spares.new }
 {
     match action {
-        Action::Stall => stall(slots, tool, at, granularity, t),
-        Action::Xl => command(slots, tool, spares, at, t),
-        Action::Moved(r) => move_core(slots, tool, at, r, t),
-        Action::DomMoved(d) => move_domain(slots, tool, at, d, t),
+        Action::Stall => stall(slots, tool, trail, granularity, t),
+        Action::Xl => command(slots, tool, spares, trail, t),
+        Action::Moved(r) => move_core(slots, tool, trail, r, t),
+        Action::DomMoved(d) => move_domain(slots, tool, trail, d, t),
         _ => unreachable!(),
     }
 }

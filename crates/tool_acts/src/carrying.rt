@@ -70,22 +70,22 @@ fn set_units(slot: &mut PoolSlot, d: DomId, first: u8, count: u8, given: RtdsGiv
 }
 
 /// A domain of the pool goes on.
-fn unpause(slot: &mut PoolSlot, at: &Trail, d: DomId, t: Moment)
+fn unpause(slot: &mut PoolSlot, trail: &Trail, d: DomId, t: Moment)
     requires now { ForSome slot.old (λ seen. IsNow seen t.0) }
-    requires suits { ForSome slot.old (SlotSuits at.now.input (state_of at.now).now) }
+    requires suits { ForSome slot.old (SlotSuits trail.now.input (state_of trail.now).now) }
     ensures { slot.new ≡ changed_slot t.0
-        (λ seen. unpaused_pool at.now.input.config.granularity d.0 seen.pool) slot.old }
+        (λ seen. unpaused_pool trail.now.input.config.granularity d.0 seen.pool) slot.old }
 {
     slot.unpause(d, t);
 }
 
 /// The accepted command with this plan on the place of its pool.
-fn carry(slot: &mut PoolSlot, at: &Trail, plan: Plan, t: Moment)
+fn carry(slot: &mut PoolSlot, trail: &Trail, plan: Plan, t: Moment)
     requires some { IsSome slot.old }
     requires now { ForSome slot.old (λ seen. IsNow seen t.0) }
-    requires suits { ForSome slot.old (SlotSuits at.now.input (state_of at.now).now) }
+    requires suits { ForSome slot.old (SlotSuits trail.now.input (state_of trail.now).now) }
     requires takes { ForSome slot.old (λ seen. Takes seen plan) }
-    ensures { slot.new ≡ carried_slot at.now.input t.0 plan slot.old }
+    ensures { slot.new ≡ carried_slot trail.now.input t.0 plan slot.old }
 {
     match plan {
         Plan::PoolList { .. } => slot.settle(t),
@@ -123,7 +123,7 @@ fn carry(slot: &mut PoolSlot, at: &Trail, plan: Plan, t: Moment)
             t,
         ),
         Plan::Pause { dom, .. } => slot.pause(dom, t),
-        Plan::Unpause { dom, .. } => unpause(slot, at, dom, t),
+        Plan::Unpause { dom, .. } => unpause(slot, trail, dom, t),
         Plan::ArincSet { frame, .. } => slot.set_params(&ParamChange::Frame { frame }, t),
         Plan::Pin {
             dom,
@@ -135,37 +135,37 @@ fn carry(slot: &mut PoolSlot, at: &Trail, plan: Plan, t: Moment)
 }
 
 /// The same, where the place is the part i of the machine and that is the pool of the plan, which neither makes nor destroys a pool.
-fn carry_kept(slot: &mut PoolSlot, at: &Trail, i: u8, plan: Plan, t: Moment)
-    requires goes { GoesOn at.now }
-    requires now { t.0 ≡ (state_of at.now).now }
-    requires stands { StandsAt at.now i slot.old }
-    requires accepted { IsAccepted at.now plan }
-    requires home { plan_pool (state_of at.now) plan ≡ Some i }
+fn carry_kept(slot: &mut PoolSlot, trail: &Trail, i: u8, plan: Plan, t: Moment)
+    requires goes { GoesOn trail.now }
+    requires now { t.0 ≡ (state_of trail.now).now }
+    requires stands { StandsAt trail.now i slot.old }
+    requires accepted { IsAccepted trail.now plan }
+    requires home { plan_pool (state_of trail.now) plan ≡ Some i }
     requires keeps { KeepsPools plan }
-    ensures { slot.new ≡ carried_slot at.now.input t.0 plan slot.old }
+    ensures { slot.new ≡ carried_slot trail.now.input t.0 plan slot.old }
 {
     slot.keeps();
-    carry(slot, at, plan, t);
+    carry(slot, trail, plan, t);
 }
 
 /// The same among the places of all pools, where the plan has a pool.
 pub(crate) fn carry_among(
     slots: &mut [PoolSlot],
-    at: &Trail,
+    trail: &Trail,
     home: Option<PoolId>,
     plan: Plan,
     t: Moment,
 )
-    requires goes { GoesOn at.now }
-    requires now { t.0 ≡ (state_of at.now).now }
-    requires stand { AllStand at.now slots.old }
-    requires accepted { IsAccepted at.now plan }
-    requires home { home ≡ option_map pool_number (plan_pool (state_of at.now) plan) }
+    requires goes { GoesOn trail.now }
+    requires now { t.0 ≡ (state_of trail.now).now }
+    requires stand { AllStand trail.now slots.old }
+    requires accepted { IsAccepted trail.now plan }
+    requires home { home ≡ option_map pool_number (plan_pool (state_of trail.now) plan) }
     requires keeps { KeepsPools plan }
-    ensures some { ForSome home (λ i. HasCarried at.now t.0 plan i.0 slots.old slots.new) }
+    ensures some { ForSome home (λ i. HasCarried trail.now t.0 plan i.0 slots.old slots.new) }
     ensures none { home ≡ None → slots.new ≡ slots.old }
 {
     if let Some(i) = home {
-        carry_kept(&mut slots[i.0 as usize], at, i.0, plan, t);
+        carry_kept(&mut slots[i.0 as usize], trail, i.0, plan, t);
     }
 }

@@ -29,9 +29,9 @@ use sched_model::event::{Event, Reply};
 use sched_model::plan::Plan;
 
 /// The pool whose cores are looked at after the command: the one that it names, or the home of the domain that it names.
-fn home_of_plan(tool: &ToolState, at: &Trail, plan: &Plan) -> Option<PoolId>
-    requires known { tool_of at.now.input (state_of at.now) ≡ tool.now }
-    ensures { result ≡ option_map pool_number (plan_pool (state_of at.now) plan.now) }
+fn home_of_plan(tool: &ToolState, trail: &Trail, plan: &Plan) -> Option<PoolId>
+    requires known { tool_of trail.now.input (state_of trail.now) ≡ tool.now }
+    ensures { result ≡ option_map pool_number (plan_pool (state_of trail.now) plan.now) }
 {
     match plan {
         Plan::PoolList { pool, .. } => *pool,
@@ -52,16 +52,16 @@ fn home_of_plan(tool: &ToolState, at: &Trail, plan: &Plan) -> Option<PoolId>
 }
 
 /// The scheduler of the pool i, as the command that lists it tells.
-fn kind_of(slots: &[PoolSlot], tool: &ToolState, at: &Trail, i: PoolId) -> SchedKind
-    requires parts { AreParts at.now slots.now tool.now }
-    requires there { IsSome (at_place (state_of at.now).pools i.0) }
-    ensures { ForSome (at_place (state_of at.now).pools i.0)
+fn kind_of(slots: &[PoolSlot], tool: &ToolState, trail: &Trail, i: PoolId) -> SchedKind
+    requires parts { AreParts trail.now slots.now tool.now }
+    requires there { IsSome (at_place (state_of trail.now).pools i.0) }
+    ensures { ForSome (at_place (state_of trail.now).pools i.0)
         (λ pool. result ≡ records_kind pool.scheduler.records) }
 {
     let list = Command::PoolList {
         pool: Some(Which::Number(u64::from(i.0))),
     };
-    match judged(slots, tool, at, &list) {
+    match judged(slots, tool, trail, &list) {
         Ok(
             Plan::PoolList {
                 reply: Reply::Pool { kind, .. },
@@ -77,20 +77,20 @@ fn accept_new(
     slots: &mut [PoolSlot],
     tool: &mut ToolState,
     spares: &mut Spares,
-    at: &Trail,
+    trail: &Trail,
     plan: &Plan,
     i: PoolId,
     kind: SchedKind,
 )
-    requires parts { AreParts at.now slots.old tool.old }
-    requires enabled { is_action_enabled at.now.input (state_of at.now) (state_of at.now).now Xl ≡ true }
-    requires accepted { IsAccepted at.now plan.now }
+    requires parts { AreParts trail.now slots.old tool.old }
+    requires enabled { is_action_enabled trail.now.input (state_of trail.now) (state_of trail.now).now Xl ≡ true }
+    requires accepted { IsAccepted trail.now plan.now }
     requires makes { MakesPool plan.now i kind }
-    requires spares { AreSpares at.now.input (state_of at.now).now tool.old.part spares.old }
-    ensures parts { AreParts (xl_told at.now) slots.new tool.new }
-    ensures spares { AreSpares at.now.input (state_of at.now).now tool.new.part spares.new }
+    requires spares { AreSpares trail.now.input (state_of trail.now).now tool.old.part spares.old }
+    ensures parts { AreParts (xl_told trail.now) slots.new tool.new }
+    ensures spares { AreSpares trail.now.input (state_of trail.now).now tool.new.part spares.new }
 {
-    create(&mut slots[i.0 as usize], spares, at, kind);
+    create(&mut slots[i.0 as usize], spares, trail, kind);
     tool.advance(plan);
 }
 
@@ -99,37 +99,37 @@ fn accept_end(
     slots: &mut [PoolSlot],
     tool: &mut ToolState,
     spares: &mut Spares,
-    at: &Trail,
+    trail: &Trail,
     plan: &Plan,
     i: PoolId,
 )
-    requires parts { AreParts at.now slots.old tool.old }
-    requires enabled { is_action_enabled at.now.input (state_of at.now) (state_of at.now).now Xl ≡ true }
-    requires accepted { IsAccepted at.now plan.now }
+    requires parts { AreParts trail.now slots.old tool.old }
+    requires enabled { is_action_enabled trail.now.input (state_of trail.now) (state_of trail.now).now Xl ≡ true }
+    requires accepted { IsAccepted trail.now plan.now }
     requires destroys { DestroysPool plan.now i }
-    requires spares { AreSpares at.now.input (state_of at.now).now tool.old.part spares.old }
-    ensures parts { AreParts (xl_told at.now) slots.new tool.new }
-    ensures spares { AreSpares at.now.input (state_of at.now).now tool.new.part spares.new }
+    requires spares { AreSpares trail.now.input (state_of trail.now).now tool.old.part spares.old }
+    ensures parts { AreParts (xl_told trail.now) slots.new tool.new }
+    ensures spares { AreSpares trail.now.input (state_of trail.now).now tool.new.part spares.new }
 {
-    let kind = kind_of(slots, tool, at, i);
-    destroy(&mut slots[i.0 as usize], spares, at, i.0, kind);
+    let kind = kind_of(slots, tool, trail, i);
+    destroy(&mut slots[i.0 as usize], spares, trail, i.0, kind);
     tool.advance(plan);
 }
 
 /// The next command is accepted, and neither makes nor destroys a pool.
-fn accept_change(slots: &mut [PoolSlot], tool: &mut ToolState, at: &Trail, plan: Plan, t: Moment)
-    requires parts { AreParts at.now slots.old tool.old }
-    requires now { t.0 ≡ (state_of at.now).now }
-    requires enabled { is_action_enabled at.now.input (state_of at.now) (state_of at.now).now Xl ≡ true }
-    requires accepted { IsAccepted at.now plan }
+fn accept_change(slots: &mut [PoolSlot], tool: &mut ToolState, trail: &Trail, plan: Plan, t: Moment)
+    requires parts { AreParts trail.now slots.old tool.old }
+    requires now { t.0 ≡ (state_of trail.now).now }
+    requires enabled { is_action_enabled trail.now.input (state_of trail.now) (state_of trail.now).now Xl ≡ true }
+    requires accepted { IsAccepted trail.now plan }
     requires keeps { KeepsPools plan }
-    ensures parts { AreParts (xl_told at.now) slots.new tool.new }
+    ensures parts { AreParts (xl_told trail.now) slots.new tool.new }
     ensures pools { tool.new.part.pools ≡ tool.old.part.pools }
     ensures over { tool.new.part.next_command ≡ suc tool.old.part.next_command }
 {
-    let home = home_of_plan(tool, at, &plan);
+    let home = home_of_plan(tool, trail, &plan);
     tool.advance(&plan);
-    carry_among(slots, at, home, plan, t);
+    carry_among(slots, trail, home, plan, t);
 }
 
 /// The next command is accepted, with this plan.
@@ -137,24 +137,24 @@ fn accept(
     slots: &mut [PoolSlot],
     tool: &mut ToolState,
     spares: &mut Spares,
-    at: &Trail,
+    trail: &Trail,
     plan: Plan,
     t: Moment,
 )
-    requires parts { AreParts at.now slots.old tool.old }
-    requires now { t.0 ≡ (state_of at.now).now }
-    requires enabled { is_action_enabled at.now.input (state_of at.now) (state_of at.now).now Xl ≡ true }
-    requires accepted { IsAccepted at.now plan }
-    requires spares { AreSpares at.now.input (state_of at.now).now tool.old.part spares.old }
-    ensures parts { AreParts (xl_told at.now) slots.new tool.new }
-    ensures spares { AreSpares at.now.input (state_of at.now).now tool.new.part spares.new }
+    requires parts { AreParts trail.now slots.old tool.old }
+    requires now { t.0 ≡ (state_of trail.now).now }
+    requires enabled { is_action_enabled trail.now.input (state_of trail.now) (state_of trail.now).now Xl ≡ true }
+    requires accepted { IsAccepted trail.now plan }
+    requires spares { AreSpares trail.now.input (state_of trail.now).now tool.old.part spares.old }
+    ensures parts { AreParts (xl_told trail.now) slots.new tool.new }
+    ensures spares { AreSpares trail.now.input (state_of trail.now).now tool.new.part spares.new }
 {
     match plan {
         Plan::PoolCreate { pool, kind, .. } => {
-            accept_new(slots, tool, spares, at, &plan, pool, kind);
+            accept_new(slots, tool, spares, trail, &plan, pool, kind);
         }
-        Plan::PoolDestroy { pool, .. } => accept_end(slots, tool, spares, at, &plan, pool),
-        _ => accept_change(slots, tool, at, plan, t),
+        Plan::PoolDestroy { pool, .. } => accept_end(slots, tool, spares, trail, &plan, pool),
+        _ => accept_change(slots, tool, trail, plan, t),
     }
 }
 
@@ -164,20 +164,20 @@ pub fn command_at(
     slots: &mut [PoolSlot],
     tool: &mut ToolState,
     spares: &mut Spares,
-    at: &Trail,
+    trail: &Trail,
     k: u32,
     t: Moment,
 ) -> Event
-    requires parts { AreParts at.now slots.old tool.old }
-    requires now { t.0 ≡ (state_of at.now).now }
-    requires enabled { is_action_enabled at.now.input (state_of at.now) (state_of at.now).now Xl ≡ true }
-    requires number { k ≡ (state_of at.now).next_command }
-    requires spares { AreSpares at.now.input t.0 tool.old.part spares.old }
-    ensures event { result ≡ event_of at.now.input (state_of at.now) (state_of at.now).now Xl }
-    ensures parts { AreParts (told_event at.now t.0 result) slots.new tool.new }
-    ensures spares { AreSpares at.now.input t.0 tool.new.part spares.new }
+    requires parts { AreParts trail.now slots.old tool.old }
+    requires now { t.0 ≡ (state_of trail.now).now }
+    requires enabled { is_action_enabled trail.now.input (state_of trail.now) (state_of trail.now).now Xl ≡ true }
+    requires number { k ≡ (state_of trail.now).next_command }
+    requires spares { AreSpares trail.now.input t.0 tool.old.part spares.old }
+    ensures event { result ≡ event_of trail.now.input (state_of trail.now) (state_of trail.now).now Xl }
+    ensures parts { AreParts (told_event trail.now t.0 result) slots.new tool.new }
+    ensures spares { AreSpares trail.now.input t.0 tool.new.part spares.new }
 {
-    match verdict_of(slots, tool, at, tool.command(k)) {
+    match verdict_of(slots, tool, trail, tool.command(k)) {
         Err(fault) => {
             tool.refuse();
             Event::Xl {
@@ -187,7 +187,7 @@ pub fn command_at(
         }
         Ok(plan) => {
             let reply = reply_of(&plan);
-            accept(slots, tool, spares, at, plan, t);
+            accept(slots, tool, spares, trail, plan, t);
             Event::Xl {
                 k: k + 1,
                 reply: Ok(reply),
@@ -201,20 +201,20 @@ pub fn command(
     slots: &mut [PoolSlot],
     tool: &mut ToolState,
     spares: &mut Spares,
-    at: &Trail,
+    trail: &Trail,
     t: Moment,
 ) -> Event
-    requires parts { AreParts at.now slots.old tool.old }
-    requires now { t.0 ≡ (state_of at.now).now }
-    requires enabled { is_action_enabled at.now.input (state_of at.now) (state_of at.now).now Xl ≡ true }
-    requires first { is_action_enabled at.now.input (state_of at.now) (state_of at.now).now Stall ≡ false }
-    requires spares { AreSpares at.now.input t.0 tool.old.part spares.old }
-    ensures event { result ≡ event_of at.now.input (state_of at.now) (state_of at.now).now Xl }
-    ensures parts { AreParts (told_event at.now t.0 result) slots.new tool.new }
-    ensures spares { AreSpares at.now.input t.0 tool.new.part spares.new }
+    requires parts { AreParts trail.now slots.old tool.old }
+    requires now { t.0 ≡ (state_of trail.now).now }
+    requires enabled { is_action_enabled trail.now.input (state_of trail.now) (state_of trail.now).now Xl ≡ true }
+    requires first { is_action_enabled trail.now.input (state_of trail.now) (state_of trail.now).now Stall ≡ false }
+    requires spares { AreSpares trail.now.input t.0 tool.old.part spares.old }
+    ensures event { result ≡ event_of trail.now.input (state_of trail.now) (state_of trail.now).now Xl }
+    ensures parts { AreParts (told_event trail.now t.0 result) slots.new tool.new }
+    ensures spares { AreSpares trail.now.input t.0 tool.new.part spares.new }
 {
     let Some(ToolEvent::Command(k)) = tool.tool_enabled(t) else {
         unreachable!();
     };
-    command_at(slots, tool, spares, at, k, t)
+    command_at(slots, tool, spares, trail, k, t)
 }

@@ -19,18 +19,18 @@ use sched_model::event::Event;
 fn join_core(
     slot: &mut PoolSlot,
     tool: &mut ToolState,
-    at: &Trail,
+    trail: &Trail,
     r: ResId,
     i: PoolId,
     t: Moment,
 ) -> Event
-    requires begins { Begins at.now tool.old t.0 (Moved r) }
+    requires begins { Begins trail.now tool.old t.0 (Moved r) }
     requires way { tool.old.part.under_way ≡ Some (core_to r.0 (Some i.0)) }
-    requires stands { StandsAt at.now i.0 slot.old }
-    ensures event { result ≡ event_of at.now.input (state_of at.now) (state_of at.now).now
+    requires stands { StandsAt trail.now i.0 slot.old }
+    ensures event { result ≡ event_of trail.now.input (state_of trail.now) (state_of trail.now).now
         (Moved r) }
-    ensures stands { StandsAt (told_event at.now t.0 result) i.0 slot.new }
-    ensures acted { HasActedOn at.now i.0 (told_event at.now t.0 result) tool.new }
+    ensures stands { StandsAt (told_event trail.now t.0 result) i.0 slot.new }
+    ensures acted { HasActedOn trail.now i.0 (told_event trail.now t.0 result) tool.new }
     ensures counts { KeepsCounts tool.old.part tool.new.part }
 {
     let core = tool.take_free(r);
@@ -43,19 +43,19 @@ fn join_core(
 fn leave_core(
     slot: &mut PoolSlot,
     tool: &mut ToolState,
-    at: &Trail,
+    trail: &Trail,
     r: ResId,
     i: PoolId,
     t: Moment,
 ) -> Event
-    requires begins { Begins at.now tool.old t.0 (Moved r) }
+    requires begins { Begins trail.now tool.old t.0 (Moved r) }
     requires way { tool.old.part.under_way ≡ Some (core_to r.0 None) }
-    requires home { home_pool_of_core (state_of at.now) r.0 ≡ Some i.0 }
-    requires stands { StandsAt at.now i.0 slot.old }
-    ensures event { result ≡ event_of at.now.input (state_of at.now) (state_of at.now).now
+    requires home { home_pool_of_core (state_of trail.now) r.0 ≡ Some i.0 }
+    requires stands { StandsAt trail.now i.0 slot.old }
+    ensures event { result ≡ event_of trail.now.input (state_of trail.now) (state_of trail.now).now
         (Moved r) }
-    ensures stands { StandsAt (told_event at.now t.0 result) i.0 slot.new }
-    ensures acted { HasActedOn at.now i.0 (told_event at.now t.0 result) tool.new }
+    ensures stands { StandsAt (told_event trail.now t.0 result) i.0 slot.new }
+    ensures acted { HasActedOn trail.now i.0 (told_event trail.now t.0 result) tool.new }
     ensures counts { KeepsCounts tool.old.part tool.new.part }
 {
     let core = slot.detach(r, t);
@@ -69,29 +69,29 @@ fn leave_core(
 pub fn move_core(
     slots: &mut [PoolSlot],
     tool: &mut ToolState,
-    at: &Trail,
+    trail: &Trail,
     r: ResId,
     t: Moment,
 ) -> Event
-    requires parts { AreParts at.now slots.old tool.old }
-    requires now { t.0 ≡ (state_of at.now).now }
-    requires enabled { is_action_enabled at.now.input (state_of at.now) (state_of at.now).now (Moved r)
+    requires parts { AreParts trail.now slots.old tool.old }
+    requires now { t.0 ≡ (state_of trail.now).now }
+    requires enabled { is_action_enabled trail.now.input (state_of trail.now) (state_of trail.now).now (Moved r)
         ≡ true }
-    ensures event { result ≡ event_of at.now.input (state_of at.now) (state_of at.now).now
+    ensures event { result ≡ event_of trail.now.input (state_of trail.now) (state_of trail.now).now
         (Moved r) }
-    ensures parts { AreParts (told_event at.now t.0 result) slots.new tool.new }
+    ensures parts { AreParts (told_event trail.now t.0 result) slots.new tool.new }
     ensures counts { KeepsCounts tool.old.part tool.new.part }
 {
     match tool.moving() {
         Some(Move::Res { to: Some(i), .. }) => join_core(
             &mut slots[i.0 as usize],
             tool,
-            at,
+            trail,
             r,
             i,
             t,
         ),
-        Some(Move::Res { to: None, .. }) => leave_home(slots, tool, at, r, t),
+        Some(Move::Res { to: None, .. }) => leave_home(slots, tool, trail, r, t),
         Some(Move::Dom { .. }) => unreachable!(),
         None => unreachable!(),
     }
@@ -101,22 +101,22 @@ pub fn move_core(
 fn leave_home(
     slots: &mut [PoolSlot],
     tool: &mut ToolState,
-    at: &Trail,
+    trail: &Trail,
     r: ResId,
     t: Moment,
 ) -> Event
-    requires parts { AreParts at.now slots.old tool.old }
-    requires now { t.0 ≡ (state_of at.now).now }
-    requires enabled { is_action_enabled at.now.input (state_of at.now) (state_of at.now).now (Moved r)
+    requires parts { AreParts trail.now slots.old tool.old }
+    requires now { t.0 ≡ (state_of trail.now).now }
+    requires enabled { is_action_enabled trail.now.input (state_of trail.now) (state_of trail.now).now (Moved r)
         ≡ true }
     requires way { tool.old.part.under_way ≡ Some (core_to r.0 None) }
-    ensures event { result ≡ event_of at.now.input (state_of at.now) (state_of at.now).now
+    ensures event { result ≡ event_of trail.now.input (state_of trail.now) (state_of trail.now).now
         (Moved r) }
-    ensures parts { AreParts (told_event at.now t.0 result) slots.new tool.new }
+    ensures parts { AreParts (told_event trail.now t.0 result) slots.new tool.new }
     ensures counts { KeepsCounts tool.old.part tool.new.part }
 {
     let Some(i) = tool.home_of_core(r) else {
         unreachable!();
     };
-    leave_core(&mut slots[i.0 as usize], tool, at, r, i, t)
+    leave_core(&mut slots[i.0 as usize], tool, trail, r, i, t)
 }

@@ -77,11 +77,11 @@ fn look_where(looks: bool, slot: &mut PoolSlot, t: Moment)
 }
 
 /// The domain leaves its pool. A null pool's cores are looked at, since one of them may have become free for a waiting unit.
-fn leave_pool(slot: &mut PoolSlot, at: &Trail, route: DomainRoute, t: Moment) -> DomPart
-    requires moves { MovesDomain at.now t.0 route }
-    requires stands { StandsAt at.now route.from.0 slot.old }
-    ensures part { HasLeft at.now route result }
-    ensures stands { StandsAt (told_moved at.now t.0 route) route.from.0 slot.new }
+fn leave_pool(slot: &mut PoolSlot, trail: &Trail, route: DomainRoute, t: Moment) -> DomPart
+    requires moves { MovesDomain trail.now t.0 route }
+    requires stands { StandsAt trail.now route.from.0 slot.old }
+    ensures part { HasLeft trail.now route result }
+    ensures stands { StandsAt (told_moved trail.now t.0 route) route.from.0 slot.new }
 {
     let looks = is_null(slot, route.d);
     let part = slot.take_domain(route.d);
@@ -90,22 +90,22 @@ fn leave_pool(slot: &mut PoolSlot, at: &Trail, route: DomainRoute, t: Moment) ->
 }
 
 /// The domain, which has left its pool, joins the other one with the default parameters of the scheduler there. It moves no more.
-fn join_pool(slot: &mut PoolSlot, at: &Trail, route: DomainRoute, part: DomPart, t: Moment)
-    requires moves { MovesDomain at.now t.0 route }
-    requires stands { StandsAt at.now route.to.0 slot.old }
-    requires part { HasLeft at.now route part }
-    ensures { StandsAt (told_moved at.now t.0 route) route.to.0 slot.new }
+fn join_pool(slot: &mut PoolSlot, trail: &Trail, route: DomainRoute, part: DomPart, t: Moment)
+    requires moves { MovesDomain trail.now t.0 route }
+    requires stands { StandsAt trail.now route.to.0 slot.old }
+    requires part { HasLeft trail.now route part }
+    ensures { StandsAt (told_moved trail.now t.0 route) route.to.0 slot.new }
 {
     let mut part = part;
     part.domain.moving = None;
-    slot.give_domain(at, route.to.0, part, &default_dom_params(route.kind), t);
+    slot.give_domain(trail, route.to.0, part, &default_dom_params(route.kind), t);
 }
 
 /// The domain that is on its way, and where it comes from and goes to, where its move may come at t.
-fn route_of(tool: &ToolState, at: &Trail, d: DomId, t: Moment) -> DomainRoute
-    requires { Begins at.now tool.now t.0 (DomMoved d) }
+fn route_of(tool: &ToolState, trail: &Trail, d: DomId, t: Moment) -> DomainRoute
+    requires { Begins trail.now tool.now t.0 (DomMoved d) }
     ensures number { result.d ≡ d }
-    ensures moves { MovesDomain at.now t.0 result }
+    ensures moves { MovesDomain trail.now t.0 result }
 {
     let Some(Move::Dom { to, kind, .. }) = tool.moving() else {
         unreachable!();
@@ -117,12 +117,12 @@ fn route_of(tool: &ToolState, at: &Trail, d: DomId, t: Moment) -> DomainRoute
 }
 
 /// The move is over, as the tool knows it: its event.
-fn end_move(tool: &mut ToolState, at: &Trail, route: DomainRoute, t: Moment) -> Event
-    requires moves { MovesDomain at.now t.0 route }
-    requires known { tool_of at.now.input (state_of at.now) ≡ tool.old }
-    ensures event { result ≡ event_of at.now.input (state_of at.now) (state_of at.now).now
+fn end_move(tool: &mut ToolState, trail: &Trail, route: DomainRoute, t: Moment) -> Event
+    requires moves { MovesDomain trail.now t.0 route }
+    requires known { tool_of trail.now.input (state_of trail.now) ≡ tool.old }
+    ensures event { result ≡ event_of trail.now.input (state_of trail.now) (state_of trail.now).now
         (DomMoved route.d) }
-    ensures acted { HasActed at.now route.from.0 route.to.0 (told_moved at.now t.0 route) tool.new }
+    ensures acted { HasActed trail.now route.from.0 route.to.0 (told_moved trail.now t.0 route) tool.new }
     ensures counts { KeepsCounts tool.old.part tool.new.part }
 {
     tool.move_done();
@@ -137,21 +137,21 @@ fn end_move(tool: &mut ToolState, at: &Trail, route: DomainRoute, t: Moment) -> 
 pub fn move_domain(
     slots: &mut [PoolSlot],
     tool: &mut ToolState,
-    at: &Trail,
+    trail: &Trail,
     d: DomId,
     t: Moment,
 ) -> Event
-    requires parts { AreParts at.now slots.old tool.old }
-    requires now { t.0 ≡ (state_of at.now).now }
-    requires enabled { is_action_enabled at.now.input (state_of at.now) (state_of at.now).now (DomMoved d)
+    requires parts { AreParts trail.now slots.old tool.old }
+    requires now { t.0 ≡ (state_of trail.now).now }
+    requires enabled { is_action_enabled trail.now.input (state_of trail.now) (state_of trail.now).now (DomMoved d)
         ≡ true }
-    ensures event { result ≡ event_of at.now.input (state_of at.now) (state_of at.now).now
+    ensures event { result ≡ event_of trail.now.input (state_of trail.now) (state_of trail.now).now
         (DomMoved d) }
-    ensures parts { AreParts (told_event at.now t.0 result) slots.new tool.new }
+    ensures parts { AreParts (told_event trail.now t.0 result) slots.new tool.new }
     ensures counts { KeepsCounts tool.old.part tool.new.part }
 {
-    let route = route_of(tool, at, d, t);
-    let part = leave_pool(&mut slots[route.from.0 as usize], at, route, t);
-    join_pool(&mut slots[route.to.0 as usize], at, route, part, t);
-    end_move(tool, at, route, t)
+    let route = route_of(tool, trail, d, t);
+    let part = leave_pool(&mut slots[route.from.0 as usize], trail, route, t);
+    join_pool(&mut slots[route.to.0 as usize], trail, route, part, t);
+    end_move(tool, trail, route, t)
 }

@@ -12,25 +12,25 @@ use sched_model::config::SchedKind;
 use scheduler_records::params::default_pool_params;
 
 /// A spare pool of the scheduler comes to the place, which is empty, with default parameters.
-pub(crate) fn create(slot: &mut PoolSlot, spares: &mut Spares, at: &Trail, kind: SchedKind)
+pub(crate) fn create(slot: &mut PoolSlot, spares: &mut Spares, trail: &Trail, kind: SchedKind)
     requires empty { slot.old ≡ None }
     requires some { 0 < length (shelf_of kind spares.old).pools }
-    requires suit { All (IsSpare at.now.input (state_of at.now).now kind)
+    requires suit { All (IsSpare trail.now.input (state_of trail.now).now kind)
         (shelf_of kind spares.old).pools }
-    ensures { HasMade at.now.input (state_of at.now).now kind spares.old spares.new slot.new }
+    ensures { HasMade trail.now.input (state_of trail.now).now kind spares.old spares.new slot.new }
 {
     let spare = spares.take(kind);
-    slot.open_with(at, spare, &default_pool_params(kind));
+    slot.open_with(trail, spare, &default_pool_params(kind));
 }
 
 /// The pool of the place i, which has this scheduler and neither a domain nor a core, becomes a spare one.
-pub(crate) fn destroy(slot: &mut PoolSlot, spares: &mut Spares, at: &Trail, i: u8, kind: SchedKind)
-    requires goes { GoesOn at.now }
-    requires stands { StandsAt at.now i slot.old }
+pub(crate) fn destroy(slot: &mut PoolSlot, spares: &mut Spares, trail: &Trail, i: u8, kind: SchedKind)
+    requires goes { GoesOn trail.now }
+    requires stands { StandsAt trail.now i slot.old }
     requires some { IsSome slot.old }
     requires goes_out { ForSome slot.old (MayGo kind spares.old) }
-    ensures { HasGone at.now.input (state_of at.now).now kind spares.old spares.new slot.new }
+    ensures { HasGone trail.now.input (state_of trail.now).now kind spares.old spares.new slot.new }
 {
-    let pool = slot.shut(at, i);
+    let pool = slot.shut(trail, i);
     spares.give(kind, pool);
 }

@@ -29,11 +29,11 @@ fn no_facts() -> Facts
 }
 
 /// The rate limit of the subject's pool, and the set values of the units of its domain.
-fn facts_of(slots: &[PoolSlot], at: &Trail, subject: Subject) -> Facts
-    requires goes { GoesOn at.now }
-    requires stand { AllStand at.now slots.now }
-    ensures rate { result.rate ≡ subject_rate (state_of at.now) subject }
-    ensures units { result.units ≡ subject_stored at.now.input.config.granularity (state_of at.now)
+fn facts_of(slots: &[PoolSlot], trail: &Trail, subject: Subject) -> Facts
+    requires goes { GoesOn trail.now }
+    requires stand { AllStand trail.now slots.now }
+    ensures rate { result.rate ≡ subject_rate (state_of trail.now) subject }
+    ensures units { result.units ≡ subject_stored trail.now.input.config.granularity (state_of trail.now)
         subject }
 {
     let Some(pool) = subject.pool else {
@@ -51,14 +51,14 @@ fn facts_of(slots: &[PoolSlot], at: &Trail, subject: Subject) -> Facts
 pub(crate) fn judged(
     slots: &[PoolSlot],
     tool: &ToolState,
-    at: &Trail,
+    trail: &Trail,
     c: &Command,
 ) -> Result<Plan, Refusal>
-    requires parts { AreParts at.now slots.now tool.now }
+    requires parts { AreParts trail.now slots.now tool.now }
     requires command { IsCheckedCommand c.now }
-    ensures { result ≡ judged_command at.now.input (state_of at.now) c.now }
+    ensures { result ≡ judged_command trail.now.input (state_of trail.now) c.now }
 {
-    let facts = facts_of(slots, at, tool.subject(c));
+    let facts = facts_of(slots, trail, tool.subject(c));
     tool.judge(c, &facts)
 }
 
@@ -66,18 +66,18 @@ pub(crate) fn judged(
 pub(crate) fn verdict_of(
     slots: &[PoolSlot],
     tool: &ToolState,
-    at: &Trail,
+    trail: &Trail,
     line: &CommandLine,
 ) -> Result<Plan, Refusal>
-    requires parts { AreParts at.now slots.now tool.now }
-    requires next { slice_get at.now.input.work.commands (state_of at.now).next_command
+    requires parts { AreParts trail.now slots.now tool.now }
+    requires next { slice_get trail.now.input.work.commands (state_of trail.now).next_command
         ≡ Some line.now }
-    ensures { result ≡ line_verdict at.now.input (state_of at.now) line.now }
+    ensures { result ≡ line_verdict trail.now.input (state_of trail.now) line.now }
 {
     match &line.command {
         Err(fault) => Err(Refusal::Syntax {
             place: u64::from(fault.place),
         }),
-        Ok(c) => judged(slots, tool, at, c),
+        Ok(c) => judged(slots, tool, trail, c),
     }
 }

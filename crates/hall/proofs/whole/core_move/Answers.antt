@@ -10,7 +10,7 @@ use Rattle.hall.proofs.whole.core_move.Goals.{in_default-via-in-Some+in_default,
 pub unreachable-requires : goal.unreachable-requires
 unreachable-requires c =
     let part = c.args.tool.now.part in
-    let there = core-told c.args.at.now c.requires.goes c.args.tool.now c.requires.known c.args.r.0 c.requires.enabled in
+    let there = core-told c.args.trail.now c.requires.goes c.args.tool.now c.requires.known c.args.r.0 c.requires.enabled in
     let told = move-told part part.under_way c.args.r.0 there.0 c.moving.result there.1 c.moving.ensures.way in
     elim c.in_default.branch [
       | in_default-via-in-Some+in_default x ↦ absurd (cc)
@@ -19,7 +19,7 @@ unreachable-requires c =
 
 pub returns : goal.returns
 returns c =
-    let w = c.args.at.now in
+    let w = c.args.trail.now in
     let part = c.args.tool.now.part in
     let there = core-told w c.requires.goes c.args.tool.now c.requires.known c.args.r.0 c.requires.enabled in
     let way = way-told part part.under_way c.args.r.0 there.0 c.in-Some-Res.field-0-0 c.in-Some-Res.to there.1 (sym c.moving.ensures.way ∙ c.in-Some-Res.is ∙ ap (λ (x : Move). Some x) c.in-Some-Res.field-0-is) in

@@ -8,7 +8,7 @@ use Rattle.hall.proofs.whole.domain_move.Goals.{in_default-via-in-Some+in_defaul
 
 pub unreachable-requires : goal.unreachable-requires
 unreachable-requires c =
-    let told = domain-moves c.args.at.now c.requires.goes c.args.tool.now c.requires.known c.args.d.0 c.requires.enabled in
+    let told = domain-moves c.args.trail.now c.requires.goes c.args.tool.now c.requires.known c.args.d.0 c.requires.enabled in
     let way = c.moving.ensures.way in
     elim c.in_default.branch [
       | in_default-via-in-Some+in_default x ↦ absurd (cc)
@@ -17,7 +17,7 @@ unreachable-requires c =
 
 pub returns : goal.returns
 returns c =
-    let w = c.args.at.now in
+    let w = c.args.trail.now in
     domain-handed w c.requires.goes c.args.tool.now c.requires.known c.args.d.0 c.requires.enabled c.home_of_domain.result (c.home_of_domain.ensures w.input (state_of w) c.requires.known)
     c.in-Some-Dom.field-0-0 c.in-Some-Dom.to c.in-Some-Dom.field-0-2 (sym c.moving.ensures.way ∙ c.in-Some-Dom.is ∙ ap (λ (x : Move). Some x) c.in-Some-Dom.field-0-is)
     c.lock_of-from.result _ c.lock_of-from.ensures refl

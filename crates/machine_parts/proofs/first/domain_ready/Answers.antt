@@ -12,20 +12,20 @@ use Rattle.machine_parts.proofs.first.domain_ready.Goals as goal
 -- the home is one of the places
 pub bounds-slots-from : goal.bounds-slots-from
 bounds-slots-from c =
-    let w = c.args.at.now in
+    let w = c.args.trail.now in
     let home : home_pool_of_domain (state_of w) c.args.d.0 ≡ Some c.in-Some.i.0 = number-of _ c.in-Some.i (sym (c.home_of_domain.ensures w.input (state_of w) c.requires.parts.known) ∙ c.in-Some.is) in
     subst (λ (k : ℕ). k < length c.args.slots.now) (sym c.from.ensures) (domain_below w c.args.slots.now c.args.tool.now c.requires.parts c.args.d.0 c.in-Some.i.0 home)
 
 -- without a home it may not come
 pub returns-in-None : goal.returns-in-None
 returns-in-None c =
-    let w = c.args.at.now in
+    let w = c.args.trail.now in
     λ t. no-home w.input (state_of w) t (DomMoved c.args.d) (no-number _ (sym (c.home_of_domain.ensures w.input (state_of w) c.requires.parts.known) ∙ c.in-None.is))
 
 -- and else where its home lets it
 pub returns-in-Some : goal.returns-in-Some
 returns-in-Some c =
-    let w = c.args.at.now in
+    let w = c.args.trail.now in
     let home : home_pool_of_domain (state_of w) c.args.d.0 ≡ Some c.in-Some.i.0 = number-of _ c.in-Some.i (sym (c.home_of_domain.ensures w.input (state_of w) c.requires.parts.known) ∙ c.in-Some.is) in
     let low : c.in-Some.i.0 < length c.args.slots.now = domain_below w c.args.slots.now c.args.tool.now c.requires.parts c.args.d.0 c.in-Some.i.0 home in
     let low_read : c.from.result < length c.args.slots.now = subst (λ (k : ℕ). k < length c.args.slots.now) (sym c.from.ensures) low in

@@ -12,7 +12,7 @@ use Rattle.machine_parts.proofs.first.move_first.Goals as goal
 -- a core that leaves its pool
 pub returns-in-Some-Res-default-None : goal.returns-in-Some-Res-default-None
 returns-in-Some-Res-default-None c =
-    let w = c.args.at.now in
+    let w = c.args.trail.now in
     let part = c.args.tool.now.part in
     let r = c.in-Some-Res-default-None.r in
     let told = sym c.moving.ensures.way ∙ c.in-Some-Res-default-None.is ∙ ap (λ (x : Move). Some x) c.in-Some-Res-default-None.field-0-is ∙ ap (λ (to : Option PoolId). Some (move.Res r to)) c.in-Some-Res-default-None.field-0-1-is in
@@ -22,7 +22,7 @@ returns-in-Some-Res-default-None c =
 -- a core that joins one
 pub returns-in-Some-Res-default-Some : goal.returns-in-Some-Res-default-Some
 returns-in-Some-Res-default-Some c =
-    let w = c.args.at.now in
+    let w = c.args.trail.now in
     let part = c.args.tool.now.part in
     let r = c.in-Some-Res-default-Some.r in
     let i = c.in-Some-Res-default-Some.field-0-1-0 in

@@ -12,7 +12,7 @@ use Rattle.machine_parts.proofs.first.whole_first.Goals as goal
 -- the tool's comes first
 pub returns-in-Some : goal.returns-in-Some
 returns-in-Some c =
-    let w = c.args.at.now in
+    let w = c.args.trail.now in
     let goes = c.requires.parts.goes in
     let found : first_tool_action w.input (state_of w) c.args.t.0 ≡ Some c.in-Some.action = sym c.tool_first.ensures ∙ c.in-Some.is in
     sym (subst (λ (s : State). first_tool_action w.input s c.args.t.0 ≡ Some c.in-Some.action → first_enabled_action w.input s c.args.t.0 ≡ Some c.in-Some.action) (sym (state_of-is w))
@@ -21,7 +21,7 @@ returns-in-Some c =
 -- and else the earliest of the pools
 pub returns-in-None : goal.returns-in-None
 returns-in-None c =
-    let w = c.args.at.now in
+    let w = c.args.trail.now in
     let goes = c.requires.parts.goes in
     let none : first_tool_action w.input (state_of w) c.args.t.0 ≡ None = sym c.tool_first.ensures ∙ c.in-None.is in
     let firsts : List (Option Action) = c.args.firsts.now in

@@ -17,13 +17,13 @@ use Rattle.machine_parts.proofs.next.whole_next.Goals as goal
 
 pub next_due-requires : goal.next_due-requires
 next_due-requires c =
-    let limit : (state_of c.args.at.now).now ≤ most_span = early c.args.at.now c.requires.parts.goes in
+    let limit : (state_of c.args.trail.now).now ≤ most_span = early c.args.trail.now c.requires.parts.goes in
     let now = c.requires.now in
     omega (arith, limit, now)
 
 pub returns : goal.returns
 returns c =
-    let w = c.args.at.now in
+    let w = c.args.trail.now in
     let goes = c.requires.parts.goes in
     let g : ℕ = w.input.config.granularity in
     let nexts : List (Option Moment) = c.args.nexts.now in

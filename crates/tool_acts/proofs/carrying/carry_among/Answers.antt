@@ -13,11 +13,11 @@ use Rattle.tool_acts.proofs.carrying.carry_among.Goals as goal
 use Rattle.tool_acts.proofs.carrying.carry_among.Goals.{In-Some}
 
 -- the pool of the plan
-home : (c : In-Some) → plan_pool (state_of c.args.at.now) c.args.plan ≡ Some c.in-Some.i.0
+home : (c : In-Some) → plan_pool (state_of c.args.trail.now) c.args.plan ≡ Some c.in-Some.i.0
 home c = number-of _ c.in-Some.i (sym c.requires.home ∙ c.in-Some.is)
 
 low : (c : In-Some) → c.in-Some.i.0 < 16
-low c = home-low c.args.at.now c.requires.goes c.args.plan c.in-Some.i.0 c.requires.accepted (home c) c.requires.keeps
+low c = home-low c.args.trail.now c.requires.goes c.args.plan c.in-Some.i.0 c.requires.accepted (home c) c.requires.keeps
 
 below : (c : In-Some) → c.in-Some.i.0 < length c.args.slots.now
 below c = (let few = low c in let count = c.requires.stand.count in omega (arith, few, count))
@@ -26,7 +26,7 @@ pub bounds-slots-i : goal.bounds-slots-i
 bounds-slots-i c = below (goal.at.bounds-slots-i c).In-Some
 
 pub carry_kept-requires-clause-stands : goal.carry_kept-requires-clause-stands
-carry_kept-requires-clause-stands c = stands-read c.args.at.now c.args.slots.now c.requires.stand c.in-Some.i.0 c.index-slots-i.result (below (goal.at.carry_kept-requires-clause-stands c).In-Some)
+carry_kept-requires-clause-stands c = stands-read c.args.trail.now c.args.slots.now c.requires.stand c.in-Some.i.0 c.index-slots-i.result (below (goal.at.carry_kept-requires-clause-stands c).In-Some)
 
 pub carry_kept-requires-clause-home : goal.carry_kept-requires-clause-home
 carry_kept-requires-clause-home c = home (goal.at.carry_kept-requires-clause-home c).In-Some
@@ -34,7 +34,7 @@ carry_kept-requires-clause-home c = home (goal.at.carry_kept-requires-clause-hom
 pub returns-in-Some-clause-some : goal.returns-in-Some-clause-some
 returns-in-Some-clause-some c i is =
     let at = (goal.at.returns-in-Some-clause-some c).In-Some in
-    let w = c.args.at.now in
+    let w = c.args.trail.now in
     let slots = c.args.slots.now in
     let k = c.in-Some.i.0 in
     let new = c.carry_kept.new.slot in

@@ -12,12 +12,12 @@ use Rattle.tool_acts.proofs.commands.accept_change.Goals as goal
 use Rattle.tool_acts.proofs.commands.accept_change.Goals.{After-advance}
 
 pub advance-requires-clause-idle : goal.advance-requires-clause-idle
-advance-requires-clause-idle c = (let w = c.args.at.now in is-idle w.input (state_of w) (state_of w).now c.requires.enabled c.args.tool.now c.requires.parts.known)
+advance-requires-clause-idle c = (let w = c.args.trail.now in is-idle w.input (state_of w) (state_of w).now c.requires.enabled c.args.tool.now c.requires.parts.known)
 
 -- what the tool keeps then
 advanced : (c : After-advance) → c.advance.new.self ≡ after_advance c.args.tool.now c.args.plan
 advanced c =
-    let w = c.args.at.now in
+    let w = c.args.trail.now in
     let s = state_of w in
     let accepted = c.requires.accepted in
     advanced-is w.input s s.now c.requires.enabled c.args.tool.now c.requires.parts.known accepted.line c.args.plan accepted.accepted c.advance.new.self (c.advance.ensures w.input s s.now accepted.line c.requires.parts.known accepted.accepted)
@@ -25,7 +25,7 @@ advanced c =
 -- the place of the home has what the plan makes of its pool, and no place changes where there is no home
 pub returns-clause-parts : goal.returns-clause-parts
 returns-clause-parts c =
-    let w = c.args.at.now in
+    let w = c.args.trail.now in
     let s = state_of w in
     let home = c.home_of_plan-home in
     let slots = c.args.slots.now in

@@ -9,23 +9,23 @@ use Rattle.tool_acts.proofs.Spared.{few-commands, is-idle, spares-on}
 use Rattle.tool_acts.proofs.commands.command_at.Goals as goal
 
 pub refuse-requires-clause-idle : goal.refuse-requires-clause-idle
-refuse-requires-clause-idle c = (let w = c.args.at.now in is-idle w.input (state_of w) (state_of w).now c.requires.enabled c.args.tool.now c.requires.parts.known)
+refuse-requires-clause-idle c = (let w = c.args.trail.now in is-idle w.input (state_of w) (state_of w).now c.requires.enabled c.args.tool.now c.requires.parts.known)
 
 pub overflow_add-result : goal.overflow_add-result
 overflow_add-result c =
-    let few = few-commands c.args.at.now c.args.slots.now c.args.tool.now c.requires.parts in
+    let few = few-commands c.args.trail.now c.args.slots.now c.args.tool.now c.requires.parts in
     let low = slice_get_within c.args.tool.now.commands c.args.k c.command.result.now c.command.ensures in
     omega (arith, few, low)
 
 pub overflow_add-result-in-Ok : goal.overflow_add-result-in-Ok
 overflow_add-result-in-Ok c =
-    let few = few-commands c.args.at.now c.args.slots.now c.args.tool.now c.requires.parts in
+    let few = few-commands c.args.trail.now c.args.slots.now c.args.tool.now c.requires.parts in
     let low = slice_get_within c.args.tool.now.commands c.args.k c.command.result.now c.command.ensures in
     omega (arith, few, low)
 
 pub returns-in-Err-clause-parts : goal.returns-in-Err-clause-parts
 returns-in-Err-clause-parts c =
-    let w = c.args.at.now in
+    let w = c.args.trail.now in
     let m = w.input in
     let s = state_of w in
     let line = c.command.result.now in
@@ -37,4 +37,4 @@ returns-in-Err-clause-parts c =
 
 pub returns-in-Err-clause-spares : goal.returns-in-Err-clause-spares
 returns-in-Err-clause-spares c =
-    spares-on c.args.at.now.input c.args.t.0 c.args.tool.now c.refuse.new.self c.args.spares.now c.requires.spares (ap (λ (x : Tool). x.part.pools) c.refuse.ensures.next) (ap (λ (x : Tool). x.part.next_command) c.refuse.ensures.next)
+    spares-on c.args.trail.now.input c.args.t.0 c.args.tool.now c.refuse.new.self c.args.spares.now c.requires.spares (ap (λ (x : Tool). x.part.pools) c.refuse.ensures.next) (ap (λ (x : Tool). x.part.next_command) c.refuse.ensures.next)

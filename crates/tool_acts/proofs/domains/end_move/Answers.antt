@@ -2,14 +2,14 @@ use Rattle.tool_acts.proofs.DomainMoves.{acted-after, counts-after, event-is, to
 use Rattle.tool_acts.proofs.domains.end_move.Goals as goal
 
 pub returns-clause-event : goal.returns-clause-event
-returns-clause-event c = event-is c.args.at.now c.args.t.0 c.args.route c.requires.moves
+returns-clause-event c = event-is c.args.trail.now c.args.t.0 c.args.route c.requires.moves
 
 pub returns-clause-acted : goal.returns-clause-acted
 returns-clause-acted c =
-    acted-after c.args.at.now c.args.t.0 c.args.route c.requires.moves c.args.tool.now c.requires.known c.move_done.new.self
-    (told-after c.args.at.now c.args.t.0 c.args.route c.requires.moves c.args.tool.now c.requires.known c.move_done.new.self c.move_done.ensures.state)
+    acted-after c.args.trail.now c.args.t.0 c.args.route c.requires.moves c.args.tool.now c.requires.known c.move_done.new.self
+    (told-after c.args.trail.now c.args.t.0 c.args.route c.requires.moves c.args.tool.now c.requires.known c.move_done.new.self c.move_done.ensures.state)
 
 pub returns-clause-counts : goal.returns-clause-counts
 returns-clause-counts c =
-    counts-after c.args.at.now c.args.t.0 c.args.route c.requires.moves c.args.tool.now c.requires.known c.move_done.new.self
-    (told-after c.args.at.now c.args.t.0 c.args.route c.requires.moves c.args.tool.now c.requires.known c.move_done.new.self c.move_done.ensures.state)
+    counts-after c.args.trail.now c.args.t.0 c.args.route c.requires.moves c.args.tool.now c.requires.known c.move_done.new.self
+    (told-after c.args.trail.now c.args.t.0 c.args.route c.requires.moves c.args.tool.now c.requires.known c.move_done.new.self c.move_done.ensures.state)

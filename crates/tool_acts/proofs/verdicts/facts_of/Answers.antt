@@ -13,7 +13,7 @@ returns-then-i-slots-clause-rate c =
     let slots = c.args.slots.now in
     let read : at_place slots c.in-Some.pool.0 ≡ c.index-slots-i.result = get_or_default slots c.in-Some.pool.0 None c.index-slots-i.result c.if-i-slots.true ∙ sym c.index-slots-i.is in
     let here : (o : Option Seen) → at_place slots c.in-Some.pool.0 ≡ o → c.index-slots-i.result ≡ o = λ o is. sym read ∙ is in
-    rate-told c.args.at.now slots c.requires.goes c.requires.stand c.args.subject c.in-Some.pool c.in-Some.is c.facts.result.rate
+    rate-told c.args.trail.now slots c.requires.goes c.requires.stand c.args.subject c.in-Some.pool c.in-Some.is c.facts.result.rate
     (λ seen is. c.facts.ensures.rate seen (here (Some seen) is)) (λ is. (c.facts.ensures.empty (here None is)).0)
 
 pub returns-then-i-slots-clause-units : goal.returns-then-i-slots-clause-units
@@ -21,7 +21,7 @@ returns-then-i-slots-clause-units c =
     let slots = c.args.slots.now in
     let read : at_place slots c.in-Some.pool.0 ≡ c.index-slots-i.result = get_or_default slots c.in-Some.pool.0 None c.index-slots-i.result c.if-i-slots.true ∙ sym c.index-slots-i.is in
     let here : (o : Option Seen) → at_place slots c.in-Some.pool.0 ≡ o → c.index-slots-i.result ≡ o = λ o is. sym read ∙ is in
-    units-told c.args.at.now slots c.requires.goes c.requires.stand c.args.subject c.in-Some.pool c.in-Some.is c.facts.result.units
+    units-told c.args.trail.now slots c.requires.goes c.requires.stand c.args.subject c.in-Some.pool c.in-Some.is c.facts.result.units
     (λ seen is. c.facts.ensures.units seen (here (Some seen) is)) (λ is. (c.facts.ensures.empty (here None is)).1)
 
 -- a number past the last place
@@ -29,12 +29,12 @@ pub returns-else-i-slots-clause-rate : goal.returns-else-i-slots-clause-rate
 returns-else-i-slots-clause-rate c =
     let slots = c.args.slots.now in
     let past : at_place slots c.in-Some.pool.0 ≡ None = get_or-eq_default slots None c.if-i-slots.false in
-    rate-told c.args.at.now slots c.requires.goes c.requires.stand c.args.subject c.in-Some.pool c.in-Some.is c.no_facts-else-i-slots.result.rate
+    rate-told c.args.trail.now slots c.requires.goes c.requires.stand c.args.subject c.in-Some.pool c.in-Some.is c.no_facts-else-i-slots.result.rate
     (λ seen is. absurd (cc)) (λ is. c.no_facts-else-i-slots.ensures.rate)
 
 pub returns-else-i-slots-clause-units : goal.returns-else-i-slots-clause-units
 returns-else-i-slots-clause-units c =
     let slots = c.args.slots.now in
     let past : at_place slots c.in-Some.pool.0 ≡ None = get_or-eq_default slots None c.if-i-slots.false in
-    units-told c.args.at.now slots c.requires.goes c.requires.stand c.args.subject c.in-Some.pool c.in-Some.is c.no_facts-else-i-slots.result.units
+    units-told c.args.trail.now slots c.requires.goes c.requires.stand c.args.subject c.in-Some.pool c.in-Some.is c.no_facts-else-i-slots.result.units
     (λ seen is. absurd (cc)) (λ is. c.no_facts-else-i-slots.ensures.units)

@@ -9,7 +9,7 @@ use Rattle.tool_acts.proofs.verdicts.judged.Goals as goal
 
 pub returns : goal.returns
 returns c =
-    let w = c.args.at.now in
+    let w = c.args.trail.now in
     let m = w.input in
     let s = state_of w in
     let known = c.requires.parts.known in
