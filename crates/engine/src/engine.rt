@@ -13,7 +13,7 @@ use sched_model::machine::Machine;
 use sched_model::work::Work;
 use std::alloc::Global;
 use std::marker::Model;
-use tool_acts::act_of_tool;
+use tool_actions::act_of_tool;
 
 /// A machine, and the state that it stands in. Contracts see both.
 ///

@@ -34,9 +34,9 @@ use Rattle.machine_parts.specs.Places.{GoesOn, state_of}
 use Rattle.machine_parts.specs.Told.{Told, told_more}
 use Rattle.machine_parts.proofs.Going.{part_of-is, range-of, state-on, state_of-is, now_of-is}
 use Rattle.machine_parts.proofs.AtPlaces.{number-of}
-use Rattle.tool_acts.proofs.CoreMoves.{leaves-some, own-of, way-there}
-use Rattle.tool_acts.proofs.DomainMoves.{domain-told, finds-some}
-use Rattle.tool_acts.proofs.Stalling.{known-of}
+use Rattle.tool_actions.proofs.CoreMoves.{leaves-some, own-of, way-there}
+use Rattle.tool_actions.proofs.DomainMoves.{domain-told, finds-some}
+use Rattle.tool_actions.proofs.Stalling.{known-of}
 use Rattle.lock_moves.specs.declared.content.LockId.{LockId}
 use Rattle.lock_moves.specs.declared.content.NameId.TheVariants.{Res, Dom}
 use Rattle.lock_moves.specs.Plays.{Current, Placed}

@@ -25,7 +25,7 @@ use Rattle.machine_parts.specs.Places.{GoesOn, state_of}
 use Rattle.machine_parts.specs.Told.{Told, told_of}
 use Rattle.machine_parts.proofs.Going.{comes-next, entry-is, goes-on}
 use Rattle.machine_parts.proofs.AtPlaces.{number-of, no-number}
-use Rattle.tool_acts.specs.Acts.{told_event}
+use Rattle.tool_actions.specs.Acts.{told_event}
 use Rattle.machine_parts.specs.Parts.{AreParts, event_pool}
 use Rattle.machine_parts.proofs.Performing.{own-event}
 use Rattle.lock_moves.specs.Plays.{Current, Kept, Placed}

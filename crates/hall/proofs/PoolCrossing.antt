@@ -6,8 +6,8 @@ use Rattle.std.proofs.Crossing.{crosses}
 use Rattle.sched_model.proofs.work.CommandLine.TheSendSync as command
 use Rattle.sched_ops.specs.declared.policy.Policy.{Ghosts}
 use Rattle.unit_ring.proofs.Crossing.{ring_send}
-use Rattle.any_policy.specs.contracts.any.AnyPolicy.{the_row as any_row}
-use Rattle.any_policy.specs.contracts.any.AnyPolicyPolicy.TheImpl.{ghosts}
+use Rattle.any_scheduler.specs.contracts.any.AnyPolicy.{the_row as any_row}
+use Rattle.any_scheduler.specs.contracts.any.AnyPolicyPolicy.TheImpl.{ghosts}
 use Rattle.cpupool.specs.contracts.tool.ToolState.{the_row as tool_row}
 use Rattle.pool_core.specs.contracts.pool.PoolState.{the_row as pool_row}
 use Rattle.pool_core.specs.contracts.pool.PoolState.TheInside as inside

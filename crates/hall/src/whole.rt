@@ -27,7 +27,7 @@ use machine_parts::{Trail, pool_of_event};
 use sched_base::{DomId, Moment, PoolId, ResId};
 use sched_model::action::Action;
 use sched_model::event::{Entry, Event};
-use tool_acts::act_of_tool;
+use tool_actions::act_of_tool;
 
 /// A name that goes from one lock to another.
 #[derive(Clone, Copy)]

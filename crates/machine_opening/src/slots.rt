@@ -10,7 +10,7 @@ ghost use Rattle.machine_opening.specs.OpenedPool.{IsOpened};
 
 use crate::boxed::boxed;
 use crate::pool::opened;
-use any_policy::AnyPolicy;
+use any_scheduler::AnyPolicy;
 use machine_parts::{AnyPool, PoolSlot};
 use sched_base::NoMemory;
 use sched_model::config::{Config, SchedKind};

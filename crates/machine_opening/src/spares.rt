@@ -13,7 +13,7 @@ ghost use Rattle.machine_opening.specs.OpeningShelves.{CanFill, filled_shelves, 
 use crate::boxed::boxed;
 use crate::counts::{configured, most_of_each};
 use crate::pool::spare;
-use any_policy::AnyPolicy;
+use any_scheduler::AnyPolicy;
 use machine_parts::{AnyPool, KindCounts, Spares};
 use sched_base::NoMemory;
 use sched_model::config::{Config, SchedKind};

@@ -1,6 +1,6 @@
 //! A place for a pool: what is asked of its pool, and what is done to it alone.
 
-use any_policy::AnyPolicy;
+use any_scheduler::AnyPolicy;
 use pool_core::pool::PoolState;
 use sched_base::{DomId, Moment, ProcId, ResId};
 use sched_model::action::{Action, Actor};

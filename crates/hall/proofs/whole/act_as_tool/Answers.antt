@@ -8,7 +8,7 @@ use Rattle.machine_parts.specs.Counts.{AreSpares}
 use Rattle.machine_parts.specs.Places.{state_of}
 use Rattle.machine_parts.specs.Told.{Told, told_of}
 use Rattle.machine_parts.specs.Parts.{AreParts}
-use Rattle.tool_acts.specs.Acts.{told_event}
+use Rattle.tool_actions.specs.Acts.{told_event}
 use Rattle.hall.specs.declared.value.ToolKept.{ToolKept}
 use Rattle.hall.specs.Moves.{HandsName}
 use Rattle.hall.proofs.Performing.{has-done, kept-done, knows-done, may-done, next-done, placed-done}

@@ -2,7 +2,7 @@ use Rattle.std.proofs.Common.{◌∙◌, sym, ap}
 use Rattle.std.specs.Prelude.{Some}
 use Rattle.cpupool.specs.declared.moves.Move.{Move}
 use Rattle.machine_parts.specs.Places.{state_of}
-use Rattle.tool_acts.proofs.CoreMoves.{move-told, way-told}
+use Rattle.tool_actions.proofs.CoreMoves.{move-told, way-told}
 use Rattle.hall.proofs.Handing.{core-handed, core-told}
 use Rattle.hall.proofs.whole.core_move.Goals as goal
 use Rattle.hall.proofs.whole.core_move.Goals.{in_default-via-in-Some+in_default, in_default-via-in_default}
