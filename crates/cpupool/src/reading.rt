@@ -7,7 +7,9 @@ ghost use Rattle.cpupool.specs.Tool.{way_of, domain_size, free_core_ends};
 ghost use Rattle.cpupool.specs.Fits.{DomainFits, PoolFits, StateFits};
 ghost use Rattle.sched_laws.specs.EachPlace.{AllPlaces};
 
-use crate::outline::{CoreFlags, DomainSizes, FreeCores, MoveUnderWay, Outline, Outlines, PoolNames};
+use crate::outline::{
+    CoreFlags, DomainSizes, FreeCores, MoveUnderWay, Outline, Outlines, PoolNames,
+};
 use sched_base::{DomId, Name, PoolId, ResId};
 use sched_model::config::SchedKind;
 use sched_model::facts::{StallEnds, kind_of};

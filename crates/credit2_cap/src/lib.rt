@@ -32,7 +32,8 @@ pub fn quota(total: i64, units: u32) -> i64
 
 /// What a chosen unit takes of its domain's budget: its quota, or what is left where that is less.
 pub fn take(budget: i64, quota: i64) -> i64
-    ensures exact { pos 0 ≤ℤ quota → result ≡ numbers.taken_budget budget (numbers.positive_part quota) }
+    ensures exact { pos 0 ≤ℤ quota → result ≡ numbers.taken_budget budget
+        (numbers.positive_part quota) }
     ensures least { result ≡ int_min quota budget }
     ensures no_more { result ≤ℤ budget }
     ensures some { pos 0 <ℤ budget → pos 0 <ℤ quota → pos 0 <ℤ result }

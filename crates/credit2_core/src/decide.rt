@@ -29,7 +29,8 @@ fn charge_own(state: &mut Credit2State, ready: &mut Ready, ask: &Ask)
     requires sound { IsSound state.old }
     requires ready { IsReadyIn state.old ready.old }
     requires asked { IsAsked (seen_in state.old) ask.now }
-    ensures records { state.new.records ≡ own_burned_records ask.now.cur ask.now.at.0 state.old.records }
+    ensures records { state.new.records ≡ own_burned_records ask.now.cur ask.now.at.0
+        state.old.records }
     ensures fits { PoolFits ask.now.at.0 state.new.records }
     ensures line { IsLine state.new }
     ensures ready { IsReadyIn state.new ready.new }
@@ -84,8 +85,8 @@ fn run_unit(state: &mut Credit2State, ready: &mut Ready, ask: &Ask, u: UnitId) -
     requires line { IsLine state.old }
     requires masks { AreMasks state.old.affinity state.old.masks }
     requires free { IsFree state.old.unpinned state.old.affinity }
-    ensures tells { Tells result (credit2_decision_for ask.now (scheduler_in state.old) state.old.records
-        (Some u)) }
+    ensures tells { Tells result (credit2_decision_for ask.now (scheduler_in state.old)
+        state.old.records (Some u)) }
     ensures records { state.new.records ≡ records_after_run ask.now.cur ask.now.at.0
         (reset_count ask.now.at.0 u state.old.records) u state.old.records }
     ensures order { arrivals state.new.queue.units
@@ -113,7 +114,8 @@ fn run_unit(state: &mut Credit2State, ready: &mut Ready, ask: &Ask, u: UnitId) -
 /// The core idles.
 fn idle(state: &mut Credit2State, ask: &Ask) -> Choice
     requires { IsLine state.old }
-    ensures tells { Tells result (credit2_decision_for ask.now (scheduler_in state.old) state.old.records None) }
+    ensures tells { Tells result (credit2_decision_for ask.now (scheduler_in state.old)
+        state.old.records None) }
     ensures records { state.new.records ≡ off_records ask.now.cur state.old.records }
     ensures line { IsLine state.new }
     ensures rest { state.new ≡ record state.old

@@ -171,7 +171,8 @@ pub fn richer(records: &Credit2Records, own: UnitId, waiting: Option<UnitId>) ->
 
 /// The first unit of a domain that may run, once the unit waits too, behind all others.
 pub fn first_with(records: &Credit2Records, ready: Ready, u: UnitId) -> Option<UnitId>
-    ensures { result ≡ first_with_unit records.now (has_core_bit ready.domains.0 u.dom.0) ready.first u }
+    ensures { result ≡ first_with_unit records.now (has_core_bit ready.domains.0 u.dom.0)
+        ready.first u }
 {
     if !has_domain(ready.domains, u.dom) {
         return ready.first;

@@ -70,8 +70,8 @@ pub fn join(
     requires weight { IsWeight weight }
     requires cap { IsCap cap }
     requires now { IsNow (seen_in state.old) t.0 }
-    ensures scheduler { scheduler_in state.new ≡ joined_scheduler d.0 units (dom_params.Credit2 weight cap)
-        t.0 (scheduler_in state.old) }
+    ensures scheduler { scheduler_in state.new
+        ≡ joined_scheduler d.0 units (dom_params.Credit2 weight cap) t.0 (scheduler_in state.old) }
     ensures spare { state.new.spare ≡ state.old.spare - units }
     ensures latest { state.new.latest ≡ t.0 }
     ensures sound { IsSound state.new }

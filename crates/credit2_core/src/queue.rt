@@ -23,8 +23,8 @@ pub fn enqueue(state: &mut Credit2State, ready: &mut Ready, u: UnitId)
     requires sound { IsSound state.old }
     requires ready { IsReadyIn state.old ready.old }
     requires away { IsAway (scheduler_in state.old) u }
-    ensures seen { seen_in state.new ≡ with_scheduler (scheduler_with_queued u (scheduler_in state.old))
-        (seen_in state.old) }
+    ensures seen { seen_in state.new ≡ with_scheduler
+        (scheduler_with_queued u (scheduler_in state.old)) (seen_in state.old) }
     ensures sound { IsSound state.new }
     ensures ready { IsReadyIn state.new ready.new }
 {
@@ -39,8 +39,8 @@ pub fn enqueue(state: &mut Credit2State, ready: &mut Ready, u: UnitId)
 pub fn dequeue(state: &mut Credit2State, ready: &mut Ready, u: UnitId)
     requires sound { IsSound state.old }
     requires ready { IsReadyIn state.old ready.old }
-    ensures seen { seen_in state.new ≡ with_scheduler (scheduler_without_unit u (scheduler_in state.old))
-        (seen_in state.old) }
+    ensures seen { seen_in state.new ≡ with_scheduler
+        (scheduler_without_unit u (scheduler_in state.old)) (seen_in state.old) }
     ensures sound { IsSound state.new }
     ensures ready { IsReadyIn state.new ready.new }
 {

@@ -45,7 +45,8 @@ pub fn take_slice(
     requires core { ask.now.core.0 < 64 }
     requires few { length state.old.records.domains ≤ 64 }
     requires params { PoolParamsFit state.old.records }
-    requires taken { PoolParamsFit (change_domain u.dom.0 (domain_after_take u.n) state.old.records) }
+    requires taken { PoolParamsFit (change_domain u.dom.0 (domain_after_take u.n)
+        state.old.records) }
     requires limit { state.old.records.limit ≤ 500000 }
     requires line { IsLine state.old }
     requires masks { AreMasks state.old.affinity state.old.masks }

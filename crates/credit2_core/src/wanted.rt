@@ -29,8 +29,8 @@ fn wanted_by_core(
     requires ready { IsReadyIn state.now ready.now }
     requires few { length cores.now ≤ 64 }
     requires asks { EachPlace (MayAsk t.0 (scheduler_in state.now)) cores.now }
-    ensures { (r : ℕ) → has_core_bit result.0 r ≡ is_core_wanted t.0 home.0 (scheduler_in state.now) r
-        (at_place cores.now r) }
+    ensures { (r : ℕ) → has_core_bit result.0 r
+        ≡ is_core_wanted t.0 home.0 (scheduler_in state.now) r (at_place cores.now r) }
 {
     wanted_where(cores, |core, cur, since| {
         better_waits(state, ready, cur, since, t, core, home)
@@ -51,8 +51,8 @@ pub fn wanted(
     requires ready { IsReadyIn state.now ready.now }
     requires few { length cores.now ≤ 64 }
     requires asks { EachPlace (MayAsk t.0 (scheduler_in state.now)) cores.now }
-    ensures { (r : ℕ) → has_core_bit result.0 r ≡ is_core_wanted t.0 home.0 (scheduler_in state.now) r
-        (at_place cores.now r) }
+    ensures { (r : ℕ) → has_core_bit result.0 r
+        ≡ is_core_wanted t.0 home.0 (scheduler_in state.now) r (at_place cores.now r) }
 {
     state.queue.law_order();
     if ready.first.is_none() && state.unpinned {

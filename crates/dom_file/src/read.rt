@@ -98,7 +98,8 @@ fn all_pools(
     requires head { IsHead head.now }
     requires few { IfSome tables.now (λ v. length v.items ≤ 16) }
     ensures value { GivesBy (λ v. v.items) result
-        (pools_of_tables head.now (option_map (λ v. map (λ t. table_view t.now) v.items) tables.now)) }
+        (pools_of_tables head.now (option_map (λ v. map (λ t. table_view t.now) v.items)
+        tables.now)) }
     ensures count { IfOk result (λ v. length v.items ≤ 16) }
 {
     match tables {

@@ -51,7 +51,8 @@ pub fn union(a: u64, b: u64) -> u64
 /// The ids of a set that another has not.
 #[inline]
 pub fn difference(a: u64, b: u64) -> u64
-    ensures { (id : ℕ) → id < 64 → has_core_bit result id ≡ (has_core_bit a id && not (has_core_bit b id)) }
+    ensures { (id : ℕ) → id < 64 → has_core_bit result id
+        ≡ (has_core_bit a id && not (has_core_bit b id)) }
 {
     a & !b
 }

@@ -112,8 +112,8 @@ fn settle(moments: &[Option<Moment>], winners: &mut [u16], id: u16)
 fn below(moments: &[Option<Moment>], winners: &[u16], k: usize, t: Moment) -> usize
     requires few { length winners.now ≤ 2 ^ 16 }
     requires inner { k < length winners.now }
-    ensures { result ≡ (if tree.is_armed_due moments.now t.0 (tree.node_winner winners.now (2 * k)) then 2 *
-        k else 2 * k + 1) }
+    ensures { result ≡ (if tree.is_armed_due moments.now t.0 (tree.node_winner winners.now (2 * k))
+        then 2 * k else 2 * k + 1) }
 {
     if is_due(moments, winner(winners, 2 * k), t) {
         2 * k

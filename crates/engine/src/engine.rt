@@ -4,7 +4,9 @@ use crate::keeping::{busy_places, read_all, read_one};
 use crate::opening::{open_pools, open_tool};
 use cpupool::ToolState;
 use machine_parts::places::read_firsts;
-use machine_parts::{PoolSlot, Spares, Trail, perform_among, pool_of_event, whole_first, whole_next};
+use machine_parts::{
+    PoolSlot, Spares, Trail, perform_among, pool_of_event, whole_first, whole_next,
+};
 use sched_base::{Moment, NoMemory};
 use sched_model::action::Action;
 use sched_model::config::Config;
@@ -131,8 +133,8 @@ impl Engine {
 
     /// Does the event of an action that may come now, which is one of the pool i.
     fn perform_in_pool(&mut self, i: u8, action: Action) -> Event
-        requires enabled { is_action_enabled self.old.machine self.old.state self.old.state.now action
-            ≡ true }
+        requires enabled { is_action_enabled self.old.machine self.old.state self.old.state.now
+            action ≡ true }
         requires home { event_pool self.old.machine.config.granularity self.old.state action
             ≡ Some i }
         ensures event { result ≡ event_of self.old.machine self.old.state self.old.state.now
@@ -164,12 +166,13 @@ impl Engine {
 
     /// The same of an action of the tool; of a command where no stall may come.
     fn perform_by_tool(&mut self, action: Action) -> Event
-        requires enabled { is_action_enabled self.old.machine self.old.state self.old.state.now action
-            ≡ true }
+        requires enabled { is_action_enabled self.old.machine self.old.state self.old.state.now
+            action ≡ true }
         requires no_pool { event_pool self.old.machine.config.granularity self.old.state
             action ≡ None }
         requires first { action ≡ actions.Xl →
-            is_action_enabled self.old.machine self.old.state self.old.state.now actions.Stall ≡ false }
+            is_action_enabled self.old.machine self.old.state self.old.state.now actions.Stall
+            ≡ false }
         ensures event { result ≡ event_of self.old.machine self.old.state self.old.state.now
             action }
         ensures state { self.new ≡ record self.old

@@ -48,7 +48,8 @@ pub(crate) fn put_book(set: &LockSet<PartState>, seat: &mut LockSeat, book: Held
 /// Raises the stage word of the core whose decision the event is, where it is one. The seat then names that core, or else none.
 fn raise_stage(set: &LockSet<PartState>, seat: &mut LockSeat, book: &HeldBook, event: Event)
     requires has { HasBook set.now book.now seat.old }
-    requires core { (r : ℕ) → event_action event ≡ Some (Decide (core r)) → HasCore r seat.old.view }
+    requires core { (r : ℕ) → event_action event ≡ Some (Decide (core r))
+        → HasCore r seat.old.view }
     ensures { seat.new ≡ sitting_with seat.old (deciding_view event seat.old.view) }
 {
     if let Event::Decide { r, .. } = event {

@@ -38,10 +38,10 @@ pub(crate) fn perform_at(
     requires number { i < tool_lock }
     requires knows { KnowsPool i slot.old seat.old.view }
     requires own { IsOfPool action }
-    requires enabled { is_action_enabled book.input (state_of (told_of book)) (state_of (told_of book)).now
-        action ≡ true }
-    requires home { home_pool_of_action book.input.config.granularity (state_of (told_of book)) action
-        ≡ Some i }
+    requires enabled { is_action_enabled book.input (state_of (told_of book))
+        (state_of (told_of book)).now action ≡ true }
+    requires home { home_pool_of_action book.input.config.granularity (state_of (told_of book))
+        action ≡ Some i }
     ensures event { result ≡ event_of book.input (state_of (told_of book))
         (state_of (told_of book)).now action }
     ensures entered { HasEntered book (record { at = t; event = result }) seat.old seat.new }

@@ -51,8 +51,8 @@ fn lock_of(pool: Option<PoolId>) -> LockId
 fn core_move(tool: &ToolState, trail: &Trail, r: ResId) -> NameMove
     requires goes { GoesOn trail.now }
     requires known { tool_of trail.now.input (state_of trail.now) ≡ tool.now }
-    requires enabled { is_action_enabled trail.now.input (state_of trail.now) (state_of trail.now).now
-        (actions.Moved r) ≡ true }
+    requires enabled { is_action_enabled trail.now.input (state_of trail.now)
+        (state_of trail.now).now (actions.Moved r) ≡ true }
     ensures { HandsNameOver trail.now (actions.Moved r) result }
 {
     let Some(Move::Res { to, .. }) = tool.moving() else {
@@ -71,8 +71,8 @@ fn core_move(tool: &ToolState, trail: &Trail, r: ResId) -> NameMove
 fn domain_move(tool: &ToolState, trail: &Trail, d: DomId) -> NameMove
     requires goes { GoesOn trail.now }
     requires known { tool_of trail.now.input (state_of trail.now) ≡ tool.now }
-    requires enabled { is_action_enabled trail.now.input (state_of trail.now) (state_of trail.now).now
-        (actions.DomMoved d) ≡ true }
+    requires enabled { is_action_enabled trail.now.input (state_of trail.now)
+        (state_of trail.now).now (actions.DomMoved d) ≡ true }
     ensures { HandsNameOver trail.now (actions.DomMoved d) result }
 {
     let Some(Move::Dom { to, .. }) = tool.moving() else {
@@ -90,8 +90,8 @@ fn domain_move(tool: &ToolState, trail: &Trail, d: DomId) -> NameMove
 fn name_move(tool: &ToolState, trail: &Trail, action: Action) -> Option<NameMove>
     requires goes { GoesOn trail.now }
     requires known { tool_of trail.now.input (state_of trail.now) ≡ tool.now }
-    requires enabled { is_action_enabled trail.now.input (state_of trail.now) (state_of trail.now).now action
-        ≡ true }
+    requires enabled { is_action_enabled trail.now.input (state_of trail.now)
+        (state_of trail.now).now action ≡ true }
     ensures { HandsName trail.now action result }
 {
     match action {
@@ -130,11 +130,11 @@ fn act_as_tool(
     requires now { t.0 ≡ seat.old.view.now }
     requires granularity { granularity ≡ book.input.config.granularity }
     requires knows { KnowsAll all.old seat.old.view }
-    requires enabled { is_action_enabled book.input (state_of (told_of book)) (state_of (told_of book)).now
-        action ≡ true }
+    requires enabled { is_action_enabled book.input (state_of (told_of book))
+        (state_of (told_of book)).now action ≡ true }
     requires first { action ≡ actions.Xl →
-        is_action_enabled book.input (state_of (told_of book)) (state_of (told_of book)).now actions.Stall
-        ≡ false }
+        is_action_enabled book.input (state_of (told_of book)) (state_of (told_of book)).now
+        actions.Stall ≡ false }
     requires no_pool { event_pool book.input.config.granularity (state_of (told_of book))
         action ≡ None }
     ensures event { result ≡ event_of book.input (state_of (told_of book))
@@ -177,11 +177,11 @@ pub(crate) fn perform(
     requires now { t.0 ≡ seat.old.view.now }
     requires granularity { granularity ≡ book.input.config.granularity }
     requires knows { KnowsAll all.old seat.old.view }
-    requires enabled { is_action_enabled book.input (state_of (told_of book)) (state_of (told_of book)).now
-        action ≡ true }
+    requires enabled { is_action_enabled book.input (state_of (told_of book))
+        (state_of (told_of book)).now action ≡ true }
     requires first { action ≡ actions.Xl →
-        is_action_enabled book.input (state_of (told_of book)) (state_of (told_of book)).now actions.Stall
-        ≡ false }
+        is_action_enabled book.input (state_of (told_of book)) (state_of (told_of book)).now
+        actions.Stall ≡ false }
     ensures event { result ≡ event_of book.input (state_of (told_of book))
         (state_of (told_of book)).now action }
     ensures entered { HasEntered book (record { at = t; event = result }) seat.old seat.new }

@@ -58,7 +58,8 @@ fn pin<P: Policy>(d: DomId, n: u8, cores: Cores, pool: &mut PoolState<P>)
     requires still { IsStill pool.old }
     requires joined { has_joined_domain pool.old.pool.scheduler d.0 ≡ true }
     requires units { n < units_of pool.old.pool.scheduler d.0 }
-    ensures after { pool.new ≡ with_pool (pool_with_pins d.0 n (cores ∷ []) pool.old.pool) pool.old }
+    ensures after { pool.new ≡ with_pool (pool_with_pins d.0 n (cores ∷ []) pool.old.pool)
+        pool.old }
     ensures still { IsStill pool.new }
     ensures joined { has_joined_domain pool.new.pool.scheduler d.0 ≡ true }
     ensures units { units_of pool.new.pool.scheduler d.0 ≡ units_of pool.old.pool.scheduler d.0 }

@@ -27,13 +27,15 @@ impl PoolSlot {
         requires now { t.0 ≡ (state_of trail.now).now }
         requires stands { StandsAt trail.now i self.old }
         requires own { IsOfPool action }
-        requires enabled { is_action_enabled trail.now.input (state_of trail.now) (state_of trail.now).now action
-            ≡ true }
-        requires home { home_pool_of_action trail.now.input.config.granularity (state_of trail.now) action ≡ Some i }
-        ensures event { result ≡ event_of trail.now.input (state_of trail.now) (state_of trail.now).now
-            action }
+        requires enabled { is_action_enabled trail.now.input (state_of trail.now)
+            (state_of trail.now).now action ≡ true }
+        requires home { home_pool_of_action trail.now.input.config.granularity (state_of trail.now)
+            action ≡ Some i }
+        ensures event { result ≡ event_of trail.now.input (state_of trail.now)
+            (state_of trail.now).now action }
         ensures part { slot_part self.new
-            ≡ part_of (after trail.now.input (state_of trail.now) (state_of trail.now).now action) i }
+            ≡ part_of (after trail.now.input (state_of trail.now) (state_of trail.now).now action)
+            i }
         ensures stands { StandsAt (told_more trail.now (record { at = t; event = result })) i
             self.new }
     {
@@ -49,7 +51,8 @@ impl PoolSlot {
         requires empty { self.old ≡ None }
         requires spare { IsSpare trail.now.input (state_of trail.now).now
             (records_kind spare.value.pool.scheduler.records) spare.value }
-        requires params { ArePoolParams (records_kind spare.value.pool.scheduler.records) params.now }
+        requires params { ArePoolParams (records_kind spare.value.pool.scheduler.records)
+            params.now }
         ensures { self.new ≡ Some (made_seen trail.now.input.config params.now spare.value.latest) }
     {
         let mut pool = spare;

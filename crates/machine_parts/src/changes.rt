@@ -86,8 +86,8 @@ impl PoolSlot {
             (λ seen. first + count ≤ units_at seen.granularity (at_place seen.pool.domains d.0)) }
         requires given { 0 < count → AreGiven given.period given.budget }
         ensures { self.new ≡ option_map (λ seen.
-            seen_at t.0 (settled_pool t.0 (pool_with_rtds t.0 d.0 given.period given.budget given.extra
-            (numbers_from first count) seen.pool)) seen) self.old }
+            seen_at t.0 (settled_pool t.0 (pool_with_rtds t.0 d.0 given.period given.budget
+            given.extra (numbers_from first count) seen.pool)) seen) self.old }
     {
         let Some(pool) = &mut self.state else {
             return;
@@ -164,22 +164,30 @@ impl PoolSlot {
 
     /// A domain of the machine, none of whose vCPUs is started, comes into the pool that is the part i, with these parameters. Its units
     /// that are runnable wait. There is room for them, since the pool has room for all units of the machine.
-    pub fn give_domain(&mut self, trail: &Trail, i: u8, part: DomPart, params: &DomParams, t: Moment)
+    pub fn give_domain(
+        &mut self,
+        trail: &Trail,
+        i: u8,
+        part: DomPart,
+        params: &DomParams,
+        t: Moment,
+    )
         requires goes { GoesOn trail.now }
         requires stands { StandsAt trail.now i self.old }
         requires some { IsSome self.old }
         requires now { t.0 ≡ (state_of trail.now).now }
         requires part { IsPart part }
         requires stays { part.domain.moving ≡ None }
-        requires domain { DomainInRange trail.now.input (state_of trail.now).now part.d.0 part.domain }
+        requires domain { DomainInRange trail.now.input (state_of trail.now).now part.d.0
+            part.domain }
         requires granularity { part.granularity ≡ trail.now.input.config.granularity }
         requires absent { ForSome self.old (λ seen. at_place seen.pool.domains part.d.0 ≡ None) }
         requires params { ForSome self.old
             (λ seen. AreDomParams (records_kind seen.pool.scheduler.records) params.now) }
         ensures { self.new ≡ option_map (λ seen.
             with_spare (seen.spare - domain_unit_count part.granularity part.domain)
-            (seen_at t.0 (settled_pool t.0 (pool_with_domain seen.granularity t.0 part.d.0 part.domain
-            params.now seen.pool)) seen)) self.old }
+            (seen_at t.0 (settled_pool t.0 (pool_with_domain seen.granularity t.0 part.d.0
+            part.domain params.now seen.pool)) seen)) self.old }
     {
         let Some(pool) = &mut self.state else {
             unreachable!();

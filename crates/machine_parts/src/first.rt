@@ -37,7 +37,8 @@ fn core_ready(slots: &[PoolSlot], tool: &ToolState, trail: &Trail, r: ResId, t: 
 /// Whether a domain that is on its way may leave its pool.
 fn domain_ready(slots: &[PoolSlot], tool: &ToolState, trail: &Trail, d: DomId) -> bool
     requires parts { AreParts trail.now slots.now tool.now }
-    ensures { (t : ℕ) → result ≡ enabled_at_home trail.now.input (state_of trail.now) t (DomMoved d) }
+    ensures { (t : ℕ) → result ≡ enabled_at_home trail.now.input (state_of trail.now) t
+        (DomMoved d) }
 {
     match tool.home_of_domain(d) {
         None => false,

@@ -67,7 +67,8 @@ fn set_target(core: ResId, i: u8, free: &mut Row<Option<FreeCore>>)
 
 /// The domain is moving from the pool i to the pool j, where that is another one.
 fn migrate(d: DomId, i: u8, j: u8, s: &mut State)
-    ensures { s.new ≡ (if i == j then s.old else change_pool i (one_pool.pool_with_moving d.0 j) s.old) }
+    ensures { s.new ≡ (if i == j then s.old else change_pool i (one_pool.pool_with_moving d.0 j)
+        s.old) }
 {
     if i != j {
         set_moving_at(i as usize, d, j, &mut s.pools);
@@ -106,7 +107,8 @@ fn set_units(d: DomId, home: Option<usize>, first: u8, count: u8, given: RtdsGiv
     requires home { home ≡ home_pool_of_domain s.old d.0 }
     requires few { first + count ≤ 255 }
     ensures { (t : ℕ) → s.new ≡ change_home d.0
-        (pool_with_rtds t d.0 given.period given.budget given.extra (numbers_from first count)) s.old }
+        (pool_with_rtds t d.0 given.period given.budget given.extra (numbers_from first count))
+        s.old }
 {
     if let Some(i) = home {
         set_rtds_at(i, d, first, count, given, &mut s.pools);

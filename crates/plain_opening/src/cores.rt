@@ -82,7 +82,8 @@ pub fn free_cores(
 ) -> Result<Row<Option<FreeCore>>, NoMemory>
     requires few { config.now.granularity ≤ 4 }
     requires count { count ≤ 64 }
-    ensures { IfOk result (λ row. row ≡ map (free_core_at_opening config.now) (numbers_from 0 count)) }
+    ensures { IfOk result (λ row. row ≡ map (free_core_at_opening config.now)
+        (numbers_from 0 count)) }
 {
     let mut places = Vec::new(alloc);
     for r in 0..count {

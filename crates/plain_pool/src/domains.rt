@@ -30,8 +30,8 @@ fn queue_if_off(g: u8, u: UnitId, pool: &mut Pool)
 /// The same of the domain's units, of which there are count, one after another.
 pub fn queue_units(g: u8, d: DomId, count: u8, pool: &mut Pool)
     requires cores { length pool.old.resources ≤ 64 }
-    requires room { length (pool_with_queued_units g d.0 (numbers_from 0 count) pool.old).scheduler.queue
-        ≤ 256 }
+    requires room { length (pool_with_queued_units g d.0 (numbers_from 0 count)
+        pool.old).scheduler.queue ≤ 256 }
     ensures { pool.new ≡ pool_with_queued_units g d.0 (numbers_from 0 count) pool.old }
 {
     for n in 0..count {

@@ -46,8 +46,8 @@ fn idle(
     ensures decided { Tells result (credit2_decision_for ask.now
         (credit2_scheduler queue.now affinity.now records.old) records.old None) }
     ensures records { Credit2Pool records.new
-        ≡ (credit2_decision_for ask.now (credit2_scheduler queue.now affinity.now records.old) records.old
-        None).records }
+        ≡ (credit2_decision_for ask.now (credit2_scheduler queue.now affinity.now records.old)
+        records.old None).records }
 {
     switch_off(ask.cur, records);
     Decided {
@@ -72,8 +72,8 @@ fn run_unit(
     ensures decided { Tells result (credit2_decision_for ask.now
         (credit2_scheduler queue.now affinity.now records.old) records.old (Some u)) }
     ensures records { Credit2Pool records.new
-        ≡ (credit2_decision_for ask.now (credit2_scheduler queue.now affinity.now records.old) records.old
-        (Some u)).records }
+        ≡ (credit2_decision_for ask.now (credit2_scheduler queue.now affinity.now records.old)
+        records.old (Some u)).records }
 {
     let resets = resets_for(ask.at, u, records);
     reset(ask.at, resets, records);

@@ -121,8 +121,8 @@ fn best_other(
     u: UnitId,
 ) -> i64
     requires { ask.now.core.0 < 64 }
-    ensures { result ≡ best_other_credit ask.now (credit2_scheduler queue.now affinity.now records.now)
-        records.now u }
+    ensures { result ≡ best_other_credit ask.now
+        (credit2_scheduler queue.now affinity.now records.now) records.now u }
 {
     match greatest(records, None, queue, affinity, ask, Some(u)) {
         None => 0,
@@ -141,8 +141,8 @@ pub fn slice_of(
     requires core { ask.now.core.0 < 64 }
     requires params { PoolParamsFit records.now }
     requires limit { records.now.limit ≤ 500000 }
-    ensures exact { result ≡ chosen_slice ask.now (credit2_scheduler queue.now affinity.now records.now)
-        records.now u }
+    ensures exact { result ≡ chosen_slice ask.now
+        (credit2_scheduler queue.now affinity.now records.now) records.now u }
     ensures few { result ≤ 500000000 }
 {
     let other = best_other(ask, queue, affinity, records, u);

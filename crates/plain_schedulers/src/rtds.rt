@@ -82,7 +82,8 @@ fn run(chosen: Option<UnitId>, ask: &Ask, domains: &mut Row<Option<RtdsUnits>>) 
     requires early { ask.now.at.0 ≤ most_span }
     requires left { (u : UnitName) → unit_left_budget domains.old u ≤ 1000000000000 }
     ensures decided { Tells result (rtds_decision_for ask.now domains.old chosen) }
-    ensures records { RtdsPool domains.new ≡ (rtds_decision_for ask.now domains.old chosen).records }
+    ensures records { RtdsPool domains.new ≡ (rtds_decision_for ask.now domains.old
+        chosen).records }
 {
     let due = match chosen {
         None => None,

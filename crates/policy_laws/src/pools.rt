@@ -27,11 +27,13 @@ pub fn law_pool_kept()
         ≡ true → Holds g t pool → Holds g t (after_in g t pool action) }
     ensures stalls { (g t p end : ℕ) → (pool : Pool) → Holds g t pool →
         Holds g t (change_processor g p (λ q. record q { stall_end = moment end }) pool) }
-    ensures leaves { (g t r : ℕ) → (pool : Pool) → Holds g t pool → Holds g t (pool_with_leaving r pool) }
+    ensures leaves { (g t r : ℕ) → (pool : Pool) → Holds g t pool
+        → Holds g t (pool_with_leaving r pool) }
     ensures moves { (g t d i : ℕ) → (pool : Pool) → Holds g t pool →
         Holds g t (pool_with_moving d i pool) }
     ensures pauses { (g t d : ℕ) → (pool : Pool) → Holds g t pool → Holds g t (paused_pool d pool) }
-    ensures unpauses { (g t d : ℕ) → (pool : Pool) → Holds g t pool → Holds g t (unpaused_pool g d pool) }
+    ensures unpauses { (g t d : ℕ) → (pool : Pool) → Holds g t pool
+        → Holds g t (unpaused_pool g d pool) }
     ensures changes { (g t : ℕ) → (change : ParamChange) → (pool : Pool) → Holds g t pool →
         Holds g t (changed_pool change t pool) }
     ensures core_comes { (g t r : ℕ) → (ends : List Moment) → (pool : Pool) →

@@ -26,8 +26,8 @@ pub fn law_running()
     // What leaves each unit on or off.
     ensures replenishes { (records : Records) → (t : ℕ) → (u w : UnitId) →
         is_on (records_after_replenish records t u) w ≡ is_on records w }
-    ensures refills { (records : Records) → (t d : ℕ) → (w : UnitId) → is_on (records_after_refill records t d) w
-        ≡ is_on records w }
+    ensures refills { (records : Records) → (t d : ℕ) → (w : UnitId)
+        → is_on (records_after_refill records t d) w ≡ is_on records w }
     ensures changes { (records : Records) → (change : ParamChange) → (t : ℕ) → (w : UnitId) →
         is_on (changed_records records change t) w ≡ is_on records w }
     // A domain that joins: the units of the others, and its own.
@@ -50,8 +50,8 @@ pub fn law_running()
         keeps_records (decision_of ask scheduler).records ≡ keeps_records scheduler.records }
     ensures replenishes_kind { (records : Records) → (t : ℕ) → (u : UnitId) →
         keeps_records (records_after_replenish records t u) ≡ keeps_records records }
-    ensures refills_kind { (records : Records) → (t d : ℕ) → keeps_records (records_after_refill records t d)
-        ≡ keeps_records records }
+    ensures refills_kind { (records : Records) → (t d : ℕ)
+        → keeps_records (records_after_refill records t d) ≡ keeps_records records }
     ensures changes_kind { (records : Records) → (change : ParamChange) → (t : ℕ) →
         keeps_records (changed_records records change t) ≡ keeps_records records }
     ensures joins_kind { (records : Records) → (params : DomParams) → (d count t : ℕ) →

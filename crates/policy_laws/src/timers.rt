@@ -16,14 +16,16 @@ pub fn law_timers()
     ensures none { (t : ℕ) → (scheduler : Scheduler) → next_scheduler_timer t scheduler ≡ None →
         (timer : Timer) → armed_at scheduler timer ≡ None }
     // It is armed at its moment.
-    ensures armed { (t : ℕ) → (scheduler : Scheduler) → (x : Armed) → next_scheduler_timer t scheduler
-        ≡ Some x → armed_at scheduler x.1 ≡ Some x.0 }
+    ensures armed { (t : ℕ) → (scheduler : Scheduler) → (x : Armed)
+        → next_scheduler_timer t scheduler ≡ Some x → armed_at scheduler x.1 ≡ Some x.0 }
     // Where the moment of some timer has come: the timer's has come too, and it is the first of those.
-    ensures first { (t : ℕ) → (scheduler : Scheduler) → (x : Armed) → next_scheduler_timer t scheduler
+    ensures first { (t : ℕ) → (scheduler : Scheduler) → (x : Armed)
+        → next_scheduler_timer t scheduler
         ≡ Some x → (other : Timer) → (at : Moment) → armed_at scheduler other ≡ Some at → at.0 ≤ t →
         (x.0.0 ≤ t) × IsNotAfter x.1 other }
     // Where its moment has not come, no timer has an earlier one.
-    ensures least { (t : ℕ) → (scheduler : Scheduler) → (x : Armed) → next_scheduler_timer t scheduler
+    ensures least { (t : ℕ) → (scheduler : Scheduler) → (x : Armed)
+        → next_scheduler_timer t scheduler
         ≡ Some x → (other : Timer) → (at : Moment) → armed_at scheduler other ≡ Some at →
         (x.0.0 ≤ t) ⊎ (x.0.0 ≤ at.0) }
     // The test of a single timer.

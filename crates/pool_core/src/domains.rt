@@ -113,8 +113,8 @@ fn dequeue<P: Policy>(guests: &Guests, cores: &CoreState, policy: &mut P, u: Uni
     requires waits { has_listed_unit (P.seen policy.old).scheduler.queue u
         ≡ (runnable_among guests.now.granularity guests.now.domains u
         && not (is_held_among cores.now.resources u)) }
-    ensures { P.seen policy.new ≡ with_scheduler (scheduler_without_unit u (P.seen policy.old).scheduler)
-        (P.seen policy.old) }
+    ensures { P.seen policy.new ≡ with_scheduler
+        (scheduler_without_unit u (P.seen policy.old).scheduler) (P.seen policy.old) }
 {
     if is_waiting(guests, cores, u) {
         policy.dequeue(u);

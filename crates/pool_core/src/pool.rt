@@ -209,8 +209,8 @@ impl<P: Policy> PoolState<P> {
     /// The parameters of the scheduler, or of a domain or a unit of it, change. The cores that this concerns are to decide anew.
     pub fn set_params(&mut self, change: &ParamChange, t: Moment)
         requires now { IsNow self.old t.0 }
-        requires change { IsChange (records_kind self.old.pool.scheduler.records) self.old.pool.scheduler
-            change.now }
+        requires change { IsChange (records_kind self.old.pool.scheduler.records)
+            self.old.pool.scheduler change.now }
         ensures { self.new ≡ seen_at t.0
             (settled_pool t.0 (changed_pool change.now t.0 self.old.pool)) self.old }
     {
@@ -271,8 +271,8 @@ impl<P: Policy> PoolState<P> {
         requires granularity { part.granularity ≡ self.old.granularity }
         requires room { domain_unit_count part.granularity part.domain ≤ self.old.spare }
         requires params { AreDomParams (records_kind self.old.pool.scheduler.records) params.now }
-        ensures { self.new ≡ with_spare (self.old.spare - domain_unit_count part.granularity part.domain)
-            (seen_at t.0 (settled_pool t.0
+        ensures { self.new ≡ with_spare (self.old.spare - domain_unit_count part.granularity
+            part.domain) (seen_at t.0 (settled_pool t.0
             (pool_with_domain self.old.granularity t.0 part.d.0 part.domain
             params.now self.old.pool)) self.old) }
     {
@@ -315,8 +315,8 @@ impl<P: Policy> PoolState<P> {
 
     /// A processor is stalled up to this moment, if it is not yet for longer: the end of its stall.
     pub fn stall(&mut self, p: ProcId, until: Moment) -> Moment
-        ensures end { result ≡ extended_stall_end (pool_processor self.old.granularity self.old.pool p.0)
-            until }
+        ensures end { result ≡ extended_stall_end
+            (pool_processor self.old.granularity self.old.pool p.0) until }
         ensures after { self.new ≡ record self.old
             { pool = with_stall self.old.granularity p.0 result self.old.pool } }
     {
@@ -463,8 +463,8 @@ impl<P: Policy> PoolState<P> {
     /// A domain is moving to a pool: its units stop waiting, and the cores that run one are to decide anew.
     pub fn set_moving(&mut self, d: DomId, to: PoolId, t: Moment)
         requires now { IsNow self.old t.0 }
-        ensures { self.new ≡ seen_at t.0 (settled_pool t.0 (pool_with_moving d.0 to.0 self.old.pool))
-            self.old }
+        ensures { self.new ≡ seen_at t.0 (settled_pool t.0
+            (pool_with_moving d.0 to.0 self.old.pool)) self.old }
     {
         set_moving(&mut self.guests, &mut self.cores, &mut self.policy, d, to);
         self.latest = t;

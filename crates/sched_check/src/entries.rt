@@ -50,7 +50,8 @@ pub fn end_of(e: Event) -> Option<u64>
 
 /// The entry of an action that may come now, which is done.
 fn perform(plain: &mut Plain, action: Action) -> Entry
-    requires { is_action_enabled plain.old.machine plain.old.state plain.old.state.now action ≡ true }
+    requires { is_action_enabled plain.old.machine plain.old.state plain.old.state.now action
+        ≡ true }
     ensures entry { result ≡ action_entry plain.old.machine plain.old.state action }
     ensures state { plain.new ≡ record plain.old
         { state = after plain.old.machine plain.old.state plain.old.state.now action } }
@@ -124,7 +125,8 @@ fn judge_first(plain: &mut Plain, action: Action) -> Result<(), NotStep>
 /// Judges whether it is the turn of the action, which may come.
 fn judge_turn(plain: &mut Plain, ordered: bool, action: Action) -> Result<(), NotStep>
     ensures verdict { result ≡ turn_refusal ordered plain.old.machine plain.old.state action }
-    ensures first { IsOk result ↔ (ordered ≡ true → first_enabled_action plain.old.machine plain.old.state
+    ensures first { IsOk result ↔ (ordered ≡ true
+        → first_enabled_action plain.old.machine plain.old.state
         plain.old.state.now ≡ Some action) }
     ensures unchanged { OnOk result (plain.new ≡ plain.old) }
 {
@@ -137,7 +139,8 @@ fn judge_turn(plain: &mut Plain, ordered: bool, action: Action) -> Result<(), No
 
 /// Judges the event of an action, which may come and has its number.
 fn judge_due(plain: &mut Plain, ordered: bool, e: Event, action: Action) -> Result<(), NotStep>
-    requires { is_action_enabled plain.old.machine plain.old.state plain.old.state.now action ≡ true }
+    requires { is_action_enabled plain.old.machine plain.old.state plain.old.state.now action
+        ≡ true }
     ensures verdict { result ≡ due_verdict ordered plain.old.machine plain.old.state e action }
     ensures taken { IsOk result ↔ HasTurn ordered plain.old.machine plain.old.state e action }
     ensures ok { OnOk result (plain.new ≡ record plain.old

@@ -19,7 +19,8 @@ pub fn units_that_wait_or_are_on()
 
 /// Of the timers whose moments have come, the first is the one of the first unit, though the moments of others are earlier.
 pub fn first_by_domain_and_unit()
-    ensures first { first_due_timer 30000000 (timers four_units) ≡ Some (replenishment 30000000 0 0) }
+    ensures first { first_due_timer 30000000 (timers four_units)
+        ≡ Some (replenishment 30000000 0 0) }
     ensures answer { next_scheduler_timer 30000000 four_units ≡ Some (replenishment 30000000 0 0) }
     ensures without_it { first_due_timer 29999999 (timers four_units)
         ≡ Some (replenishment 20000000 2 0) }

@@ -34,8 +34,8 @@ pub fn law_one_place()
 pub fn law_still_waits()
     ensures { (m : Machine) → IsChecked m →
         (before : List Entry) (arrive : Entry) (later : List Entry) (p : ℕ) →
-        IsRun m (before ++ arrive ∷ later) → event_action arrive.event ≡ Some (Arrive (processor p)) →
-        All (IsNoDecideOf (p / m.config.granularity)) later →
+        IsRun m (before ++ arrive ∷ later) → event_action arrive.event
+        ≡ Some (Arrive (processor p)) → All (IsNoDecideOf (p / m.config.granularity)) later →
         StillWaits m p (state_after m (before ++ arrive ∷ later)) }
 {}
 

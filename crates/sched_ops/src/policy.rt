@@ -46,8 +46,8 @@ pub trait Policy: Drop {
         requires units { units ≤ 256 }
         requires vacant { is_vacant (seen self.old).scheduler ≡ true }
         ensures scheduler { OnOk result ((seen self.new).scheduler
-            ≡ vacant_scheduler (standard_pool_params (records_kind (seen self.old).scheduler.records))
-            places.domains places.cores) }
+            ≡ vacant_scheduler (standard_pool_params
+            (records_kind (seen self.old).scheduler.records)) places.domains places.cores) }
         ensures room { OnOk result (units ≤ (seen self.new).spare) }
         ensures latest { OnOk result ((seen self.new).latest ≡ (seen self.old).latest) }
         ensures as_before { OnErr result (seen self.new ≡ seen self.old) };
@@ -55,7 +55,8 @@ pub trait Policy: Drop {
     /// Begins anew with these parameters and fresh records: no reset yet, and a frame, where there is one, installed at 0.
     fn restart(&mut self, params: &PoolParams)
         requires vacant { is_vacant (seen self.old).scheduler ≡ true }
-        requires params { ArePoolParams (records_kind (seen self.old).scheduler.records) params.now }
+        requires params { ArePoolParams (records_kind (seen self.old).scheduler.records)
+            params.now }
         ensures { seen self.new
             ≡ with_scheduler (restarted_scheduler params.now (seen self.old).scheduler)
             (seen self.old) };
@@ -78,7 +79,8 @@ pub trait Policy: Drop {
     fn part(&mut self, d: DomId)
         requires joined { has_joined_domain (seen self.old).scheduler d.0 ≡ true }
         requires idle { HasNoneBusy (seen self.old).scheduler d.0 }
-        ensures scheduler { (seen self.new).scheduler ≡ parted_scheduler d.0 (seen self.old).scheduler }
+        ensures scheduler { (seen self.new).scheduler
+            ≡ parted_scheduler d.0 (seen self.old).scheduler }
         ensures spare { (seen self.new).spare
             ≡ (seen self.old).spare + units_of (seen self.old).scheduler d.0 }
         ensures latest { (seen self.new).latest ≡ (seen self.old).latest };

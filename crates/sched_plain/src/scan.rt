@@ -254,7 +254,8 @@ fn first_up_to_repl(m: &Machine, s: &State, t: Moment) -> Option<Action>
 fn first_up_to_refill(m: &Machine, s: &State, t: Moment) -> Option<Action>
     requires machine { MachineFits m.now }
     requires state { StateFits s.now }
-    ensures { result ≡ find (is_action_enabled m.now s.entry.now t.0) (refill_actions m.now.config) }
+    ensures { result ≡ find (is_action_enabled m.now s.entry.now t.0)
+        (refill_actions m.now.config) }
 {
     match first_up_to_repl(m, s, t) {
         Some(action) => Some(action),
@@ -267,7 +268,8 @@ fn first_up_to_refill(m: &Machine, s: &State, t: Moment) -> Option<Action>
 fn first_up_to_arrive(m: &Machine, s: &State, t: Moment) -> Option<Action>
     requires machine { MachineFits m.now }
     requires state { StateFits s.now }
-    ensures { result ≡ find (is_action_enabled m.now s.entry.now t.0) (arrive_actions m.now.config) }
+    ensures { result ≡ find (is_action_enabled m.now s.entry.now t.0)
+        (arrive_actions m.now.config) }
 {
     match first_up_to_refill(m, s, t) {
         Some(action) => Some(action),
@@ -280,7 +282,8 @@ fn first_up_to_arrive(m: &Machine, s: &State, t: Moment) -> Option<Action>
 fn first_up_to_decide(m: &Machine, s: &State, t: Moment) -> Option<Action>
     requires machine { MachineFits m.now }
     requires state { StateFits s.now }
-    ensures { result ≡ find (is_action_enabled m.now s.entry.now t.0) (decide_actions m.now.config) }
+    ensures { result ≡ find (is_action_enabled m.now s.entry.now t.0)
+        (decide_actions m.now.config) }
 {
     match first_up_to_arrive(m, s, t) {
         Some(action) => Some(action),

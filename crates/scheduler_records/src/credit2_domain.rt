@@ -161,8 +161,8 @@ fn refilled_budget(n: u64, d: &Credit2Domain) -> i64
     requires few { n ≤ 1000001 }
     requires cap { d.now.cap ≤ 6400 }
     requires held { running_budget d.now < 2 ^ 63 }
-    ensures { result ≡ budget_after_refill d.now.budget (running_budget d.now) (cap_budget d.now.cap)
-        n }
+    ensures { result ≡ budget_after_refill d.now.budget (running_budget d.now)
+        (cap_budget d.now.cap) n }
 {
     let held = held_by_running(d.units.as_slice()) as i64;
     refill(d.budget, held, total(d.cap), n)

@@ -32,14 +32,16 @@ pub fn act_of_tool(
     requires parts { AreParts trail.now slots.old tool.old }
     requires granularity { granularity ≡ trail.now.input.config.granularity }
     requires now { t.0 ≡ (state_of trail.now).now }
-    requires enabled { is_action_enabled trail.now.input (state_of trail.now) (state_of trail.now).now action
-        ≡ true }
+    requires enabled { is_action_enabled trail.now.input (state_of trail.now)
+        (state_of trail.now).now action ≡ true }
     requires first { action ≡ actions.Xl →
-        is_action_enabled trail.now.input (state_of trail.now) (state_of trail.now).now actions.Stall ≡ false }
+        is_action_enabled trail.now.input (state_of trail.now) (state_of trail.now).now
+        actions.Stall ≡ false }
     requires spares { AreSpares trail.now.input t.0 tool.old.part spares.old }
     requires no_pool { event_pool trail.now.input.config.granularity (state_of trail.now) action
         ≡ None }
-    ensures event { result ≡ event_of trail.now.input (state_of trail.now) (state_of trail.now).now action }
+    ensures event { result ≡ event_of trail.now.input (state_of trail.now) (state_of trail.now).now
+        action }
     ensures parts { AreParts (told_event trail.now t.0 result) slots.new tool.new }
     ensures spares { AreSpares trail.now.input t.0 tool.new.part spares.new }
 {

@@ -32,7 +32,8 @@ fn remove(slot: &mut PoolSlot, r: ResId, t: Moment)
 fn migrate(slot: &mut PoolSlot, d: DomId, from: PoolId, to: PoolId, t: Moment)
     requires now { ForSome slot.old (λ seen. IsNow seen t.0) }
     ensures { slot.new ≡ changed_slot t.0
-        (λ seen. (if from.0 == to.0 then seen.pool else pool_with_moving d.0 to.0 seen.pool)) slot.old }
+        (λ seen. (if from.0 == to.0 then seen.pool else pool_with_moving d.0 to.0 seen.pool))
+        slot.old }
 {
     if from.0 == to.0 {
         slot.settle(t);
@@ -63,8 +64,8 @@ fn set_units(slot: &mut PoolSlot, d: DomId, first: u8, count: u8, given: RtdsGiv
     requires takes { ForSome slot.old (λ seen.
         TakesUnits seen d.0 first count (AreGiven given.period given.budget)) }
     ensures { slot.new ≡ changed_slot t.0
-        (λ seen. pool_with_rtds t.0 d.0 given.period given.budget given.extra (numbers_from first count)
-        seen.pool) slot.old }
+        (λ seen. pool_with_rtds t.0 d.0 given.period given.budget given.extra
+        (numbers_from first count) seen.pool) slot.old }
 {
     slot.set_units(d, first, count, given, t);
 }

@@ -83,7 +83,8 @@ fn accept_new(
     kind: SchedKind,
 )
     requires parts { AreParts trail.now slots.old tool.old }
-    requires enabled { is_action_enabled trail.now.input (state_of trail.now) (state_of trail.now).now Xl ≡ true }
+    requires enabled { is_action_enabled trail.now.input (state_of trail.now)
+        (state_of trail.now).now Xl ≡ true }
     requires accepted { IsAccepted trail.now plan.now }
     requires makes { MakesPool plan.now i kind }
     requires spares { AreSpares trail.now.input (state_of trail.now).now tool.old.part spares.old }
@@ -104,7 +105,8 @@ fn accept_end(
     i: PoolId,
 )
     requires parts { AreParts trail.now slots.old tool.old }
-    requires enabled { is_action_enabled trail.now.input (state_of trail.now) (state_of trail.now).now Xl ≡ true }
+    requires enabled { is_action_enabled trail.now.input (state_of trail.now)
+        (state_of trail.now).now Xl ≡ true }
     requires accepted { IsAccepted trail.now plan.now }
     requires destroys { DestroysPool plan.now i }
     requires spares { AreSpares trail.now.input (state_of trail.now).now tool.old.part spares.old }
@@ -120,7 +122,8 @@ fn accept_end(
 fn accept_change(slots: &mut [PoolSlot], tool: &mut ToolState, trail: &Trail, plan: Plan, t: Moment)
     requires parts { AreParts trail.now slots.old tool.old }
     requires now { t.0 ≡ (state_of trail.now).now }
-    requires enabled { is_action_enabled trail.now.input (state_of trail.now) (state_of trail.now).now Xl ≡ true }
+    requires enabled { is_action_enabled trail.now.input (state_of trail.now)
+        (state_of trail.now).now Xl ≡ true }
     requires accepted { IsAccepted trail.now plan }
     requires keeps { KeepsPools plan }
     ensures parts { AreParts (xl_told trail.now) slots.new tool.new }
@@ -143,7 +146,8 @@ fn accept(
 )
     requires parts { AreParts trail.now slots.old tool.old }
     requires now { t.0 ≡ (state_of trail.now).now }
-    requires enabled { is_action_enabled trail.now.input (state_of trail.now) (state_of trail.now).now Xl ≡ true }
+    requires enabled { is_action_enabled trail.now.input (state_of trail.now)
+        (state_of trail.now).now Xl ≡ true }
     requires accepted { IsAccepted trail.now plan }
     requires spares { AreSpares trail.now.input (state_of trail.now).now tool.old.part spares.old }
     ensures parts { AreParts (xl_told trail.now) slots.new tool.new }
@@ -170,10 +174,12 @@ pub fn command_at(
 ) -> Event
     requires parts { AreParts trail.now slots.old tool.old }
     requires now { t.0 ≡ (state_of trail.now).now }
-    requires enabled { is_action_enabled trail.now.input (state_of trail.now) (state_of trail.now).now Xl ≡ true }
+    requires enabled { is_action_enabled trail.now.input (state_of trail.now)
+        (state_of trail.now).now Xl ≡ true }
     requires number { k ≡ (state_of trail.now).next_command }
     requires spares { AreSpares trail.now.input t.0 tool.old.part spares.old }
-    ensures event { result ≡ event_of trail.now.input (state_of trail.now) (state_of trail.now).now Xl }
+    ensures event { result ≡ event_of trail.now.input (state_of trail.now) (state_of trail.now).now
+        Xl }
     ensures parts { AreParts (told_event trail.now t.0 result) slots.new tool.new }
     ensures spares { AreSpares trail.now.input t.0 tool.new.part spares.new }
 {
@@ -206,10 +212,13 @@ pub fn command(
 ) -> Event
     requires parts { AreParts trail.now slots.old tool.old }
     requires now { t.0 ≡ (state_of trail.now).now }
-    requires enabled { is_action_enabled trail.now.input (state_of trail.now) (state_of trail.now).now Xl ≡ true }
-    requires first { is_action_enabled trail.now.input (state_of trail.now) (state_of trail.now).now Stall ≡ false }
+    requires enabled { is_action_enabled trail.now.input (state_of trail.now)
+        (state_of trail.now).now Xl ≡ true }
+    requires first { is_action_enabled trail.now.input (state_of trail.now) (state_of trail.now).now
+        Stall ≡ false }
     requires spares { AreSpares trail.now.input t.0 tool.old.part spares.old }
-    ensures event { result ≡ event_of trail.now.input (state_of trail.now) (state_of trail.now).now Xl }
+    ensures event { result ≡ event_of trail.now.input (state_of trail.now) (state_of trail.now).now
+        Xl }
     ensures parts { AreParts (told_event trail.now t.0 result) slots.new tool.new }
     ensures spares { AreSpares trail.now.input t.0 tool.new.part spares.new }
 {

@@ -75,8 +75,8 @@ pub fn move_core(
 ) -> Event
     requires parts { AreParts trail.now slots.old tool.old }
     requires now { t.0 ≡ (state_of trail.now).now }
-    requires enabled { is_action_enabled trail.now.input (state_of trail.now) (state_of trail.now).now (Moved r)
-        ≡ true }
+    requires enabled { is_action_enabled trail.now.input (state_of trail.now)
+        (state_of trail.now).now (Moved r) ≡ true }
     ensures event { result ≡ event_of trail.now.input (state_of trail.now) (state_of trail.now).now
         (Moved r) }
     ensures parts { AreParts (told_event trail.now t.0 result) slots.new tool.new }
@@ -107,8 +107,8 @@ fn leave_home(
 ) -> Event
     requires parts { AreParts trail.now slots.old tool.old }
     requires now { t.0 ≡ (state_of trail.now).now }
-    requires enabled { is_action_enabled trail.now.input (state_of trail.now) (state_of trail.now).now (Moved r)
-        ≡ true }
+    requires enabled { is_action_enabled trail.now.input (state_of trail.now)
+        (state_of trail.now).now (Moved r) ≡ true }
     requires way { tool.old.part.under_way ≡ Some (core_to r.0 None) }
     ensures event { result ≡ event_of trail.now.input (state_of trail.now) (state_of trail.now).now
         (Moved r) }

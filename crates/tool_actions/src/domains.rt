@@ -122,7 +122,8 @@ fn end_move(tool: &mut ToolState, trail: &Trail, route: DomainRoute, t: Moment) 
     requires known { tool_of trail.now.input (state_of trail.now) ≡ tool.old }
     ensures event { result ≡ event_of trail.now.input (state_of trail.now) (state_of trail.now).now
         (DomMoved route.d) }
-    ensures acted { HasActed trail.now route.from.0 route.to.0 (told_moved trail.now t.0 route) tool.new }
+    ensures acted { HasActed trail.now route.from.0 route.to.0 (told_moved trail.now t.0 route)
+        tool.new }
     ensures counts { KeepsCounts tool.old.part tool.new.part }
 {
     tool.move_done();
@@ -143,8 +144,8 @@ pub fn move_domain(
 ) -> Event
     requires parts { AreParts trail.now slots.old tool.old }
     requires now { t.0 ≡ (state_of trail.now).now }
-    requires enabled { is_action_enabled trail.now.input (state_of trail.now) (state_of trail.now).now (DomMoved d)
-        ≡ true }
+    requires enabled { is_action_enabled trail.now.input (state_of trail.now)
+        (state_of trail.now).now (DomMoved d) ≡ true }
     ensures event { result ≡ event_of trail.now.input (state_of trail.now) (state_of trail.now).now
         (DomMoved d) }
     ensures parts { AreParts (told_event trail.now t.0 result) slots.new tool.new }

@@ -24,7 +24,13 @@ pub(crate) fn create(slot: &mut PoolSlot, spares: &mut Spares, trail: &Trail, ki
 }
 
 /// The pool of the place i, which has this scheduler and neither a domain nor a core, becomes a spare one.
-pub(crate) fn destroy(slot: &mut PoolSlot, spares: &mut Spares, trail: &Trail, i: u8, kind: SchedKind)
+pub(crate) fn destroy(
+    slot: &mut PoolSlot,
+    spares: &mut Spares,
+    trail: &Trail,
+    i: u8,
+    kind: SchedKind,
+)
     requires goes { GoesOn trail.now }
     requires stands { StandsAt trail.now i slot.old }
     requires some { IsSome slot.old }

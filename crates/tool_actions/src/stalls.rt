@@ -21,7 +21,8 @@ use sched_model::work::StallLine;
 fn stall_in(slot: &mut PoolSlot, trail: &Trail, i: u8, line: StallLine, t: Moment) -> Event
     requires next { IsNextStall trail.now t.0 line (Some i) }
     requires stands { StandsAt trail.now i slot.old }
-    ensures event { result ≡ event_of trail.now.input (state_of trail.now) (state_of trail.now).now Stall }
+    ensures event { result ≡ event_of trail.now.input (state_of trail.now) (state_of trail.now).now
+        Stall }
     ensures stands { StandsAt (told_event trail.now t.0 result) i slot.new }
     ensures acted { HasActedOn trail.now i (told_event trail.now t.0 result)
         (one_stall_more (tool_of trail.now.input (state_of trail.now))) }
@@ -34,7 +35,8 @@ fn stall_in(slot: &mut PoolSlot, trail: &Trail, i: u8, line: StallLine, t: Momen
 fn stall_in_none(tool: &mut ToolState, trail: &Trail, line: StallLine, t: Moment) -> Event
     requires next { IsNextStall trail.now t.0 line None }
     requires counted { tool.old ≡ one_stall_more (tool_of trail.now.input (state_of trail.now)) }
-    ensures event { result ≡ event_of trail.now.input (state_of trail.now) (state_of trail.now).now Stall }
+    ensures event { result ≡ event_of trail.now.input (state_of trail.now) (state_of trail.now).now
+        Stall }
     ensures acted { HasActedAlone trail.now (told_event trail.now t.0 result) tool.new }
     ensures counts { KeepsCounts tool.old.part tool.new.part }
 {
@@ -48,9 +50,10 @@ pub fn stall(slots: &mut [PoolSlot], tool: &mut ToolState, trail: &Trail, g: u8,
     requires parts { AreParts trail.now slots.old tool.old }
     requires granularity { g ≡ trail.now.input.config.granularity }
     requires now { t.0 ≡ (state_of trail.now).now }
-    requires enabled { is_action_enabled trail.now.input (state_of trail.now) (state_of trail.now).now Stall
-        ≡ true }
-    ensures event { result ≡ event_of trail.now.input (state_of trail.now) (state_of trail.now).now Stall }
+    requires enabled { is_action_enabled trail.now.input (state_of trail.now)
+        (state_of trail.now).now Stall ≡ true }
+    ensures event { result ≡ event_of trail.now.input (state_of trail.now) (state_of trail.now).now
+        Stall }
     ensures parts { AreParts (told_event trail.now t.0 result) slots.new tool.new }
     ensures counts { KeepsCounts tool.old.part tool.new.part }
 {

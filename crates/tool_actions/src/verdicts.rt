@@ -33,8 +33,8 @@ fn facts_of(slots: &[PoolSlot], trail: &Trail, subject: Subject) -> Facts
     requires goes { GoesOn trail.now }
     requires stand { AllStand trail.now slots.now }
     ensures rate { result.rate ≡ subject_rate (state_of trail.now) subject }
-    ensures units { result.units ≡ subject_stored trail.now.input.config.granularity (state_of trail.now)
-        subject }
+    ensures units { result.units ≡ subject_stored trail.now.input.config.granularity
+        (state_of trail.now) subject }
 {
     let Some(pool) = subject.pool else {
         return no_facts();
