@@ -72,14 +72,14 @@ fn number_anew(numbers: &[u64], fresh: &mut [u64])
 }
 
 /// Whether a key and an arrival go before those of a node.
-fn comes_before_node(tables: &Tables, key: Key, arrival: u64, n: Node) -> bool
-    requires keys { n.0 < length tables.now.keys.items }
-    requires arrivals { n.0 < length tables.now.arrivals.items }
+fn comes_before_node(tables: &Tables, key: Key, arrival: u64, node: Node) -> bool
+    requires keys { node.0 < length tables.now.keys.items }
+    requires arrivals { node.0 < length tables.now.arrivals.items }
     ensures { result ≡ comes_before tables.now.keys.items tables.now.arrivals.items key arrival
-        (item n.0 no_unit) }
+        (item node.0 no_unit) }
 {
-    let other = tables.keys[n.0 as usize];
-    is_less(key, other) || (!is_less(other, key) && arrival < tables.arrivals[n.0 as usize])
+    let other = tables.keys[node.0 as usize];
+    is_less(key, other) || (!is_less(other, key) && arrival < tables.arrivals[node.0 as usize])
 }
 
 /// The same of a list on the heap.
@@ -117,22 +117,22 @@ pub fn place_of<L: Ledger>(
 }
 
 /// Writes what the tables say of a node that has come into the ring.
-fn enter(tables: &mut Tables, n: Node, u: UnitId, key: Key, arrival: u64)
-    requires keys { n.0 < length tables.old.keys.items }
-    requires arrivals { n.0 < length tables.old.arrivals.items }
+fn enter(tables: &mut Tables, node: Node, u: UnitId, key: Key, arrival: u64)
+    requires keys { node.0 < length tables.old.keys.items }
+    requires arrivals { node.0 < length tables.old.arrivals.items }
     requires places { length tables.old.nodes.items ≡ 2048 }
     requires place { has_unit_place u ≡ true }
     ensures ring { tables.new.ring ≡ tables.old.ring }
     ensures nodes { tables.new.nodes.items ≡ slice_set tables.old.nodes.items (unit_index u)
-        (Some n) }
-    ensures keys { tables.new.keys.items ≡ slice_set tables.old.keys.items n.0 key }
-    ensures arrivals { tables.new.arrivals.items ≡ slice_set tables.old.arrivals.items n.0 arrival }
+        (Some node) }
+    ensures keys { tables.new.keys.items ≡ slice_set tables.old.keys.items node.0 key }
+    ensures arrivals { tables.new.arrivals.items ≡ slice_set tables.old.arrivals.items node.0 arrival }
     ensures fresh { tables.new.fresh.items ≡ tables.old.fresh.items }
     ensures next { tables.new.next ≡ tables.old.next }
 {
-    tables.keys[n.0 as usize] = key;
-    tables.arrivals[n.0 as usize] = arrival;
-    tables.nodes[index_of(u)] = Some(n);
+    tables.keys[node.0 as usize] = key;
+    tables.arrivals[node.0 as usize] = arrival;
+    tables.nodes[index_of(u)] = Some(node);
 }
 
 /// Puts a unit before a node of list 0, or at its end.
@@ -225,26 +225,26 @@ pub fn find(tables: &Tables, u: UnitId) -> Option<Node>
 }
 
 /// The number of the arrival of a node's unit.
-pub fn arrival_of(tables: &Tables, n: Node) -> u64
-    requires { n.0 < length tables.now.arrivals.items }
-    ensures { result ≡ arrival_at tables.now.arrivals.items n.0 }
+pub fn arrival_of(tables: &Tables, node: Node) -> u64
+    requires { node.0 < length tables.now.arrivals.items }
+    ensures { result ≡ arrival_at tables.now.arrivals.items node.0 }
 {
-    tables.arrivals[n.0 as usize]
+    tables.arrivals[node.0 as usize]
 }
 
 /// Takes a unit of either list away. What the tables say of its number of arrival stays readable.
-pub fn take<L: Ledger>(tables: &mut Tables, n: Node, u: UnitId, steps: &mut Steps<L>)
+pub fn take<L: Ledger>(tables: &mut Tables, node: Node, u: UnitId, steps: &mut Steps<L>)
     requires tables { IsTables tables.old }
-    requires here { node_of (number_of u) (all_items tables.old.ring) ≡ Some n }
+    requires here { node_of (number_of u) (all_items tables.old.ring) ≡ Some node }
     ensures tables { IsTables tables.new }
     ensures gone { has_number (number_of u) (all_items tables.new.ring) ≡ false }
-    ensures ring { tables.new.ring ≡ after_give (ring_without tables.old.ring n.0) }
+    ensures ring { tables.new.ring ≡ after_give (ring_without tables.old.ring node.0) }
     ensures keys { tables.new.keys.items ≡ tables.old.keys.items }
     ensures arrivals { tables.new.arrivals.items ≡ tables.old.arrivals.items }
     ensures next { tables.new.next ≡ tables.old.next }
     ensures cost { steps.new ≡ steps.old + 1 }
 {
-    tables.ring.unlink(n, steps);
+    tables.ring.unlink(node, steps);
     tables.nodes[index_of(u)] = None;
 }
 

@@ -23,11 +23,15 @@ fn flag_in(found: &ArgMatches<'_>, id: &str) -> bool
 }
 
 /// The number, where it is one from `low` to `high`.
-fn within(low: u32, high: u32, n: u32) -> Option<u32>
-    ensures value { result ≡ ranged_number low high n }
+fn within(low: u32, high: u32, number: u32) -> Option<u32>
+    ensures value { result ≡ ranged_number low high number }
     ensures range { IfSome result (λ m. (low ≤ m) × (m ≤ high)) }
 {
-    if low <= n && n <= high { Some(n) } else { None }
+    if low <= number && number <= high {
+        Some(number)
+    } else {
+        None
+    }
 }
 
 /// The number of an entry, where it is one from `low` to `high`. `clap` has refused all others, but says so of the program's own arguments alone,

@@ -23,17 +23,17 @@ pub fn set_pending_by(r: ResId, due: Moment, cores: &mut Row<Option<Resource>>)
 }
 
 /// The core takes what was decided.
-fn choose(t: Moment, unit: Option<UnitId>, due: Option<Moment>, c: &mut Resource)
-    ensures { c.new ≡ chosen_core t.0 unit due c.old }
+fn choose(t: Moment, unit: Option<UnitId>, due: Option<Moment>, core: &mut Resource)
+    ensures { core.new ≡ chosen_core t.0 unit due core.old }
 {
-    if !is_same_choice(unit, c.cur) {
-        c.saving = c.cur;
-        c.cur = unit;
-        c.since = t;
+    if !is_same_choice(unit, core.cur) {
+        core.saving = core.cur;
+        core.cur = unit;
+        core.since = t;
     }
-    c.due = due;
-    c.pending = false;
-    c.stage = Stage::Decided;
+    core.due = due;
+    core.pending = false;
+    core.stage = Stage::Decided;
 }
 
 /// The core at this place takes what was decided.

@@ -1,4 +1,4 @@
-//! The sets of moments of one pool's cores and processors. g is the number of a core's processors.
+//! The sets of moments of one pool's cores and processors.
 
 ghost use Rattle.std.specs.Prelude.{◌≡◌, ◌+◌, ◌*◌, ◌<◌, ◌≤◌, None, Some, IfOk, length, slice_set, replicate};
 ghost use Rattle.std.specs.Option.{option_copied};
@@ -87,14 +87,20 @@ fn rearm_core(dues: &mut Dues, r: u16, core: Option<&Resource>)
 
 /// Arms a processor with its moments, which is the i-th of the core.
 #[inline]
-fn rearm_processor(dues: &mut Dues, p: u16, core: Option<&Resource>, i: u8, work: Option<Moment>)
+fn rearm_processor(
+    dues: &mut Dues,
+    p: u16,
+    core: Option<&Resource>,
+    sibling: u8,
+    work: Option<Moment>,
+)
     requires none { 64 ≤ p → option_copied core ≡ None }
     requires blocks { length dues.old.blocks ≡ 64 }
     requires arrives { length dues.old.arrives ≡ 64 }
     requires leaves { length dues.old.leaves ≡ 64 }
-    ensures { dues.new ≡ with_processor_ends p (option_copied core.entry) i work dues.old }
+    ensures { dues.new ≡ with_processor_ends p (option_copied core.entry) sibling work dues.old }
 {
-    let processor = sibling_of(core, i as usize);
+    let processor = sibling_of(core, sibling as usize);
     set_due(&mut dues.blocks, p, block_end(work, processor));
     set_due(&mut dues.arrives, p, arrive_end(core, processor));
     set_due(&mut dues.leaves, p, leave_end(core, processor));
@@ -103,21 +109,21 @@ fn rearm_processor(dues: &mut Dues, p: u16, core: Option<&Resource>, i: u8, work
 /// Arms the core and its processors anew, after a change of that core or of its processors' works.
 pub fn rearm(
     dues: &mut Dues,
-    g: u8,
+    granularity: u8,
     r: ResId,
     cores: &Row<Option<Resource>>,
     works: &Row<Option<Moment>>,
 )
     requires { MayRearm r.0
-        (record { resources = cores.now; works = works.now; granularity = g }) dues.old }
-    ensures { AreArmed (record { resources = cores.now; works = works.now; granularity = g })
+        (record { resources = cores.now; works = works.now; granularity = granularity }) dues.old }
+    ensures { AreArmed (record { resources = cores.now; works = works.now; granularity = granularity })
         dues.new }
 {
     let core = item_at(cores.as_slice(), r.0 as usize);
     let done_at = works.as_slice();
     rearm_core(dues, r.0 as u16, core);
-    for i in 0..g {
-        let p = r.0 as u16 * g as u16 + i as u16;
+    for i in 0..granularity {
+        let p = r.0 as u16 * granularity as u16 + i as u16;
         rearm_processor(dues, p, core, i, work_at(done_at, p as usize));
     }
 }

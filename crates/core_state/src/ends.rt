@@ -1,4 +1,4 @@
-//! From when on the events of one core and of one processor may come. g is the number of a core's processors.
+//! From when on the events of one core and of one processor may come.
 
 ghost use Rattle.std.specs.Prelude.{◌≡◌, ◌<◌, not, true, None, Some};
 ghost use Rattle.std.specs.Option.{option_copied};
@@ -31,41 +31,41 @@ fn later(a: Option<Moment>, b: Option<Moment>) -> Option<Moment>
 }
 
 /// The end of the stall of the core's first processor.
-fn first_end(c: &Resource) -> Option<Moment>
-    ensures { result ≡ first_stall_end c.now }
+fn first_end(core: &Resource) -> Option<Moment>
+    ensures { result ≡ first_stall_end core.now }
 {
-    match c.processors.as_slice() {
+    match core.processors.as_slice() {
         [] => None,
         [p, ..] => Some(p.stall_end),
     }
 }
 
 /// Whether the core may leave the pool.
-fn may_move(c: &Resource) -> bool
-    ensures { result ≡ may_core_move c.now }
+fn may_move(core: &Resource) -> bool
+    ensures { result ≡ may_core_move core.now }
 {
-    c.leaving && c.cur.is_none() && c.saving.is_none() && !c.pending && is_open(c)
+    core.leaving && core.cur.is_none() && core.saving.is_none() && !core.pending && is_open(core)
 }
 
 /// Whether the core's processors may arrive.
-fn gathers(c: &Resource) -> bool
-    ensures { result ≡ may_gather c.now }
+fn gathers(core: &Resource) -> bool
+    ensures { result ≡ may_gather core.now }
 {
-    c.pending && is_open(c) && c.saving.is_none()
+    core.pending && is_open(core) && core.saving.is_none()
 }
 
 /// Whether the core may decide.
-fn may_decide(c: &Resource) -> bool
-    ensures { result ≡ may_core_decide c.now }
+fn may_decide(core: &Resource) -> bool
+    ensures { result ≡ may_core_decide core.now }
 {
-    all_held(c.processors.as_slice()) && is_open(c)
+    all_held(core.processors.as_slice()) && is_open(core)
 }
 
 /// Whether the core may put away the unit that it saves.
-fn may_save(c: &Resource) -> bool
-    ensures { result ≡ may_core_save c.now }
+fn may_save(core: &Resource) -> bool
+    ensures { result ≡ may_core_save core.now }
 {
-    c.saving.is_some() && !any_held(c.processors.as_slice())
+    core.saving.is_some() && !any_held(core.processors.as_slice())
 }
 
 /// From when on the core, if there is one, may leave the pool.
@@ -112,20 +112,23 @@ pub fn save_end(core: Option<&Resource>) -> Option<Moment>
     }
 }
 
-/// The i-th processor of the core.
+/// This processor of the core.
 #[inline]
-pub fn sibling_of(core: Option<&Resource>, i: usize) -> Option<&Processor>
-    ensures { option_copied result ≡ core_sibling (option_copied core.entry) i }
+pub fn sibling_of(core: Option<&Resource>, sibling: usize) -> Option<&Processor>
+    ensures { option_copied result ≡ core_sibling (option_copied core.entry) sibling }
 {
-    core?.processors.as_slice().get(i)
+    core?.processors.as_slice().get(sibling)
 }
 
 /// The processor.
-pub fn processor_at(g: u8, cores: &[Option<Resource>], p: usize) -> Option<&Processor>
-    requires { 0 < g }
-    ensures { option_copied result ≡ processor_among g cores.now p }
+pub fn processor_at(granularity: u8, cores: &[Option<Resource>], p: usize) -> Option<&Processor>
+    requires { 0 < granularity }
+    ensures { option_copied result ≡ processor_among granularity cores.now p }
 {
-    sibling_of(item_at(cores, p / g as usize), p % g as usize)
+    sibling_of(
+        item_at(cores, p / granularity as usize),
+        p % granularity as usize,
+    )
 }
 
 #[inline]

@@ -37,22 +37,22 @@ fn no_domains(domains: usize) -> DomainSizes
     sizes
 }
 
-/// Puts a pool, or none, at the place i.
+/// Puts a pool, or none, at this place.
 #[tactic(auto, using(crate::proofs::PlaceLemmas::set_past))]
-fn put_pool(pools: &mut Outlines, i: PoolId, pool: Option<Outline>)
-    ensures { pools.new ≡ slice_set pools.old i.0 pool }
+fn put_pool(pools: &mut Outlines, home: PoolId, pool: Option<Outline>)
+    ensures { pools.new ≡ slice_set pools.old home.0 pool }
 {
-    if let Some(place) = pools.get_mut(i.0 as usize) {
+    if let Some(place) = pools.get_mut(home.0 as usize) {
         *place = pool;
     }
 }
 
-/// Puts a name, or none, at the place i.
+/// Puts a name, or none, at this place.
 #[tactic(auto, using(crate::proofs::PlaceLemmas::set_past))]
-fn put_name(names: &mut PoolNames, i: PoolId, name: Option<Name>)
-    ensures { names.new ≡ slice_set names.old i.0 name }
+fn put_name(names: &mut PoolNames, pool: PoolId, name: Option<Name>)
+    ensures { names.new ≡ slice_set names.old pool.0 name }
 {
-    if let Some(place) = names.get_mut(i.0 as usize) {
+    if let Some(place) = names.get_mut(pool.0 as usize) {
         *place = name;
     }
 }
@@ -143,21 +143,21 @@ impl ToolState {
         item_at(self.free.as_slice(), r.0 as usize).is_some()
     }
 
-    /// Whether the pool i has the core r.
-    fn has_core_at(&self, i: PoolId, r: ResId) -> bool
-        ensures { result ≡ has_outlined_core_at self.now.part i.0 r.0 }
+    /// Whether this pool has the core r.
+    fn has_core_at(&self, place: PoolId, r: ResId) -> bool
+        ensures { result ≡ has_outlined_core_at self.now.part place.0 r.0 }
     {
-        match item_at(self.pools.as_slice(), i.0 as usize) {
+        match item_at(self.pools.as_slice(), place.0 as usize) {
             None => false,
             Some(pool) => has_core(pool, r),
         }
     }
 
-    /// Whether the pool i has the domain d.
-    fn has_domain_at(&self, i: PoolId, d: DomId) -> bool
-        ensures { result ≡ has_outlined_domain_at self.now.part i.0 d.0 }
+    /// Whether this pool has the domain d.
+    fn has_domain_at(&self, place: PoolId, d: DomId) -> bool
+        ensures { result ≡ has_outlined_domain_at self.now.part place.0 d.0 }
     {
-        match item_at(self.pools.as_slice(), i.0 as usize) {
+        match item_at(self.pools.as_slice(), place.0 as usize) {
             None => false,
             Some(pool) => size_in(pool, d).is_some(),
         }

@@ -31,58 +31,58 @@ fn put_size(sizes: &mut DomainSizes, d: DomId, size: Option<u8>)
     }
 }
 
-/// The pool i has the core r from now on, or has it no more.
+/// This pool has the core r from now on, or has it no more.
 #[tactic(auto, using(crate::proofs::PlaceLemmas::set_past))]
-fn set_core(pools: &mut Outlines, i: PoolId, r: ResId, there: bool)
-    ensures { pools.new ≡ change_at i.0 (with_core r.0 there) pools.old }
+fn set_core(pools: &mut Outlines, home: PoolId, r: ResId, there: bool)
+    ensures { pools.new ≡ change_at home.0 (with_core r.0 there) pools.old }
 {
-    if let Some(place) = pools.get_mut(i.0 as usize)
+    if let Some(place) = pools.get_mut(home.0 as usize)
         && let Some(pool) = place
     {
         put_flag(&mut pool.cores, r, there);
     }
 }
 
-/// The pool i has the domain d, with so many vCPUs, from now on.
+/// This pool has the domain d, with so many vCPUs, from now on.
 #[tactic(auto, using(crate::proofs::PlaceLemmas::set_past))]
-fn add_domain(pools: &mut Outlines, i: PoolId, d: DomId, vcpus: u8)
-    ensures { pools.new ≡ change_at i.0 (outline_with_domain d.0 vcpus) pools.old }
+fn add_domain(pools: &mut Outlines, home: PoolId, d: DomId, vcpus: u8)
+    ensures { pools.new ≡ change_at home.0 (outline_with_domain d.0 vcpus) pools.old }
 {
-    if let Some(place) = pools.get_mut(i.0 as usize)
+    if let Some(place) = pools.get_mut(home.0 as usize)
         && let Some(pool) = place
     {
         put_size(&mut pool.domains, d, Some(vcpus));
     }
 }
 
-/// The pool i has the domain d no more.
+/// This pool has the domain d no more.
 #[tactic(auto, using(crate::proofs::PlaceLemmas::set_past))]
-fn remove_domain(pools: &mut Outlines, i: PoolId, d: DomId)
-    ensures { pools.new ≡ change_at i.0 (outline_without_domain d.0) pools.old }
+fn remove_domain(pools: &mut Outlines, home: PoolId, d: DomId)
+    ensures { pools.new ≡ change_at home.0 (outline_without_domain d.0) pools.old }
 {
-    if let Some(place) = pools.get_mut(i.0 as usize)
+    if let Some(place) = pools.get_mut(home.0 as usize)
         && let Some(pool) = place
     {
         put_size(&mut pool.domains, d, None);
     }
 }
 
-/// How many vCPUs the domain d has, where the pool i has it.
-fn size_at(pools: &Outlines, i: PoolId, d: DomId) -> Option<u8>
-    ensures { result ≡ outlined_size pools.now i.0 d.0 }
+/// How many vCPUs the domain d has, where this pool has it.
+fn size_at(pools: &Outlines, place: PoolId, d: DomId) -> Option<u8>
+    ensures { result ≡ outlined_size pools.now place.0 d.0 }
 {
-    match item_at(pools.as_slice(), i.0 as usize) {
+    match item_at(pools.as_slice(), place.0 as usize) {
         None => None,
         Some(pool) => size_in(pool, d),
     }
 }
 
-/// The domain d is in the pool j in place of the pool i.
-fn hand_over(pools: &mut Outlines, d: DomId, i: PoolId, j: PoolId)
-    ensures { pools.new ≡ handed_over d.0 i.0 j.0 pools.old }
+/// The domain d is in the pool j in place of this pool.
+fn hand_over(pools: &mut Outlines, d: DomId, pool: PoolId, j: PoolId)
+    ensures { pools.new ≡ handed_over d.0 pool.0 j.0 pools.old }
 {
-    if let Some(vcpus) = size_at(pools, i, d) {
-        remove_domain(pools, i, d);
+    if let Some(vcpus) = size_at(pools, pool, d) {
+        remove_domain(pools, pool, d);
         add_domain(pools, j, d, vcpus);
     }
 }

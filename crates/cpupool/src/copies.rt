@@ -45,10 +45,10 @@ fn same_entries(entries: &ArincList) -> ArincList
 }
 
 /// The command once more.
-fn same_command(c: &Command) -> Command
-    ensures { result ≡ c.now }
+fn same_command(command: &Command) -> Command
+    ensures { result ≡ command.now }
 {
-    match c {
+    match command {
         Command::PoolList { pool } => Command::PoolList {
             pool: same_given(pool),
         },

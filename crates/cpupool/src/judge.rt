@@ -55,12 +55,12 @@ impl ToolState {
     }
 
     /// The answer to the command.
-    fn seen_judge(&self, c: &Command, facts: &Facts) -> Result<Plan, Refusal>
-        requires { IsCheckedCommand c.now }
-        ensures { result ≡ seen_verdict self.now facts.now c.now }
+    fn seen_judge(&self, command: &Command, facts: &Facts) -> Result<Plan, Refusal>
+        requires { IsCheckedCommand command.now }
+        ensures { result ≡ seen_verdict self.now facts.now command.now }
     {
         let units = facts.units.as_slice();
-        match c {
+        match command {
             Command::PoolList { pool } => self.judge_pool_list(pool),
             Command::PoolCreate { name, sched } => self.judge_pool_create(name, *sched),
             Command::PoolDestroy { pool } => self.judge_pool_destroy(pool),

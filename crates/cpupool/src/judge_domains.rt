@@ -15,17 +15,22 @@ use sched_model::facts::Stored;
 use sched_model::plan::Plan;
 
 /// A number that is given, if it is in the range from low to high.
-fn given_range(param: Param, low: u64, high: u64, n: Option<u64>) -> Result<Option<u32>, Refusal>
+fn given_range(
+    param: Param,
+    low: u64,
+    high: u64,
+    given: Option<u64>,
+) -> Result<Option<u32>, Refusal>
     requires { high < 2 ^ 32 }
-    ensures { result ≡ ranged_or_refused param low high n }
+    ensures { result ≡ ranged_or_refused param low high given }
 {
-    match n {
+    match given {
         None => Ok(None),
-        Some(n) => {
-            if n < low || n > high {
-                Err(Refusal::Range { param, n })
+        Some(given) => {
+            if given < low || given > high {
+                Err(Refusal::Range { param, n: given })
             } else {
-                Ok(Some(n as u32))
+                Ok(Some(given as u32))
             }
         }
     }
@@ -126,13 +131,13 @@ fn span_of(us: Option<u64>) -> Option<Span>
     }
 }
 
-/// How many units of g vCPUs a domain has.
+/// How many units, each of `granularity` vCPUs, a domain has.
 #[tactic(auto, using(crate::proofs::NumberLemmas::few_units))]
-fn unit_count(g: u8, vcpus: u8) -> u8
-    requires { 1 ≤ g }
-    ensures { result ≡ (vcpus + g - 1) / g }
+fn unit_count(granularity: u8, vcpus: u8) -> u8
+    requires { 1 ≤ granularity }
+    ensures { result ≡ (vcpus + granularity - 1) / granularity }
 {
-    ((vcpus as u16 + g as u16 - 1) / g as u16) as u8
+    ((vcpus as u16 + granularity as u16 - 1) / granularity as u16) as u8
 }
 
 /// The plan for so many units of the domain d from first on, whose set values are these. Periods and budgets are in microseconds.
@@ -165,12 +170,12 @@ fn plan_rtds(
     })
 }
 
-/// The set value of the unit n, alone.
-fn one_unit(units: &[Stored], n: usize) -> &[Stored]
-    ensures { result.now ≡ take 1 (drop n units.now) }
+/// The set value of this unit, alone.
+fn one_unit(units: &[Stored], index: usize) -> &[Stored]
+    ensures { result.now ≡ take 1 (drop index units.now) }
 {
-    if n < units.len() {
-        &units[n..n + 1]
+    if index < units.len() {
+        &units[index..index + 1]
     } else {
         &units[units.len()..]
     }

@@ -51,13 +51,13 @@ fn cpu_fault(processors: u8, ranges: &[(u64, u64)]) -> Option<Refusal>
     }
 }
 
-/// Whether one of the ranges has a processor of the core r, where a core has g processors.
-fn is_named(g: u8, ranges: &[(u64, u64)], r: ResId) -> bool
-    requires { 1 ≤ g }
-    ensures { result ≡ is_core_named g ranges.now r.0 }
+/// Whether one of the ranges has a processor of the core r, where a core has `granularity` processors.
+fn is_named(granularity: u8, ranges: &[(u64, u64)], r: ResId) -> bool
+    requires { 1 ≤ granularity }
+    ensures { result ≡ is_core_named granularity ranges.now r.0 }
 {
-    let first = r.0 as u64 * g as u64;
-    let last = first + g as u64 - 1;
+    let first = r.0 as u64 * granularity as u64;
+    let last = first + granularity as u64 - 1;
     ranges
         .iter()
         .any(|range| range.0 <= last && first <= range.1)
@@ -65,14 +65,14 @@ fn is_named(g: u8, ranges: &[(u64, u64)], r: ResId) -> bool
 
 /// The set of those of the first cores, so many, that have a processor in one of the ranges.
 #[tactic(auto, using(crate::proofs::NumberLemmas::named_in, crate::proofs::NumberLemmas::named_out))]
-fn named_set(g: u8, ranges: &[(u64, u64)], cores: u8) -> Cores
-    requires some { 1 ≤ g }
+fn named_set(granularity: u8, ranges: &[(u64, u64)], cores: u8) -> Cores
+    requires some { 1 ≤ granularity }
     requires few { cores ≤ 64 }
-    ensures { result.0 ≡ named_among g ranges.now (numbers_from 0 cores) }
+    ensures { result.0 ≡ named_among granularity ranges.now (numbers_from 0 cores) }
 {
     let mut set = 0u64;
     for r in 0..cores {
-        if is_named(g, ranges, ResId(r)) {
+        if is_named(granularity, ranges, ResId(r)) {
             set += 1u64 << r;
         }
     }
@@ -139,11 +139,11 @@ impl ToolState {
         }
     }
 
-    /// The plan for a new frame of the pool i.
-    fn plan_frame(&self, i: PoolId, major: u64, entries: &[ArincEntry]) -> Result<Plan, Refusal>
+    /// The plan for a new frame of this pool.
+    fn plan_frame(&self, pool: PoolId, major: u64, entries: &[ArincEntry]) -> Result<Plan, Refusal>
         requires few { length entries.now ≤ 64 }
         requires checked { All IsCheckedEntry entries.now }
-        ensures { result ≡ seen_frame self.now i.0 major entries.now }
+        ensures { result ≡ seen_frame self.now pool.0 major entries.now }
     {
         let frame = self.frame_entries(Short::new(), entries)?;
         let sum = run_total(entries);
@@ -151,7 +151,7 @@ impl ToolState {
             return Err(Refusal::FrameLong { sum, major });
         }
         Ok(Plan::ArincSet {
-            pool: i,
+            pool: pool,
             frame: Frame {
                 major: Span(major),
                 entries: frame,

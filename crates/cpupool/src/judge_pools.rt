@@ -15,16 +15,16 @@ use sched_model::config::SchedKind;
 use sched_model::event::{Refusal, Reply};
 use sched_model::plan::Plan;
 
-/// Why a core may not be taken from the pool i: it is the pool's only one, and the pool has a domain.
-fn last_core(i: PoolId, pool: &Outline) -> Option<Refusal>
-    ensures { result ≡ last_core_refusal i.0 pool.now }
+/// Why a core may not be taken from this pool: it is the pool's only one, and the pool has a domain.
+fn last_core(place: PoolId, pool: &Outline) -> Option<Refusal>
+    ensures { result ≡ last_core_refusal place.0 pool.now }
 {
     if core_total(pool) != 1 {
         return None;
     }
     match first_domain(DomId(0), pool.domains.as_slice()) {
         None => None,
-        Some(dom) => Some(Refusal::LastCpu { pool: i, dom }),
+        Some(dom) => Some(Refusal::LastCpu { pool: place, dom }),
     }
 }
 
@@ -77,14 +77,14 @@ impl ToolState {
         }
     }
 
-    /// Why the pool i may not have the name: another pool has it.
-    fn other_named(&self, i: PoolId, name: &Name) -> Option<Refusal>
-        ensures { result ≡ taken_name self.now.part name.now (λ other. not (other == i.0)) }
+    /// Why this pool may not have the name: another pool has it.
+    fn other_named(&self, first: PoolId, name: &Name) -> Option<Refusal>
+        ensures { result ≡ taken_name self.now.part name.now (λ other. not (other == first.0)) }
     {
         match place_named(PoolId(0), self.names.as_slice(), name) {
             None => None,
             Some(pool) => {
-                if pool.0 == i.0 {
+                if pool.0 == first.0 {
                     None
                 } else {
                     Some(Refusal::NameTaken { pool })

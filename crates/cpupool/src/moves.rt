@@ -50,12 +50,12 @@ pub(crate) fn put_ends(free: &mut FreeCores, r: ResId, ends: Option<StallEnds>)
     }
 }
 
-/// The stall of the processor at place i ends at a moment.
+/// The stall of the processor at this place ends at a moment.
 #[tactic(auto, using(crate::proofs::PlaceLemmas::set_past))]
-pub(crate) fn put_end(ends: &mut StallEnds, i: usize, end: Moment)
-    ensures { ends.new ≡ slice_set ends.old i end }
+pub(crate) fn put_end(ends: &mut StallEnds, sibling: usize, end: Moment)
+    ensures { ends.new ≡ slice_set ends.old sibling end }
 {
-    if let Some(place) = ends.get_mut(i) {
+    if let Some(place) = ends.get_mut(sibling) {
         *place = end;
     }
 }
@@ -70,11 +70,11 @@ impl ToolState {
     ghost use Rattle.cpupool.specs.Steps.{outlined_kind, move_of, joining_ready};
     ghost use Rattle.journal_core.specs.ToolActions.{may_join};
 
-    /// The scheduler of the pool i.
-    fn kind_at(&self, i: PoolId) -> SchedKind
-        ensures { result ≡ outlined_kind self.now.part i.0 }
+    /// The scheduler of this pool.
+    fn kind_at(&self, place: PoolId) -> SchedKind
+        ensures { result ≡ outlined_kind self.now.part place.0 }
     {
-        match item_at(self.pools.as_slice(), i.0 as usize) {
+        match item_at(self.pools.as_slice(), place.0 as usize) {
             None => SchedKind::Null,
             Some(pool) => kind_of(pool),
         }

@@ -39,15 +39,20 @@ impl ToolState {
         }
     }
 
-    /// The domain d, where the pool i has it.
-    fn domain_in(&self, d: DomId, i: PoolId) -> Option<NamedDomain>
-        ensures { option_map seen_named_domain result ≡ seen_at self.now.part d.0 i.0 }
+    /// The domain d, where this pool has it.
+    fn domain_in(&self, d: DomId, place: PoolId) -> Option<NamedDomain>
+        ensures { option_map seen_named_domain result ≡ seen_at self.now.part d.0 place.0 }
     {
-        match item_at(self.pools.as_slice(), i.0 as usize) {
+        match item_at(self.pools.as_slice(), place.0 as usize) {
             None => None,
             Some(pool) => match size_in(pool, d) {
                 None => None,
-                Some(vcpus) => Some(NamedDomain { d, i, pool, vcpus }),
+                Some(vcpus) => Some(NamedDomain {
+                    d,
+                    i: place,
+                    pool,
+                    vcpus,
+                }),
             },
         }
     }

@@ -50,16 +50,16 @@ pub(crate) fn opened_entries(
     Ok(Row::from_vec(all))
 }
 
-/// How many vCPUs each domain has whose home is the pool i.
+/// How many vCPUs each domain has whose home is this pool.
 #[tactic(auto, using(std::proofs::lemmas::List::map_more))]
-fn sizes_at_home(i: PoolId, domains: &[DomConfig]) -> DomainSizes
+fn sizes_at_home(pool: PoolId, domains: &[DomConfig]) -> DomainSizes
     requires few { length domains.now ≤ 64 }
     requires guests { All HasFewGuests domains.now }
-    ensures { result ≡ map (size_at_home i.0) domains.now }
+    ensures { result ≡ map (size_at_home pool.0) domains.now }
 {
     let mut sizes = Short::new();
     for d in domains {
-        sizes.push(if d.home.0 == i.0 {
+        sizes.push(if d.home.0 == pool.0 {
             Some(d.guests.len() as u8)
         } else {
             None
@@ -81,41 +81,41 @@ fn flags_of(set: Cores, cores: u8) -> CoreFlags
     flags
 }
 
-/// The pool i as the tool knows it, on a machine of so many cores.
-fn opened_outline(i: PoolId, cores: u8, domains: &[DomConfig], pool: &PoolConfig) -> Outline
+/// This pool as the tool knows it, on a machine of so many cores.
+fn opened_outline(place: PoolId, cores: u8, domains: &[DomConfig], pool: &PoolConfig) -> Outline
     requires cores { cores ≤ 64 }
     requires few { length domains.now ≤ 64 }
     requires guests { All HasFewGuests domains.now }
-    ensures { result ≡ outline_at_opening cores domains.now i.0 pool.now }
+    ensures { result ≡ outline_at_opening cores domains.now place.0 pool.now }
 {
     Outline {
         kind: kind_of_params(&pool.params),
         cores: flags_of(Cores(pool.cores), cores),
-        domains: sizes_at_home(i, domains),
+        domains: sizes_at_home(place, domains),
     }
 }
 
-/// The pools as the tool knows them, of which the first has the number i, behind those that stand already.
+/// The pools as the tool knows them, of which the first has this number, behind those that stand already.
 fn add_outlines(
     outlines: Outlines,
-    i: PoolId,
+    first: PoolId,
     cores: u8,
     domains: &[DomConfig],
     pools: &[PoolConfig],
 ) -> Outlines
     requires room { length outlines + length pools.now ≤ 16 }
-    requires number { i.0 + length pools.now ≤ 16 }
+    requires number { first.0 + length pools.now ≤ 16 }
     requires cores { cores ≤ 64 }
     requires few { length domains.now ≤ 64 }
     requires guests { All HasFewGuests domains.now }
-    ensures { result ≡ outlines ++ outlines_at_opening cores domains.now i.0 pools.now }
+    ensures { result ≡ outlines ++ outlines_at_opening cores domains.now first.0 pools.now }
 {
     match pools {
         [] => outlines,
         [pool, rest @ ..] => {
             let mut more = outlines;
-            more.push(Some(opened_outline(i, cores, domains, pool)));
-            add_outlines(more, PoolId(i.0 + 1), cores, domains, rest)
+            more.push(Some(opened_outline(first, cores, domains, pool)));
+            add_outlines(more, PoolId(first.0 + 1), cores, domains, rest)
         }
     }
 }

@@ -11,19 +11,19 @@ use sched_base::{Cores, DomId, Name, PoolId, ResId};
 use sched_model::config::SchedKind;
 use sched_model::places::item_at;
 
-/// The first place with this name, where the first of these has the number i.
-pub(crate) fn place_named(i: PoolId, names: &[Option<Name>], name: &Name) -> Option<PoolId>
-    requires { i.0 + length names.now ≤ 16 }
-    ensures { option_map number_of_pool result ≡ first_place i.0 (bytes_eq name.now) names.now }
+/// The first place with this name, where the first of these has this number.
+pub(crate) fn place_named(first: PoolId, names: &[Option<Name>], name: &Name) -> Option<PoolId>
+    requires { first.0 + length names.now ≤ 16 }
+    ensures { option_map number_of_pool result ≡ first_place first.0 (bytes_eq name.now) names.now }
 {
     match names {
         [] => None,
-        [None, rest @ ..] => place_named(PoolId(i.0 + 1), rest, name),
+        [None, rest @ ..] => place_named(PoolId(first.0 + 1), rest, name),
         [Some(other), rest @ ..] => {
             if name.is(other.as_bytes()) {
-                Some(i)
+                Some(first)
             } else {
-                place_named(PoolId(i.0 + 1), rest, name)
+                place_named(PoolId(first.0 + 1), rest, name)
             }
         }
     }
@@ -46,15 +46,15 @@ pub(crate) fn domain_named(d: DomId, domains: &[DomainEntry], name: &Name) -> Op
     }
 }
 
-/// The first place without a pool, where the first of these has the number i.
-pub(crate) fn first_empty_place(i: PoolId, pools: &[Option<Outline>]) -> Option<PoolId>
-    requires { i.0 + length pools.now ≤ 16 }
-    ensures { option_map number_of_pool result ≡ first_empty i.0 pools.now }
+/// The first place without a pool, where the first of these has this number.
+pub(crate) fn first_empty_place(first: PoolId, pools: &[Option<Outline>]) -> Option<PoolId>
+    requires { first.0 + length pools.now ≤ 16 }
+    ensures { option_map number_of_pool result ≡ first_empty first.0 pools.now }
 {
     match pools {
         [] => None,
-        [None, ..] => Some(i),
-        [Some(_), rest @ ..] => first_empty_place(PoolId(i.0 + 1), rest),
+        [None, ..] => Some(first),
+        [Some(_), rest @ ..] => first_empty_place(PoolId(first.0 + 1), rest),
     }
 }
 
@@ -105,39 +105,39 @@ pub(crate) fn domain_total(pool: &Outline) -> u64
     count_of(pool.domains.as_slice())
 }
 
-/// The first pool that has the core, where the first of these has the number i.
-pub(crate) fn core_home(i: PoolId, pools: &[Option<Outline>], r: ResId) -> Option<PoolId>
-    requires { i.0 + length pools.now ≤ 16 }
+/// The first pool that has the core, where the first of these has this number.
+pub(crate) fn core_home(first: PoolId, pools: &[Option<Outline>], r: ResId) -> Option<PoolId>
+    requires { first.0 + length pools.now ≤ 16 }
     ensures { option_map number_of_pool result
-        ≡ first_place i.0 (λ (o : PoolOutline). has_outlined_core o r.0) pools.now }
+        ≡ first_place first.0 (λ (o : PoolOutline). has_outlined_core o r.0) pools.now }
 {
     match pools {
         [] => None,
-        [None, rest @ ..] => core_home(PoolId(i.0 + 1), rest, r),
+        [None, rest @ ..] => core_home(PoolId(first.0 + 1), rest, r),
         [Some(pool), rest @ ..] => {
             if has_core(pool, r) {
-                Some(i)
+                Some(first)
             } else {
-                core_home(PoolId(i.0 + 1), rest, r)
+                core_home(PoolId(first.0 + 1), rest, r)
             }
         }
     }
 }
 
-/// The first pool that has the domain, where the first of these has the number i.
-pub(crate) fn domain_home(i: PoolId, pools: &[Option<Outline>], d: DomId) -> Option<PoolId>
-    requires { i.0 + length pools.now ≤ 16 }
+/// The first pool that has the domain, where the first of these has this number.
+pub(crate) fn domain_home(first: PoolId, pools: &[Option<Outline>], d: DomId) -> Option<PoolId>
+    requires { first.0 + length pools.now ≤ 16 }
     ensures { option_map number_of_pool result
-        ≡ first_place i.0 (λ (o : PoolOutline). is_some (at_place o.domains d.0)) pools.now }
+        ≡ first_place first.0 (λ (o : PoolOutline). is_some (at_place o.domains d.0)) pools.now }
 {
     match pools {
         [] => None,
-        [None, rest @ ..] => domain_home(PoolId(i.0 + 1), rest, d),
+        [None, rest @ ..] => domain_home(PoolId(first.0 + 1), rest, d),
         [Some(pool), rest @ ..] => {
             if size_in(pool, d).is_some() {
-                Some(i)
+                Some(first)
             } else {
-                domain_home(PoolId(i.0 + 1), rest, d)
+                domain_home(PoolId(first.0 + 1), rest, d)
             }
         }
     }

@@ -161,10 +161,10 @@ fn domain_moving(d: DomId, domains: &[Option<Domain>]) -> Option<MoveUnderWay>
     }
 }
 
-/// What is on its way from the pool i.
-fn leaving_pool(i: PoolId, pool: &Pool) -> Option<MoveUnderWay>
+/// What is on its way from this pool.
+fn leaving_pool(place: PoolId, pool: &Pool) -> Option<MoveUnderWay>
     requires { PoolFits pool.now }
-    ensures { option_map way_of result ≡ pool_under_way i.0 pool.now }
+    ensures { option_map way_of result ≡ pool_under_way place.0 pool.now }
 {
     match core_leaving(ResId(0), pool.resources.as_slice()) {
         Some(way) => Some(way),
@@ -172,18 +172,18 @@ fn leaving_pool(i: PoolId, pool: &Pool) -> Option<MoveUnderWay>
     }
 }
 
-/// What is on its way from one of the pools, where the first of these has the number i.
-fn leaving_pools(i: PoolId, pools: &[Option<Pool>]) -> Option<MoveUnderWay>
-    requires few { i.0 + length pools.now ≤ 16 }
+/// What is on its way from one of the pools, where the first of these has this number.
+fn leaving_pools(first: PoolId, pools: &[Option<Pool>]) -> Option<MoveUnderWay>
+    requires few { first.0 + length pools.now ≤ 16 }
     requires fits { AllPlaces PoolFits pools.now }
-    ensures { option_map way_of result ≡ first_answer pool_under_way i.0 pools.now }
+    ensures { option_map way_of result ≡ first_answer pool_under_way first.0 pools.now }
 {
     match pools {
         [] => None,
-        [None, rest @ ..] => leaving_pools(PoolId(i.0 + 1), rest),
-        [Some(pool), rest @ ..] => match leaving_pool(i, pool) {
+        [None, rest @ ..] => leaving_pools(PoolId(first.0 + 1), rest),
+        [Some(pool), rest @ ..] => match leaving_pool(first, pool) {
             Some(way) => Some(way),
-            None => leaving_pools(PoolId(i.0 + 1), rest),
+            None => leaving_pools(PoolId(first.0 + 1), rest),
         },
     }
 }

@@ -58,12 +58,12 @@ impl ToolState {
     }
 }
 
-/// The later of the end at place i and this moment.
-fn later_end(ends: &StallEnds, i: usize, until: Moment) -> Moment
-    ensures { result ≡ moment (elim (slice_get ends.now i)
+/// The later of the end at this place and this moment.
+fn later_end(ends: &StallEnds, sibling: usize, until: Moment) -> Moment
+    ensures { result ≡ moment (elim (slice_get ends.now sibling)
         [ None ↦ until.0 | Some old ↦ max old.0 until.0 ]) }
 {
-    match ends.as_slice().get(i) {
+    match ends.as_slice().get(sibling) {
         None => until,
         Some(old) => { if until.0 < old.0 { *old } else { until } }
     }

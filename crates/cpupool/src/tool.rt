@@ -238,14 +238,14 @@ impl ToolState {
     }
 
     /// The subject of the command.
-    fn seen_subject(&self, c: &Command) -> Subject
-        ensures { result ≡ command_subject self.now c.now }
+    fn seen_subject(&self, command: &Command) -> Subject
+        ensures { result ≡ command_subject self.now command.now }
     {
         let none = Subject {
             pool: None,
             dom: None,
         };
-        match c {
+        match command {
             Command::PoolList { pool: None } => none,
             Command::PoolList { pool: Some(pool) } => self.pool_subject(pool),
             Command::PoolCreate { .. } => none,

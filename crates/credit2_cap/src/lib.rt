@@ -58,12 +58,12 @@ pub fn refill(budget: i64, held: i64, total: i64, n: u64) -> i64
     grown(budget, total, n).min(room as i128) as i64
 }
 
-/// The budget and n times the total, which is not below 0.
-fn grown(budget: i64, total: i64, n: u64) -> i128
-    requires few { n ≤ 1000000000 }
+/// The budget and so many times the total, which is not below 0.
+fn grown(budget: i64, total: i64, periods: u64) -> i128
+    requires few { periods ≤ 1000000000 }
     requires some { pos 0 ≤ℤ total }
-    ensures { result ≡ budget +ℤ pos (n * numbers.positive_part total) }
+    ensures { result ≡ budget +ℤ pos (periods * numbers.positive_part total) }
 {
-    let all = n as u128 * total as u128;
+    let all = periods as u128 * total as u128;
     budget as i128 + all as i128
 }

@@ -77,25 +77,25 @@ pub fn leave(state: &mut Credit2State, u: UnitId)
     let _ = state.queue.remove(u);
 }
 
-/// The pool after m resets at t. The keys of the units that wait follow their credits.
-pub fn reset_pool(state: &mut Credit2State, t: Moment, m: u64)
+/// The pool after so many resets at t. The keys of the units that wait follow their credits.
+pub fn reset_pool(state: &mut Credit2State, t: Moment, resets: u64)
     requires early { t.0 ≤ most_span }
-    requires few { m ≤ 1000000000000 }
+    requires few { resets ≤ 1000000000000 }
     requires fits { PoolFits t.0 state.old.records }
     requires places { length state.old.affinity ≤ 64 }
     requires line { IsLine state.old }
-    ensures records { state.new.records ≡ reset_records t.0 m state.old.records }
+    ensures records { state.new.records ≡ reset_records t.0 resets state.old.records }
     ensures order { arrivals state.new.queue.units ≡ arrivals state.old.queue.units }
     ensures line { IsLine state.new }
     ensures room { IsSameRoom state.old.queue state.new.queue }
-    ensures none { m ≡ 0 → state.new ≡ state.old }
+    ensures none { resets ≡ 0 → state.new ≡ state.old }
     ensures rest { state.new ≡ record state.old
         { records = state.new.records; queue = state.new.queue } }
 {
-    if m == 0 {
+    if resets == 0 {
         return;
     }
-    reset(t, m, &mut state.records);
+    reset(t, resets, &mut state.records);
     rekey_all(&mut state.queue, &state.records, state.affinity.as_slice());
 }
 

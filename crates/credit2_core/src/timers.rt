@@ -34,16 +34,16 @@ fn come(place: &Option<Credit2Domain>, t: Moment) -> Option<u64>
     }
 }
 
-/// The first refill, by domain, that has come at t. The first of the domains has the number n.
-fn first_due(n: u8, t: Moment, domains: &[Option<Credit2Domain>]) -> Option<(Moment, Timer)>
-    requires { n + length domains.now ≤ 64 }
-    ensures { result ≡ first_due_timer t.0 (refills (numbered_items n domains.now)) }
+/// The first refill, by domain, that has come at t. The first of the domains has this number.
+fn first_due(first: u8, t: Moment, domains: &[Option<Credit2Domain>]) -> Option<(Moment, Timer)>
+    requires { first + length domains.now ≤ 64 }
+    ensures { result ≡ first_due_timer t.0 (refills (numbered_items first domains.now)) }
 {
     match domains {
         [] => None,
         [place, rest @ ..] => match come(place, t) {
-            Some(at) => Some((Moment(at), Timer::Refill(DomId(n)))),
-            None => first_due(n + 1, t, rest),
+            Some(at) => Some((Moment(at), Timer::Refill(DomId(first)))),
+            None => first_due(first + 1, t, rest),
         },
     }
 }

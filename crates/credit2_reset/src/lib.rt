@@ -24,10 +24,10 @@ pub fn resets(credit: i64) -> u64
 }
 
 /// How far a number is below 0.
-fn below_zero(n: i64) -> u64
-    ensures { result ≡ numbers.negative_part n }
+fn below_zero(number: i64) -> u64
+    ensures { result ≡ numbers.negative_part number }
 {
-    if n < 0 { n.unsigned_abs() } else { 0 }
+    if number < 0 { number.unsigned_abs() } else { 0 }
 }
 
 /// The credit after so many resets at once, which is 10,500,000 at most.

@@ -27,14 +27,14 @@ fn below(count: usize, number: i64) -> Result<usize, DomCause>
 }
 
 /// How many units the domain with this number has; none where there is no such domain.
-fn unit_count_at(granularity: u8, domains: &[DomConfig], n: usize) -> usize
+fn unit_count_at(granularity: u8, domains: &[DomConfig], index: usize) -> usize
     requires granularity { IsWithin 1 4 granularity }
     requires guests { All (λ d. length d.guests ≤ 32) domains.now }
-    ensures value { result ≡ units_of_domain granularity domains.now n }
+    ensures value { result ≡ units_of_domain granularity domains.now index }
     ensures few { result ≤ 32 }
 {
-    if n < domains.len() {
-        unit_count(granularity, domains[n].guests.len())
+    if index < domains.len() {
+        unit_count(granularity, domains[index].guests.len())
     } else {
         0
     }

@@ -43,25 +43,29 @@ impl Model for DueHeap {
 }
 
 /// The winner at a node, which is a leaf's own id.
-fn winner(winners: &[u16], k: usize) -> u16
-    requires fits { k < length winners.now + 2 ^ 16 }
-    ensures { result ≡ tree.node_winner winners.now k }
+fn winner(winners: &[u16], node: usize) -> u16
+    requires fits { node < length winners.now + 2 ^ 16 }
+    ensures { result ≡ tree.node_winner winners.now node }
 {
-    if k < winners.len() {
-        winners[k]
+    if node < winners.len() {
+        winners[node]
     } else {
-        (k - winners.len()) as u16
+        (node - winners.len()) as u16
     }
 }
 
 /// The sooner one of the winners at the two nodes below.
-fn play(moments: &[Option<Moment>], winners: &[u16], k: usize) -> u16
+fn play(moments: &[Option<Moment>], winners: &[u16], node: usize) -> u16
     requires few { length winners.now ≤ 2 ^ 16 }
-    requires inner { k < length winners.now }
-    ensures { result ≡ tree.sooner_id moments.now (tree.node_winner winners.now (2 * k))
-        (tree.node_winner winners.now (2 * k + 1)) }
+    requires inner { node < length winners.now }
+    ensures { result ≡ tree.sooner_id moments.now (tree.node_winner winners.now (2 * node))
+        (tree.node_winner winners.now (2 * node + 1)) }
 {
-    sooner(moments, winner(winners, 2 * k), winner(winners, 2 * k + 1))
+    sooner(
+        moments,
+        winner(winners, 2 * node),
+        winner(winners, 2 * node + 1),
+    )
 }
 
 /// Writes the winner at each node, from the last to the root.
@@ -78,15 +82,15 @@ fn play_all(moments: &[Option<Moment>], winners: &mut [u16])
 }
 
 /// The sooner one of the winner at a node and the winner at the node beside it, which is under the same node.
-fn play_beside(moments: &[Option<Moment>], winners: &[u16], k: usize, first: u16) -> u16
+fn play_beside(moments: &[Option<Moment>], winners: &[u16], node: usize, first: u16) -> u16
     requires few { length winners.now ≤ 2 ^ 16 }
-    requires under { 2 ≤ k }
-    requires inside { k < 2 * length winners.now }
-    requires first { first ≡ tree.node_winner winners.now k }
-    ensures { result ≡ tree.sooner_id moments.now (tree.node_winner winners.now (2 * (k / 2)))
-        (tree.node_winner winners.now (2 * (k / 2) + 1)) }
+    requires under { 2 ≤ node }
+    requires inside { node < 2 * length winners.now }
+    requires first { first ≡ tree.node_winner winners.now node }
+    ensures { result ≡ tree.sooner_id moments.now (tree.node_winner winners.now (2 * (node / 2)))
+        (tree.node_winner winners.now (2 * (node / 2) + 1)) }
 {
-    sooner(moments, first, winner(winners, 4 * (k / 2) + 1 - k))
+    sooner(moments, first, winner(winners, 4 * (node / 2) + 1 - node))
 }
 
 /// Carries the changed moment of an id from its leaf up to the root.
@@ -109,16 +113,16 @@ fn settle(moments: &[Option<Moment>], winners: &mut [u16], id: u16)
 }
 
 /// The one of the two nodes below that comes first from the left and whose winner's moment has come at t, where one is.
-fn below(moments: &[Option<Moment>], winners: &[u16], k: usize, t: Moment) -> usize
+fn below(moments: &[Option<Moment>], winners: &[u16], node: usize, t: Moment) -> usize
     requires few { length winners.now ≤ 2 ^ 16 }
-    requires inner { k < length winners.now }
-    ensures { result ≡ (if tree.is_armed_due moments.now t.0 (tree.node_winner winners.now (2 * k))
-        then 2 * k else 2 * k + 1) }
+    requires inner { node < length winners.now }
+    ensures { result ≡ (if tree.is_armed_due moments.now t.0 (tree.node_winner winners.now (2 * node))
+        then 2 * node else 2 * node + 1) }
 {
-    if is_due(moments, winner(winners, 2 * k), t) {
-        2 * k
+    if is_due(moments, winner(winners, 2 * node), t) {
+        2 * node
     } else {
-        2 * k + 1
+        2 * node + 1
     }
 }
 

@@ -131,12 +131,12 @@ impl Engine {
         }
     }
 
-    /// Does the event of an action that may come now, which is one of the pool i.
-    fn perform_in_pool(&mut self, i: u8, action: Action) -> Event
+    /// Does the event of an action that may come now, which is one of this pool.
+    fn perform_in_pool(&mut self, place: u8, action: Action) -> Event
         requires enabled { is_action_enabled self.old.machine self.old.state self.old.state.now
             action ≡ true }
         requires home { event_pool self.old.machine.config.granularity self.old.state action
-            ≡ Some i }
+            ≡ Some place }
         ensures event { result ≡ event_of self.old.machine self.old.state self.old.state.now
             action }
         ensures state { self.new ≡ record self.old
@@ -145,7 +145,7 @@ impl Engine {
         let event = perform_among(
             self.slots.as_mut_slice(),
             &self.trail,
-            i,
+            place,
             action,
             self.moment,
         );
@@ -155,12 +155,12 @@ impl Engine {
         });
         read_one(
             self.slots.as_slice(),
-            i as usize,
+            place as usize,
             self.moment,
             self.firsts.as_mut_slice(),
             self.nexts.as_mut_slice(),
         );
-        self.busy = self.busy.max(i as usize + 1);
+        self.busy = self.busy.max(place as usize + 1);
         event
     }
 

@@ -48,26 +48,26 @@ pub(crate) fn read_all(
     read_nexts(slots, firsts, nexts);
 }
 
-/// What is kept of the pool i, which alone has changed, asked at t.
+/// What is kept of this pool, which alone has changed, asked at t.
 pub(crate) fn read_one(
     slots: &[PoolSlot],
-    i: usize,
+    place: usize,
     t: Moment,
     firsts: &mut [Option<Action>],
     nexts: &mut [Option<Moment>],
 )
-    requires place { i < length slots.now }
+    requires i { place < length slots.now }
     requires firsts { length firsts.old ≡ length slots.now }
     requires nexts { length nexts.old ≡ length slots.now }
-    ensures first { IsFirstOfPlace t.0 (at_place slots.now i) (at_place firsts.new i) }
-    ensures next { at_place firsts.new i ≡ None →
-        IsNextOfPlace (at_place slots.now i) (at_place nexts.new i) }
+    ensures first { IsFirstOfPlace t.0 (at_place slots.now place) (at_place firsts.new place) }
+    ensures next { at_place firsts.new place ≡ None →
+        IsNextOfPlace (at_place slots.now place) (at_place nexts.new place) }
     ensures firsts { length firsts.new ≡ length firsts.old }
     ensures nexts { length nexts.new ≡ length nexts.old }
-    ensures other_firsts { (k : ℕ) → k ≢ i → at_place firsts.new k ≡ at_place firsts.old k }
-    ensures other_nexts { (k : ℕ) → k ≢ i → at_place nexts.new k ≡ at_place nexts.old k }
+    ensures other_firsts { (k : ℕ) → k ≢ place → at_place firsts.new k ≡ at_place firsts.old k }
+    ensures other_nexts { (k : ℕ) → k ≢ place → at_place nexts.new k ≡ at_place nexts.old k }
 {
-    let first = first_of(&slots[i], t);
-    firsts[i] = first;
-    nexts[i] = next_of(&slots[i], first);
+    let first = first_of(&slots[place], t);
+    firsts[place] = first;
+    nexts[place] = next_of(&slots[place], first);
 }

@@ -217,13 +217,13 @@ impl Hall {
         }
     }
 
-    /// Does the event of the actor that was found in the pool i, if one was, or puts the book back as it was.
+    /// Does the event of the actor that was found in this pool, if one was, or puts the book back as it was.
     fn settle(
         &self,
         seat: &mut LockSeat,
         book: HeldBook,
         slot: &mut PoolSlot,
-        i: u8,
+        index: u8,
         actor: Actor,
         found: Option<Action>,
         t: Moment,
@@ -231,17 +231,17 @@ impl Hall {
         requires has { HasBook self.now book seat.old }
         requires current { Current seat.old.view }
         requires input { book.input ≡ self.now.opened.input }
-        requires number { i < tool_lock }
-        requires knows { KnowsPool i slot.old seat.old.view }
+        requires number { index < tool_lock }
+        requires knows { KnowsPool index slot.old seat.old.view }
         requires some { IsSome slot.old }
         requires now { t.0 ≡ seat.old.view.now }
         requires actor { ForSome slot.old (λ seen. has_actor seen.granularity seen.pool actor
             ≡ true) }
         requires found { ForSome slot.old
             (λ seen. IsFirstBy seen.granularity t.0 seen.pool actor found) }
-        ensures knows { KnowsPool i slot.new seat.new.view }
-        ensures names { (n : ℕ) → HasName i n seat.old.view → HasName i n seat.new.view }
-        ensures others { KeepsOthers i seat.old.view seat.new.view }
+        ensures knows { KnowsPool index slot.new seat.new.view }
+        ensures names { (n : ℕ) → HasName index n seat.old.view → HasName index n seat.new.view }
+        ensures others { KeepsOthers index seat.old.view seat.new.view }
         ensures stays { SeatStays seat.old seat.new }
         ensures done { IfOk result (λ r. Settles actor r.0 r.1 book seat.old seat.new) }
         ensures full { IfErr result (λ full. SettlesFull actor full book seat.old seat.new) }
@@ -258,7 +258,7 @@ impl Hall {
         }
         let place = book.get().len();
         let decides = self.decides_before(book.get(), action);
-        let event = perform_at(&self.set, seat, book, slot, i, action, t);
+        let event = perform_at(&self.set, seat, book, slot, index, action, t);
         Ok((Done::Event { place, event }, decides))
     }
 

@@ -22,17 +22,17 @@ pub struct AllParts {
     pub tool: Box<ToolKept>,
 }
 
-/// Takes the lock of the pool i, 0 to 15, after those of the pools before it, and waits until it is free.
-fn take_pool<R: Wait>(rt: &R, set: &LockSet<PartState>, seat: &mut LockSeat, i: u8) -> PoolSlot
+/// Takes the lock of this pool, 0 to 15, after those of the pools before it, and waits until it is free.
+fn take_pool<R: Wait>(rt: &R, set: &LockSet<PartState>, seat: &mut LockSeat, place: u8) -> PoolSlot
     requires set { seat.old.table ≡ set.now.table }
-    requires number { i < tool_lock }
-    requires below { HoldsBelow i seat.old.view }
+    requires number { place < tool_lock }
+    requires below { HoldsBelow place seat.old.view }
     ensures keeps { KeepsSight seat.old seat.new }
-    ensures below { HoldsBelow (i + 1) seat.new.view }
-    ensures still { KnowsStill i seat.old.view seat.new.view }
-    ensures knows { KnowsPool i result seat.new.view }
+    ensures below { HoldsBelow (place + 1) seat.new.view }
+    ensures still { KnowsStill place seat.old.view seat.new.view }
+    ensures knows { KnowsPool place result seat.new.view }
 {
-    let held = set.lock(rt, seat, LockId(i));
+    let held = set.lock(rt, seat, LockId(place));
     let PartState::Pool(slot) = held.into_value() else {
         unreachable!()
     };
@@ -55,17 +55,17 @@ fn take_tool<R: Wait>(rt: &R, set: &LockSet<PartState>, seat: &mut LockSeat) -> 
     tool
 }
 
-/// Puts the place of the pool i, 0 to 15, back under its lock, which is the last that is held.
-fn put_pool(set: &LockSet<PartState>, seat: &mut LockSeat, i: u8, slot: PoolSlot)
+/// Puts the place of this pool, 0 to 15, back under its lock, which is the last that is held.
+fn put_pool(set: &LockSet<PartState>, seat: &mut LockSeat, place: u8, slot: PoolSlot)
     requires set { seat.old.table ≡ set.now.table }
-    requires number { i < tool_lock }
-    requires below { HoldsBelow (i + 1) seat.old.view }
-    requires knows { KnowsPool i slot seat.old.view }
+    requires number { place < tool_lock }
+    requires below { HoldsBelow (place + 1) seat.old.view }
+    requires knows { KnowsPool place slot seat.old.view }
     ensures keeps { KeepsSight seat.old seat.new }
-    ensures below { HoldsBelow i seat.new.view }
-    ensures still { KnowsStill i seat.old.view seat.new.view }
+    ensures below { HoldsBelow place seat.new.view }
+    ensures still { KnowsStill place seat.old.view seat.new.view }
 {
-    set.unlock(seat, Held::new(LockId(i), PartState::Pool(slot)));
+    set.unlock(seat, Held::new(LockId(place), PartState::Pool(slot)));
 }
 
 /// Puts what the tool keeps back under its lock, which is the last that is held.

@@ -29,11 +29,11 @@ impl Hints {
         Hints { first }
     }
 
-    /// Whose event comes first in the pool i.
-    pub fn first(&self, i: usize) -> Option<Actor>
-        requires { i < tool_lock }
+    /// Whose event comes first in this pool.
+    pub fn first(&self, place: usize) -> Option<Actor>
+        requires { place < tool_lock }
     {
-        self.first[i]
+        self.first[place]
     }
 }
 

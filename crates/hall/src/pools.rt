@@ -19,14 +19,14 @@ use sched_base::Moment;
 use sched_model::action::Action;
 use sched_model::event::{Entry, Event};
 
-/// Does an event that may come now of the pool i, whose place this is and whose lock the seat holds, and adds its entry to the book, which
+/// Does an event that may come now of this pool, whose place this is and whose lock the seat holds, and adds its entry to the book, which
 /// goes back. Of every other lock the seat knows what it knew.
 pub(crate) fn perform_at(
     set: &LockSet<PartState>,
     seat: &mut LockSeat,
     book: HeldBook,
     slot: &mut PoolSlot,
-    i: u8,
+    place: u8,
     action: Action,
     t: Moment,
 ) -> Event
@@ -35,22 +35,22 @@ pub(crate) fn perform_at(
     requires goes { GoesOn (told_of book) }
     requires room { length book.history < book.limit }
     requires now { t.0 ≡ seat.old.view.now }
-    requires number { i < tool_lock }
-    requires knows { KnowsPool i slot.old seat.old.view }
+    requires number { place < tool_lock }
+    requires knows { KnowsPool place slot.old seat.old.view }
     requires own { IsOfPool action }
     requires enabled { is_action_enabled book.input (state_of (told_of book))
         (state_of (told_of book)).now action ≡ true }
     requires home { home_pool_of_action book.input.config.granularity (state_of (told_of book))
-        action ≡ Some i }
+        action ≡ Some place }
     ensures event { result ≡ event_of book.input (state_of (told_of book))
         (state_of (told_of book)).now action }
     ensures entered { HasEntered book (record { at = t; event = result }) seat.old seat.new }
-    ensures knows { KnowsPool i slot.new seat.new.view }
-    ensures names { (n : ℕ) → HasName i n seat.old.view → HasName i n seat.new.view }
-    ensures others { KeepsOthers i seat.old.view seat.new.view }
+    ensures knows { KnowsPool place slot.new seat.new.view }
+    ensures names { (n : ℕ) → HasName place n seat.old.view → HasName place n seat.new.view }
+    ensures others { KeepsOthers place seat.old.view seat.new.view }
 {
     let trail = Trail::of(book.get());
-    let event = slot.perform(&trail, i, action, t);
+    let event = slot.perform(&trail, place, action, t);
     enter(set, seat, book, Entry { at: t, event });
     event
 }

@@ -15,9 +15,9 @@ fn quota_of(total: i64, units: u32) -> i64 {
     }
 }
 
-fn refilled(budget: i64, held: i64, total: i64, n: u64) -> i64 {
-    if n <= 1_000_000_000 && held >= 0 && total >= 0 {
-        refill(budget, held, total, n)
+fn refilled(budget: i64, held: i64, total: i64, periods: u64) -> i64 {
+    if periods <= 1_000_000_000 && held >= 0 && total >= 0 {
+        refill(budget, held, total, periods)
     } else {
         i64::MIN
     }

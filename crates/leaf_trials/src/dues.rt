@@ -8,11 +8,11 @@ use std::alloc::Global;
 use std::test::Fail;
 
 /// A heap of so many ids, of which none is armed.
-fn room(alloc: Global, n: usize) -> Result<DueHeap, NoMemory>
-    requires { n ≤ 5 }
-    ensures { IfOk result (λ heap. length heap ≡ n) }
+fn room(alloc: Global, ids: usize) -> Result<DueHeap, NoMemory>
+    requires { ids ≤ 5 }
+    ensures { IfOk result (λ heap. length heap ≡ ids) }
 {
-    let heap = DueHeap::room(alloc, n)?;
+    let heap = DueHeap::room(alloc, ids)?;
     Ok(heap)
 }
 

@@ -3,9 +3,9 @@
 use credit2_reset::{raise, resets};
 
 /// The raised credit, for as many resets as `raise` takes.
-fn raised(credit: i64, m: u64) -> i64 {
-    if m <= 1_000_000_000_000 {
-        raise(credit, m)
+fn raised(credit: i64, resets: u64) -> i64 {
+    if resets <= 1_000_000_000_000 {
+        raise(credit, resets)
     } else {
         i64::MIN
     }

@@ -27,19 +27,19 @@ const C: UnitId = UnitId {
 };
 
 /// Whether the node has that number: 0 where there is none. The numbers of nodes begin at 4.
-fn is(node: Option<Node>, n: u32) -> bool {
+fn is(node: Option<Node>, number: u32) -> bool {
     match node {
-        Some(node) => node.0 == n,
-        None => n == 0,
+        Some(node) => node.0 == number,
+        None => number == 0,
     }
 }
 
 /// Puts a unit at the end of list 0. It answers whether the node has that number.
-fn comes<L: Ledger>(ring: &mut Ring, u: UnitId, n: u32, steps: &mut Steps<L>) -> bool
+fn comes<L: Ledger>(ring: &mut Ring, u: UnitId, number: u32, steps: &mut Steps<L>) -> bool
     requires { 0 < ring.old.spare }
-    ensures { OnTrue result (ring.new ≡ after_take (after_append ring.old 0 (item n u))) }
+    ensures { OnTrue result (ring.new ≡ after_take (after_append ring.old 0 (item number u))) }
 {
-    ring.push_back(0, u, steps).0 == n
+    ring.push_back(0, u, steps).0 == number
 }
 
 /// Links three nodes on an empty ring of four. It answers whether they are the first ones.

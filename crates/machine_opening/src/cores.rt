@@ -13,36 +13,36 @@ use sched_ops::Policy;
 
 /// The core r comes in, where it is in the set.
 #[tactic(auto, using(crate::proofs::Attaching::core_came, crate::proofs::Attaching::no_core_came))]
-fn attach<P: Policy>(cores: u64, g: u8, r: ResId, pool: &mut PoolState<P>)
-    requires few { g ≤ 4 }
+fn attach<P: Policy>(cores: u64, granularity: u8, r: ResId, pool: &mut PoolState<P>)
+    requires few { granularity ≤ 4 }
     requires core { r.0 < 64 }
-    requires granularity { pool.old.granularity ≡ g }
+    requires g { pool.old.granularity ≡ granularity }
     requires still { IsStill pool.old }
     requires place { r.0 < length pool.old.pool.resources }
     requires absent { at_place pool.old.pool.resources r.0 ≡ None }
     ensures { pool.new ≡ with_cores (slice_set pool.old.pool.resources r.0
-        (opening_core g cores r.0)) pool.old }
+        (opening_core granularity cores r.0)) pool.old }
 {
     if has_core(cores, r) {
         let core = ResPart {
             r,
-            stall_ends: no_stalls(g),
+            stall_ends: no_stalls(granularity),
         };
         pool.attach(&core, Moment(0));
     }
 }
 
 /// The cores of the set come into a pool that has none, in order of their numbers.
-pub fn attach_all<P: Policy>(cores: u64, g: u8, count: u8, pool: &mut PoolState<P>)
-    requires few { g ≤ 4 }
+pub fn attach_all<P: Policy>(cores: u64, granularity: u8, count: u8, pool: &mut PoolState<P>)
+    requires few { granularity ≤ 4 }
     requires count { count ≤ 64 }
-    requires granularity { pool.old.granularity ≡ g }
+    requires g { pool.old.granularity ≡ granularity }
     requires used { pool.old.in_use ≡ true }
     requires early { pool.old.latest ≡ 0 }
     requires none { pool.old.pool.resources ≡ replicate count None }
-    ensures { pool.new ≡ with_cores (map (opening_core g cores) (numbers_from 0 count)) pool.old }
+    ensures { pool.new ≡ with_cores (map (opening_core granularity cores) (numbers_from 0 count)) pool.old }
 {
     for r in 0..count {
-        attach(cores, g, ResId(r), pool);
+        attach(cores, granularity, ResId(r), pool);
     }
 }

@@ -53,12 +53,12 @@ fn give<P: Policy>(
     Ok(())
 }
 
-/// The unit n of the domain may run on these cores alone.
-fn pin<P: Policy>(d: DomId, n: u8, cores: Cores, pool: &mut PoolState<P>)
+/// This unit of the domain may run on these cores alone.
+fn pin<P: Policy>(d: DomId, index: u8, cores: Cores, pool: &mut PoolState<P>)
     requires still { IsStill pool.old }
     requires joined { has_joined_domain pool.old.pool.scheduler d.0 ≡ true }
-    requires units { n < units_of pool.old.pool.scheduler d.0 }
-    ensures after { pool.new ≡ with_pool (pool_with_pins d.0 n (cores ∷ []) pool.old.pool)
+    requires units { index < units_of pool.old.pool.scheduler d.0 }
+    ensures after { pool.new ≡ with_pool (pool_with_pins d.0 index (cores ∷ []) pool.old.pool)
         pool.old }
     ensures still { IsStill pool.new }
     ensures joined { has_joined_domain pool.new.pool.scheduler d.0 ≡ true }
@@ -66,25 +66,25 @@ fn pin<P: Policy>(d: DomId, n: u8, cores: Cores, pool: &mut PoolState<P>)
 {
     let change = ParamChange::Pin {
         dom: d,
-        unit: Some(n),
+        unit: Some(index),
         cores,
     };
     pool.set_params(&change, Moment(0));
 }
 
-/// The sets of cores of the domain's units, the first of them that of unit n.
-fn pin_all<P: Policy>(d: DomId, n: u8, pins: &[Cores], pool: &mut PoolState<P>)
-    requires few { n + length pins.now ≤ 32 }
+/// The sets of cores of the domain's units, the first of them that of this unit.
+fn pin_all<P: Policy>(d: DomId, first: u8, pins: &[Cores], pool: &mut PoolState<P>)
+    requires few { first + length pins.now ≤ 32 }
     requires still { IsStill pool.old }
     requires joined { has_joined_domain pool.old.pool.scheduler d.0 ≡ true }
-    requires units { n + length pins.now ≤ units_of pool.old.pool.scheduler d.0 }
-    ensures { pool.new ≡ with_pool (pool_with_pins d.0 n pins.now pool.old.pool) pool.old }
+    requires units { first + length pins.now ≤ units_of pool.old.pool.scheduler d.0 }
+    ensures { pool.new ≡ with_pool (pool_with_pins d.0 first pins.now pool.old.pool) pool.old }
 {
     match pins {
         [] => {}
         [cores, rest @ ..] => {
-            pin(d, n, *cores, pool);
-            pin_all(d, n + 1, rest, pool);
+            pin(d, first, *cores, pool);
+            pin_all(d, first + 1, rest, pool);
         }
     }
 }
@@ -113,53 +113,61 @@ fn join<P: Policy>(
     Ok(())
 }
 
-/// The same where the pool i is the home of the domain; another domain is passed by.
+/// The same where this pool is the home of the domain; another domain is passed by.
 #[tactic(auto, using(crate::proofs::Joining::goes_by))]
 fn join_at_home<P: Policy>(
     alloc: Global,
     config: &Config,
-    i: u8,
+    place: u8,
     home: &PoolConfig,
     d: DomId,
     joining: &DomConfig,
     pool: &mut PoolState<P>,
 ) -> Result<(), NoMemory>
     requires checked { IsCheckedConfig config.now }
-    requires home { slice_get config.now.pools i ≡ Some home.now }
+    requires home { slice_get config.now.pools place ≡ Some home.now }
     requires domain { IsCheckedDomain config.now joining.now }
-    requires place { d.0 < length config.now.domains }
+    requires i { d.0 < length config.now.domains }
     requires opening { IsOpening config.now home.now d.0 pool.old }
-    requires room { units_if_home config.now.granularity i joining.now ≤ pool.old.spare }
-    ensures after { OnOk result (pool.new ≡ configured_if config.now.granularity i d.0 joining.now
+    requires room { units_if_home config.now.granularity place joining.now ≤ pool.old.spare }
+    ensures after { OnOk result (pool.new ≡ configured_if config.now.granularity place d.0 joining.now
         pool.old) }
     ensures opening { OnOk result (IsOpening config.now home.now (d.0 + 1) pool.new) }
 {
-    if joining.home.0 == i {
+    if joining.home.0 == place {
         join(alloc, config, home, d, joining, pool)?;
     }
     Ok(())
 }
 
-/// The domains of the file whose home is the pool i come in one after another.
+/// The domains of the file whose home is this pool come in one after another.
 pub fn join_all<P: Policy>(
     alloc: Global,
     config: &Config,
-    i: u8,
+    place: u8,
     home: &PoolConfig,
     pool: &mut PoolState<P>,
 ) -> Result<(), NoMemory>
     requires checked { IsCheckedConfig config.now }
-    requires home { slice_get config.now.pools i ≡ Some home.now }
+    requires home { slice_get config.now.pools place ≡ Some home.now }
     requires opening { IsOpening config.now home.now 0 pool.old }
-    requires room { units_at_home config.now.granularity i config.now.domains ≤ pool.old.spare }
-    ensures after { OnOk result (pool.new ≡ with_all config.now.granularity i 0 config.now.domains
+    requires room { units_at_home config.now.granularity place config.now.domains ≤ pool.old.spare }
+    ensures after { OnOk result (pool.new ≡ with_all config.now.granularity place 0 config.now.domains
         pool.old) }
     ensures opening { OnOk result (IsOpening config.now home.now (length config.now.domains)
         pool.new) }
 {
     let domains = config.domains.as_slice();
     for d in 0..domains.len() {
-        join_at_home(alloc, config, i, home, DomId(d as u8), &domains[d], pool)?;
+        join_at_home(
+            alloc,
+            config,
+            place,
+            home,
+            DomId(d as u8),
+            &domains[d],
+            pool,
+        )?;
     }
     Ok(())
 }

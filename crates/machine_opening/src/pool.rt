@@ -35,22 +35,22 @@ fn places_of(config: &Config) -> Places
     }
 }
 
-/// The pool i with its cores and its domains.
+/// This pool with its cores and its domains.
 fn open_home<P: Policy>(
     alloc: Global,
     config: &Config,
-    i: u8,
+    place: u8,
     home: &PoolConfig,
     policy: P,
 ) -> Result<PoolState<P>, NoMemory>
     requires config { IsCheckedConfig config.now }
-    requires home { slice_get config.now.pools i ≡ Some home.now }
+    requires home { slice_get config.now.pools place ≡ Some home.now }
     requires kind { records_kind (P.seen policy).scheduler.records ≡ home.now.kind }
     requires vacant { is_vacant (P.seen policy).scheduler ≡ true }
     requires early { (P.seen policy).latest ≡ 0 }
-    ensures seen { IfOk result (λ opened. opened ≡ opening_seen config.now i home.now) }
+    ensures seen { IfOk result (λ opened. opened ≡ opening_seen config.now place home.now) }
     ensures pool { IfOk result (λ opened. (work : Work) →
-        at_place (opening (record { config = config.now; work = work })).pools i
+        at_place (opening (record { config = config.now; work = work })).pools place
         ≡ Some opened.pool) }
     ensures room { IfOk result (λ opened. units_in opened.granularity opened.pool.domains +
         opened.spare ≡ most_units) }
@@ -60,7 +60,7 @@ fn open_home<P: Policy>(
     let mut pool = PoolState::room(alloc, g, places, MOST_UNITS, policy)?;
     pool.open(&home.params);
     attach_all(home.cores, g, places.cores, &mut pool);
-    match join_all(alloc, config, i, home, &mut pool) {
+    match join_all(alloc, config, place, home, &mut pool) {
         Ok(()) => Ok(pool),
         Err(full) => {
             drop(pool);
@@ -69,21 +69,21 @@ fn open_home<P: Policy>(
     }
 }
 
-/// The pool i of a machine, of the policy's scheduler: the one that stands at the machine's opening, at 0. The policy has no domain yet.
+/// This pool of a machine, of the policy's scheduler: the one that stands at the machine's opening, at 0. The policy has no domain yet.
 /// Units of domains that come later have the room that those here leave of 256.
 pub fn opened<P: Policy>(
     alloc: Global,
     config: &Config,
-    i: u8,
+    place: u8,
     policy: P,
 ) -> Result<PoolState<P>, NoMemory>
     requires config { IsCheckedConfig config.now }
-    requires kind { slice_get (kinds_of config.now) i
+    requires kind { slice_get (kinds_of config.now) place
         ≡ Some (records_kind (P.seen policy).scheduler.records) }
     requires vacant { is_vacant (P.seen policy).scheduler ≡ true }
     requires early { (P.seen policy).latest ≡ 0 }
     ensures pool { IfOk result (λ opened. (work : Work) →
-        at_place (opening (record { config = config.now; work = work })).pools i
+        at_place (opening (record { config = config.now; work = work })).pools place
         ≡ Some opened.pool) }
     ensures granularity { IfOk result (λ opened. opened.granularity ≡ config.now.granularity) }
     ensures spare { IfOk result (λ opened. units_in opened.granularity opened.pool.domains +
@@ -91,8 +91,8 @@ pub fn opened<P: Policy>(
     ensures latest { IfOk result (λ opened. opened.latest ≡ 0) }
     ensures used { IfOk result (λ opened. opened.in_use ≡ true) }
 {
-    match config.pools.as_slice().get(usize::from(i)) {
-        Some(home) => open_home(alloc, config, i, home, policy),
+    match config.pools.as_slice().get(usize::from(place)) {
+        Some(home) => open_home(alloc, config, place, home, policy),
         None => unreachable!(),
     }
 }

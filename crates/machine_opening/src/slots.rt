@@ -17,25 +17,30 @@ use sched_model::config::{Config, SchedKind};
 use std::alloc::Global;
 use std::vec::Vec;
 
-/// The pool i of the file, which has this scheduler, with its cores and its domains.
-fn open_pool(alloc: Global, config: &Config, i: u8, kind: SchedKind) -> Result<AnyPool, NoMemory>
+/// This pool of the file, which has this scheduler, with its cores and its domains.
+fn open_pool(
+    alloc: Global,
+    config: &Config,
+    place: u8,
+    kind: SchedKind,
+) -> Result<AnyPool, NoMemory>
     requires checked { IsCheckedConfig config.now }
-    requires kind { slice_get (kinds_of config.now) i ≡ Some kind }
-    ensures { IfOk result (λ pool. IsOpened config.now i pool.value) }
+    requires kind { slice_get (kinds_of config.now) place ≡ Some kind }
+    ensures { IfOk result (λ pool. IsOpened config.now place pool.value) }
 {
-    let pool = opened(alloc, config, i, AnyPolicy::empty(kind))?;
+    let pool = opened(alloc, config, place, AnyPolicy::empty(kind))?;
     boxed(alloc, pool)
 }
 
-/// The place i: the file's pool of that number, or none.
-fn open_slot(alloc: Global, config: &Config, i: u8) -> Result<PoolSlot, NoMemory>
+/// This place: the file's pool of that number, or none.
+fn open_slot(alloc: Global, config: &Config, place: u8) -> Result<PoolSlot, NoMemory>
     requires checked { IsCheckedConfig config.now }
-    requires place { i < 16 }
-    ensures { IfOk result (λ slot. (work : Work) → StandsAt (told_new config.now work) i slot) }
+    requires i { place < 16 }
+    ensures { IfOk result (λ slot. (work : Work) → StandsAt (told_new config.now work) place slot) }
 {
-    match config.pools.as_slice().get(usize::from(i)) {
+    match config.pools.as_slice().get(usize::from(place)) {
         None => Ok(PoolSlot::default()),
-        Some(home) => Ok(PoolSlot::of(open_pool(alloc, config, i, home.kind)?)),
+        Some(home) => Ok(PoolSlot::of(open_pool(alloc, config, place, home.kind)?)),
     }
 }
 

@@ -20,23 +20,23 @@ impl PoolSlot {
     ghost use Rattle.machine_parts.specs.Places.{GoesOn, StandsAt, slot_part, state_of};
     ghost use Rattle.machine_parts.specs.Spares.{IsSpare, made_seen};
 
-    /// An event of the pool that is the part i of the machine, which stands where the trail leads: the machine's own event, after which
+    /// An event of the pool that is this part of the machine, which stands where the trail leads: the machine's own event, after which
     /// the place stands where the trail leads with the entry added. The event's moment is the machine's.
-    pub fn perform(&mut self, trail: &Trail, i: u8, action: Action, t: Moment) -> Event
+    pub fn perform(&mut self, trail: &Trail, place: u8, action: Action, t: Moment) -> Event
         requires goes { GoesOn trail.now }
         requires now { t.0 ≡ (state_of trail.now).now }
-        requires stands { StandsAt trail.now i self.old }
+        requires stands { StandsAt trail.now place self.old }
         requires own { IsOfPool action }
         requires enabled { is_action_enabled trail.now.input (state_of trail.now)
             (state_of trail.now).now action ≡ true }
         requires home { home_pool_of_action trail.now.input.config.granularity (state_of trail.now)
-            action ≡ Some i }
+            action ≡ Some place }
         ensures event { result ≡ event_of trail.now.input (state_of trail.now)
             (state_of trail.now).now action }
         ensures part { slot_part self.new
             ≡ part_of (after trail.now.input (state_of trail.now) (state_of trail.now).now action)
-            i }
-        ensures stands { StandsAt (told_more trail.now (record { at = t; event = result })) i
+            place }
+        ensures stands { StandsAt (told_more trail.now (record { at = t; event = result })) place
             self.new }
     {
         let Some(pool) = &mut self.state else {
@@ -60,11 +60,11 @@ impl PoolSlot {
         self.state = Some(pool);
     }
 
-    /// The pool of the place, the part i of the machine, goes out, which has neither a domain nor a core. It is in use no longer, and is
+    /// The pool of the place, this part of the machine, goes out, which has neither a domain nor a core. It is in use no longer, and is
     /// a spare one.
-    pub fn shut(&mut self, trail: &Trail, i: u8) -> AnyPool
+    pub fn shut(&mut self, trail: &Trail, place: u8) -> AnyPool
         requires goes { GoesOn trail.now }
-        requires stands { StandsAt trail.now i self.old }
+        requires stands { StandsAt trail.now place self.old }
         requires some { IsSome self.old }
         requires empty { ForSome self.old (λ seen. IsEmpty seen.pool) }
         ensures after { self.new ≡ None }

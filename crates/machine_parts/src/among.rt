@@ -13,12 +13,12 @@ use sched_base::Moment;
 use sched_model::action::Action;
 use sched_model::event::Event;
 
-/// An event of the pool i, where each of the 16 places is the part of its number in the machine, which stands where the trail leads. After
+/// An event of this pool, where each of the 16 places is the part of its number in the machine, which stands where the trail leads. After
 /// it all places stand where the trail leads with the entry added, and the other places are as they were.
 pub fn perform_among(
     slots: &mut [PoolSlot],
     trail: &Trail,
-    i: u8,
+    place: u8,
     action: Action,
     t: Moment,
 ) -> Event
@@ -29,15 +29,15 @@ pub fn perform_among(
     requires enabled { is_action_enabled trail.now.input (state_of trail.now)
         (state_of trail.now).now action ≡ true }
     requires home { home_pool_of_action trail.now.input.config.granularity (state_of trail.now)
-        action ≡ Some i }
+        action ≡ Some place }
     ensures event { result ≡ event_of trail.now.input (state_of trail.now) (state_of trail.now).now
         action }
     ensures state { state_of (told_more trail.now (record { at = t; event = result }))
         ≡ after trail.now.input (state_of trail.now) (state_of trail.now).now action }
-    ensures step { HasStepped trail.now i (told_more trail.now
+    ensures step { HasStepped trail.now place (told_more trail.now
         (record { at = t; event = result })) }
     ensures stand { AllStand (told_more trail.now (record { at = t; event = result })) slots.new }
-    ensures others { (k : ℕ) → k ≢ i → at_place slots.new k ≡ at_place slots.old k }
+    ensures others { (k : ℕ) → k ≢ place → at_place slots.new k ≡ at_place slots.old k }
 {
-    slots[i as usize].perform(trail, i, action, t)
+    slots[place as usize].perform(trail, place, action, t)
 }

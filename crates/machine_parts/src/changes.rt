@@ -162,18 +162,18 @@ impl PoolSlot {
         pool.take_domain(d)
     }
 
-    /// A domain of the machine, none of whose vCPUs is started, comes into the pool that is the part i, with these parameters. Its units
+    /// A domain of the machine, none of whose vCPUs is started, comes into the pool that is this part, with these parameters. Its units
     /// that are runnable wait. There is room for them, since the pool has room for all units of the machine.
     pub fn give_domain(
         &mut self,
         trail: &Trail,
-        i: u8,
+        place: u8,
         part: DomPart,
         params: &DomParams,
         t: Moment,
     )
         requires goes { GoesOn trail.now }
-        requires stands { StandsAt trail.now i self.old }
+        requires stands { StandsAt trail.now place self.old }
         requires some { IsSome self.old }
         requires now { t.0 ≡ (state_of trail.now).now }
         requires part { IsPart part }

@@ -27,13 +27,13 @@ enum Call {
 }
 
 /// The call that a word names for the processor or the domain with this number.
-fn call_for(word: &str, n: u8) -> Option<Call> {
+fn call_for(word: &str, number: u8) -> Option<Call> {
     match word {
-        "proc" => Some(Call::Act(Actor::Proc(ProcId(n)))),
-        "dom" => Some(Call::Act(Actor::Dom(DomId(n)))),
-        "all-proc" => Some(Call::ActAll(Actor::Proc(ProcId(n)))),
-        "all-dom" => Some(Call::ActAll(Actor::Dom(DomId(n)))),
-        "waits" => Some(Call::Waits(ProcId(n))),
+        "proc" => Some(Call::Act(Actor::Proc(ProcId(number)))),
+        "dom" => Some(Call::Act(Actor::Dom(DomId(number)))),
+        "all-proc" => Some(Call::ActAll(Actor::Proc(ProcId(number)))),
+        "all-dom" => Some(Call::ActAll(Actor::Dom(DomId(number)))),
+        "waits" => Some(Call::Waits(ProcId(number))),
         _ => None,
     }
 }

@@ -37,15 +37,15 @@ impl Actors {
     }
 
     /// The actor with this number, which is at most the tool's.
-    pub fn nth(self, k: u16) -> Actor
-        requires { k ≤ self.processors + self.domains }
+    pub fn nth(self, actor: u16) -> Actor
+        requires { actor ≤ self.processors + self.domains }
         ensures { (config : ConfigSpec) → AreActors config self → is_actor config result ≡ true }
     {
         let processors = u16::from(self.processors);
-        if k < processors {
-            Actor::Proc(ProcId(k as u8))
-        } else if k < self.last() {
-            Actor::Dom(DomId((k - processors) as u8))
+        if actor < processors {
+            Actor::Proc(ProcId(actor as u8))
+        } else if actor < self.last() {
+            Actor::Dom(DomId((actor - processors) as u8))
         } else {
             Actor::Tool
         }

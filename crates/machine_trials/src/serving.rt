@@ -34,36 +34,36 @@ impl Way {
         }
     }
 
-    /// Whether the seat with the number i, from 0, acts for the actor with the number k.
-    fn acts(self, i: usize, k: u16) -> bool {
+    /// Whether the seat with this number, from 0, acts for this actor.
+    fn acts(self, seat: usize, actor: u16) -> bool {
         match self {
-            Way::Parted | Way::Rounds => usize::from(k % 4) == i,
+            Way::Parted | Way::Rounds => usize::from(actor % 4) == seat,
             Way::Each => true,
             Way::Turns => false,
         }
     }
 }
 
-/// Acts for the actor with the number k, where the way has the seat i act for it. It answers whether that did an event.
+/// Acts for this actor, where the way has the seat act for it. It answers whether that did an event.
 fn acts_at<R: Wait, G: Gate>(
     rt: &R,
     hall: &Hall,
     actors: Actors,
     seat: &mut HallSeat,
     mine: (Way, usize),
-    k: u16,
+    actor: u16,
     gate: &G,
 ) -> bool
     requires of { IsOf hall.now seat.old }
     requires actors { AreActors hall.now.opened.input.config actors }
-    requires few { k ≤ actors.processors + actors.domains }
+    requires few { actor ≤ actors.processors + actors.domains }
     ensures of { IsOf hall.now seat.new }
     ensures parts { seat.new.sitting.view.shares ≡ seat.old.sitting.view.shares }
 {
     let (way, i) = mine;
-    way.acts(i, k)
+    way.acts(i, actor)
         && matches!(
-            hall.act(rt, seat, actors.nth(k), gate),
+            hall.act(rt, seat, actors.nth(actor), gate),
             Ok(Done::Event { .. })
         )
 }

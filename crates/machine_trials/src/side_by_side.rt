@@ -15,12 +15,12 @@ use std::sync::Wait;
 use std::thread;
 use std::thread::Threads;
 
-/// What the seat i does in its thread.
-fn serve<R: Wait>(rt: &R, hall: &Hall, actors: Actors, way: Way, i: usize, seat: &mut HallSeat)
+/// What the seat does in its thread.
+fn serve<R: Wait>(rt: &R, hall: &Hall, actors: Actors, way: Way, number: usize, seat: &mut HallSeat)
     requires { MayServe hall.now actors seat.old }
     ensures { MayServe hall.now actors seat.new }
 {
-    let mine = (way, i);
+    let mine = (way, number);
     match way {
         Way::Rounds => act_all(rt, hall, actors, seat, mine, &OpenGate),
         _ => {

@@ -60,12 +60,12 @@ impl Looks {
         self.looks.len() as u32
     }
 
-    /// The look with the number k, from 0.
-    pub fn get(&self, k: u32) -> Look
-        requires { k < length self.now.items }
-        ensures { slice_get self.now.items k ≡ Some result }
+    /// The look with this number, from 0.
+    pub fn get(&self, number: u32) -> Look
+        requires { number < length self.now.items }
+        ensures { slice_get self.now.items number ≡ Some result }
     {
-        self.looks[k as usize]
+        self.looks[number as usize]
     }
 
     /// The most looks that there may be.

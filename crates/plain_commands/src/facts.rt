@@ -55,26 +55,26 @@ fn push_stored(records: &Records, d: DomId, first: u8, count: u8, values: &mut S
 }
 
 /// The values of all units of the domain d of the pool.
-fn push_stored_in(g: u8, pool: &Pool, d: DomId, values: &mut StoredList)
-    requires some { 0 < g }
-    requires few { g ≤ 4 }
+fn push_stored_in(granularity: u8, pool: &Pool, d: DomId, values: &mut StoredList)
+    requires some { 0 < granularity }
+    requires few { granularity ≤ 4 }
     requires fits { PoolFits pool.now }
     requires empty { values.old ≡ [] }
-    ensures { values.new ≡ stored_in g pool.now d.0 }
+    ensures { values.new ≡ stored_in granularity pool.now d.0 }
 {
     if let Some(domain) = item_at(pool.domains.as_slice(), d.0 as usize) {
-        let count = unit_count(g, domain);
+        let count = unit_count(granularity, domain);
         push_stored(&pool.scheduler.records, d, 0, count, values);
     }
 }
 
 /// The rate limit of the subject's pool, in microseconds, or 0 where there is none.
-fn rate_at(s: &State, subject: Subject) -> u32
-    ensures { result ≡ subject_rate s.entry.now subject }
+fn rate_at(state: &State, subject: Subject) -> u32
+    ensures { result ≡ subject_rate state.entry.now subject }
 {
     match subject.pool {
         None => 0,
-        Some(i) => match item_at(s.pools.as_slice(), i.0 as usize) {
+        Some(i) => match item_at(state.pools.as_slice(), i.0 as usize) {
             None => 0,
             Some(pool) => rate_of(&pool.scheduler.records),
         },
@@ -82,35 +82,35 @@ fn rate_at(s: &State, subject: Subject) -> u32
 }
 
 /// The set values of the units of the subject's domain, or none where there is no domain.
-fn stored_at(g: u8, s: &State, subject: Subject) -> StoredList
-    requires some { 0 < g }
-    requires few { g ≤ 4 }
-    requires fits { EachPlace PoolFits s.now.pools }
-    ensures { result ≡ subject_stored g s.entry.now subject }
+fn stored_at(granularity: u8, state: &State, subject: Subject) -> StoredList
+    requires some { 0 < granularity }
+    requires few { granularity ≤ 4 }
+    requires fits { EachPlace PoolFits state.now.pools }
+    ensures { result ≡ subject_stored granularity state.entry.now subject }
 {
     let mut values = Short::new();
     if let Some(d) = subject.dom
         && let Some(i) = subject.pool
-        && let Some(pool) = item_at(s.pools.as_slice(), i.0 as usize)
+        && let Some(pool) = item_at(state.pools.as_slice(), i.0 as usize)
     {
-        push_stored_in(g, pool, d, &mut values);
+        push_stored_in(granularity, pool, d, &mut values);
     }
     values
 }
 
 /// The rate limit of the subject's pool and the set values of the units of its domain.
-pub fn facts_at(g: u8, s: &State, subject: Subject) -> Facts
-    requires some { 0 < g }
-    requires few { g ≤ 4 }
-    requires fits { EachPlace PoolFits s.now.pools }
+pub fn facts_at(granularity: u8, state: &State, subject: Subject) -> Facts
+    requires some { 0 < granularity }
+    requires few { granularity ≤ 4 }
+    requires fits { EachPlace PoolFits state.now.pools }
     ensures { result ≡ record {
-      rate = subject_rate s.entry.now subject;
-      units = subject_stored g
-          s.entry.now subject;
+      rate = subject_rate state.entry.now subject;
+      units = subject_stored granularity
+          state.entry.now subject;
     } }
 {
     Facts {
-        rate: rate_at(s, subject),
-        units: stored_at(g, s, subject),
+        rate: rate_at(state, subject),
+        units: stored_at(granularity, state, subject),
     }
 }

@@ -22,10 +22,10 @@ use sched_model::state::{Pool, Records};
 use scheduler_records::rtds::{rtds_unit, set_next};
 
 /// The core is leaving the pool.
-pub fn set_leaving_at(i: usize, core: ResId, pools: &mut Row<Option<Pool>>)
-    ensures { pools.new ≡ change_at i (one_pool.pool_with_leaving core.0) pools.old }
+pub fn set_leaving_at(index: usize, core: ResId, pools: &mut Row<Option<Pool>>)
+    ensures { pools.new ≡ change_at index (one_pool.pool_with_leaving core.0) pools.old }
 {
-    if let Some(place) = pools.get_mut(i)
+    if let Some(place) = pools.get_mut(index)
         && let Some(pool) = place
     {
         set_leaving(core, pool);
@@ -33,10 +33,10 @@ pub fn set_leaving_at(i: usize, core: ResId, pools: &mut Row<Option<Pool>>)
 }
 
 /// The domain is moving to the pool j.
-pub fn set_moving_at(i: usize, d: DomId, j: u8, pools: &mut Row<Option<Pool>>)
-    ensures { pools.new ≡ change_at i (one_pool.pool_with_moving d.0 j) pools.old }
+pub fn set_moving_at(index: usize, d: DomId, j: u8, pools: &mut Row<Option<Pool>>)
+    ensures { pools.new ≡ change_at index (one_pool.pool_with_moving d.0 j) pools.old }
 {
-    if let Some(place) = pools.get_mut(i)
+    if let Some(place) = pools.get_mut(index)
         && let Some(pool) = place
     {
         set_moving(d, j, pool);
@@ -44,39 +44,39 @@ pub fn set_moving_at(i: usize, d: DomId, j: u8, pools: &mut Row<Option<Pool>>)
 }
 
 /// The domain is paused.
-pub fn pause_at(i: usize, d: DomId, pools: &mut Row<Option<Pool>>)
-    ensures { pools.new ≡ change_at i (one_pool.paused_pool d.0) pools.old }
+pub fn pause_at(index: usize, d: DomId, pools: &mut Row<Option<Pool>>)
+    ensures { pools.new ≡ change_at index (one_pool.paused_pool d.0) pools.old }
 {
-    if let Some(place) = pools.get_mut(i)
+    if let Some(place) = pools.get_mut(index)
         && let Some(pool) = place
     {
         pause(d, pool);
     }
 }
 
-/// The domain is no longer paused. A core has g processors.
-pub fn unpause_at(g: u8, i: usize, d: DomId, pools: &mut Row<Option<Pool>>)
-    requires some { 0 < g }
-    requires few { g ≤ 4 }
+/// The domain is no longer paused.
+pub fn unpause_at(granularity: u8, index: usize, d: DomId, pools: &mut Row<Option<Pool>>)
+    requires some { 0 < granularity }
+    requires few { granularity ≤ 4 }
     requires fits { EachPlace PoolFits pools.old }
-    requires room { EachPlace FewWait (change_at i (one_pool.unpaused_pool g d.0) pools.old) }
-    ensures { pools.new ≡ change_at i (one_pool.unpaused_pool g d.0) pools.old }
+    requires room { EachPlace FewWait (change_at index (one_pool.unpaused_pool granularity d.0) pools.old) }
+    ensures { pools.new ≡ change_at index (one_pool.unpaused_pool granularity d.0) pools.old }
 {
-    if let Some(place) = pools.get_mut(i)
+    if let Some(place) = pools.get_mut(index)
         && let Some(pool) = place
     {
-        unpause(g, d, pool);
+        unpause(granularity, d, pool);
     }
 }
 
 /// The scheduler's parameters change at t.
-pub fn set_params_at(i: usize, change: ParamChange, t: Moment, pools: &mut Row<Option<Pool>>)
+pub fn set_params_at(index: usize, change: ParamChange, t: Moment, pools: &mut Row<Option<Pool>>)
     requires change { ChangeFits change }
     requires early { t.0 ≤ most_span }
     requires fits { EachPlace (FitsAt t.0) pools.old }
-    ensures { pools.new ≡ change_at i (one_pool.changed_pool change t.0) pools.old }
+    ensures { pools.new ≡ change_at index (one_pool.changed_pool change t.0) pools.old }
 {
-    if let Some(place) = pools.get_mut(i)
+    if let Some(place) = pools.get_mut(index)
         && let Some(pool) = place
     {
         set_params(change, t, pool);
@@ -115,9 +115,9 @@ fn set_rtds(d: DomId, first: u8, count: u8, given: RtdsGiven, pool: &mut Pool)
     set_rtds(d, first + 1, count - 1, given, pool);
 }
 
-/// The same in the pool i.
+/// The same in this pool.
 pub fn set_rtds_at(
-    i: usize,
+    index: usize,
     d: DomId,
     first: u8,
     count: u8,
@@ -125,11 +125,11 @@ pub fn set_rtds_at(
     pools: &mut Row<Option<Pool>>,
 )
     requires few { first + count ≤ 255 }
-    ensures { (t : ℕ) → pools.new ≡ change_at i
+    ensures { (t : ℕ) → pools.new ≡ change_at index
         (pool_with_rtds t d.0 given.period given.budget given.extra (numbers_from first count))
         pools.old }
 {
-    if let Some(place) = pools.get_mut(i)
+    if let Some(place) = pools.get_mut(index)
         && let Some(pool) = place
     {
         set_rtds(d, first, count, given, pool);

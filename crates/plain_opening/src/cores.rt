@@ -17,13 +17,13 @@ use sched_model::state::{FreeCore, Resource};
 use std::alloc::Global;
 
 /// The core r, where it is in the set.
-fn core_of_set(cores: u64, r: ResId, g: u8) -> Option<Resource>
-    requires few { g ≤ 4 }
+fn core_of_set(cores: u64, r: ResId, granularity: u8) -> Option<Resource>
+    requires few { granularity ≤ 4 }
     requires core { r.0 < 64 }
-    ensures { result ≡ opening_core g cores r.0 }
+    ensures { result ≡ opening_core granularity cores r.0 }
 {
     if has_core(cores, r) {
-        Some(fresh_core(&no_stalls(g)))
+        Some(fresh_core(&no_stalls(granularity)))
     } else {
         None
     }
@@ -35,16 +35,16 @@ pub fn fresh_cores(
     alloc: Global,
     cores: u64,
     count: u8,
-    g: u8,
+    granularity: u8,
 ) -> Result<Row<Option<Resource>>, NoMemory>
-    requires few { g ≤ 4 }
+    requires few { granularity ≤ 4 }
     requires count { count ≤ 64 }
-    ensures cores { IfOk result (λ row. row ≡ map (opening_core g cores) (numbers_from 0 count)) }
+    ensures cores { IfOk result (λ row. row ≡ map (opening_core granularity cores) (numbers_from 0 count)) }
     ensures few { IfOk result (λ row. length row ≤ 64) }
 {
     let mut places = Vec::new(alloc);
     for r in 0..count {
-        places.push(core_of_set(cores, ResId(r), g))?;
+        places.push(core_of_set(cores, ResId(r), granularity))?;
     }
     Ok(Row::from_vec(places))
 }

@@ -21,17 +21,17 @@ use sched_model::state::{Domain, Pool, State};
 use scheduler_records::pins::pin;
 use std::alloc::Global;
 
-/// The sets of cores of the units of the domain d set, the first of them that of unit n.
+/// The sets of cores of the units of the domain d set, the first of them that of this unit.
 #[tactic(auto, using(crate::proofs::Queues::pinned_once))]
-fn with_pins(d: DomId, n: u8, pins: &[Cores], pool: &mut Pool)
-    requires few { n + length pins.now ≤ 32 }
-    ensures { pool.new ≡ pool_with_pins d.0 n pins.now pool.old }
+fn with_pins(d: DomId, first: u8, pins: &[Cores], pool: &mut Pool)
+    requires few { first + length pins.now ≤ 32 }
+    ensures { pool.new ≡ pool_with_pins d.0 first pins.now pool.old }
 {
     match pins {
         [] => {}
         [cores, rest @ ..] => {
-            pin(d, Some(n), *cores, &mut pool.scheduler.affinity);
-            with_pins(d, n + 1, rest, pool);
+            pin(d, Some(first), *cores, &mut pool.scheduler.affinity);
+            with_pins(d, first + 1, rest, pool);
         }
     }
 }
@@ -40,18 +40,18 @@ fn with_pins(d: DomId, n: u8, pins: &[Cores], pool: &mut Pool)
 #[tactic(auto, using(crate::proofs::Queues::cores_by_configured))]
 fn with_configured(
     alloc: Global,
-    g: u8,
+    granularity: u8,
     d: DomId,
     joining: &DomConfig,
     pool: &mut Pool,
 ) -> Result<(), NoMemory>
-    requires some { 0 < g }
-    requires few { g ≤ 4 }
+    requires some { 0 < granularity }
+    requires few { granularity ≤ 4 }
     requires cores { length pool.old.resources ≤ 64 }
     requires guests { length joining.now.guests ≤ 32 }
     requires params { ParamsFit joining.now.params }
-    requires room { FewWait (pool_with_configured g d.0 joining.now pool.old) }
-    ensures pool { OnOk result (pool.new ≡ pool_with_configured g d.0 joining.now pool.old) }
+    requires room { FewWait (pool_with_configured granularity d.0 joining.now pool.old) }
+    ensures pool { OnOk result (pool.new ≡ pool_with_configured granularity d.0 joining.now pool.old) }
     ensures cores { OnOk result (pool.new.resources ≡ pool.old.resources) }
 {
     let fresh = Domain {
@@ -59,68 +59,73 @@ fn with_configured(
         moving: None,
         vcpus: fresh_vcpus(alloc, joining.guests.as_slice())?,
     };
-    with_domain(g, Moment(0), d, fresh, &joining.params, pool);
+    with_domain(granularity, Moment(0), d, fresh, &joining.params, pool);
     with_pins(d, 0, joining.pins.as_slice(), pool);
     Ok(())
 }
 
-/// The domain d of the file joins the pool i, where this is its home.
+/// The domain d of the file joins this pool, where this is its home.
 fn configured_if(
     alloc: Global,
-    g: u8,
-    i: u8,
+    granularity: u8,
+    place: u8,
     d: DomId,
     joining: &DomConfig,
     pool: &mut Pool,
 ) -> Result<(), NoMemory>
-    requires some { 0 < g }
-    requires few { g ≤ 4 }
+    requires some { 0 < granularity }
+    requires few { granularity ≤ 4 }
     requires cores { length pool.old.resources ≤ 64 }
     requires fits { JoinFits joining.now }
-    requires room { FewWait (pool_after_domain g i d.0 joining.now pool.old) }
-    ensures pool { OnOk result (pool.new ≡ pool_after_domain g i d.0 joining.now pool.old) }
+    requires room { FewWait (pool_after_domain granularity place d.0 joining.now pool.old) }
+    ensures pool { OnOk result (pool.new ≡ pool_after_domain granularity place d.0 joining.now pool.old) }
     ensures cores { OnOk result (pool.new.resources ≡ pool.old.resources) }
 {
-    if joining.home.0 == i {
-        with_configured(alloc, g, d, joining, pool)
+    if joining.home.0 == place {
+        with_configured(alloc, granularity, d, joining, pool)
     } else {
         Ok(())
     }
 }
 
-/// The domains whose home is the pool i join it, the first of the list being the domain d.
+/// The domains whose home is this pool join it, the first of the list being the domain d.
 #[tactic(auto, using(crate::proofs::Queues::room_of_first))]
 fn with_domains(
     alloc: Global,
-    g: u8,
-    i: u8,
+    granularity: u8,
+    place: u8,
     d: DomId,
     domains: &[DomConfig],
     pool: &mut Pool,
 ) -> Result<(), NoMemory>
-    requires some { 0 < g }
-    requires few { g ≤ 4 }
+    requires some { 0 < granularity }
+    requires few { granularity ≤ 4 }
     requires cores { length pool.old.resources ≤ 64 }
     requires domains { All JoinFits domains.now }
     requires count { d.0 + length domains.now ≤ 64 }
-    requires room { FewWait (pool_with_domains g i d.0 domains.now pool.old) }
-    ensures { OnOk result (pool.new ≡ pool_with_domains g i d.0 domains.now pool.old) }
+    requires room { FewWait (pool_with_domains granularity place d.0 domains.now pool.old) }
+    ensures { OnOk result (pool.new ≡ pool_with_domains granularity place d.0 domains.now pool.old) }
 {
     match domains {
         [] => Ok(()),
         [joining, rest @ ..] => {
-            configured_if(alloc, g, i, d, joining, pool)?;
-            with_domains(alloc, g, i, DomId(d.0 + 1), rest, pool)
+            configured_if(alloc, granularity, place, d, joining, pool)?;
+            with_domains(alloc, granularity, place, DomId(d.0 + 1), rest, pool)
         }
     }
 }
 
-/// The pool i with its cores and domains.
+/// This pool with its cores and domains.
 #[tactic(auto, using(crate::proofs::Joining::joins_fit))]
-fn opening_pool(alloc: Global, config: &Config, i: u8, pool: &PoolConfig) -> Result<Pool, NoMemory>
+fn opening_pool(
+    alloc: Global,
+    config: &Config,
+    place: u8,
+    pool: &PoolConfig,
+) -> Result<Pool, NoMemory>
     requires checked { IsCheckedConfig config.now }
-    requires room { FewWait (pool_at_opening config.now i pool.now) }
-    ensures { IfOk result (λ opened. opened ≡ pool_at_opening config.now i pool.now) }
+    requires room { FewWait (pool_at_opening config.now place pool.now) }
+    ensures { IfOk result (λ opened. opened ≡ pool_at_opening config.now place pool.now) }
 {
     let g = config.granularity;
     let cores = fresh_cores(alloc, pool.cores, core_count(config), g)?;
@@ -128,7 +133,7 @@ fn opening_pool(alloc: Global, config: &Config, i: u8, pool: &PoolConfig) -> Res
     match with_domains(
         alloc,
         g,
-        i,
+        place,
         DomId(0),
         config.domains.as_slice(),
         &mut opened,
@@ -174,26 +179,26 @@ fn opening_names(alloc: Global, pools: &[PoolConfig]) -> Result<Row<Option<Name>
     Ok(Row::from_vec(names))
 }
 
-/// Adds the pools of the list, the first of them with the number i.
+/// Adds the pools of the list, the first of them with this number.
 #[tactic(auto, using(crate::proofs::Growing::pushed_before))]
 fn push_pools(
     alloc: Global,
     config: &Config,
-    i: u8,
+    place: u8,
     pools: &[PoolConfig],
     places: &mut Vec<Option<Pool>>,
 ) -> Result<(), NoMemory>
     requires checked { IsCheckedConfig config.now }
-    requires few { i + length pools.now ≤ 16 }
-    requires room { AllFewWait config.now i pools.now }
+    requires few { place + length pools.now ≤ 16 }
+    requires room { AllFewWait config.now place pools.now }
     ensures { OnOk result (places.new.items ≡ places.old.items
-        ++ pools_at_opening config.now i pools.now) }
+        ++ pools_at_opening config.now place pools.now) }
 {
     match pools {
         [] => Ok(()),
         [pool, rest @ ..] => {
-            places.push(Some(opening_pool(alloc, config, i, pool)?))?;
-            push_pools(alloc, config, i + 1, rest, places)
+            places.push(Some(opening_pool(alloc, config, place, pool)?))?;
+            push_pools(alloc, config, place + 1, rest, places)
         }
     }
 }
@@ -230,11 +235,11 @@ fn opening_pools(alloc: Global, config: &Config) -> Result<Row<Option<Pool>>, No
 
 /// The state at the opening of a machine whose values have passed the checks of the domain file and of the work file.
 #[tactic(auto, using(crate::proofs::Room::few_wait))]
-pub fn open_state(alloc: Global, m: &Machine) -> Result<State, NoMemory>
-    requires { IsChecked m.now }
-    ensures { IfOk result (λ s. s ≡ opening m.now) }
+pub fn open_state(alloc: Global, machine: &Machine) -> Result<State, NoMemory>
+    requires { IsChecked machine.now }
+    ensures { IfOk result (λ s. s ≡ opening machine.now) }
 {
-    let config = &m.config;
+    let config = &machine.config;
     let names = opening_names(alloc, config.pools.as_slice())?;
     let free = free_cores(alloc, config, core_count(config))?;
     Ok(State {

@@ -111,13 +111,13 @@ fn spare_for(alloc: Global, config: &Config, line: &CommandLine) -> Result<Optio
 }
 
 /// The pools that the commands of the work file may make: one place for each command, with the pool that it makes.
-pub fn open_spares(alloc: Global, m: &Machine) -> Result<Row<Option<Pool>>, NoMemory>
-    requires { 0 < m.now.config.granularity }
-    ensures { IfOk result (λ spares. spares ≡ spares_of m.now) }
+pub fn open_spares(alloc: Global, machine: &Machine) -> Result<Row<Option<Pool>>, NoMemory>
+    requires { 0 < machine.now.config.granularity }
+    ensures { IfOk result (λ spares. spares ≡ spares_of machine.now) }
 {
     let mut spares = Vec::new(alloc);
-    for line in m.work.commands.as_slice() {
-        spares.push(spare_for(alloc, &m.config, line)?)?;
+    for line in machine.work.commands.as_slice() {
+        spares.push(spare_for(alloc, &machine.config, line)?)?;
     }
     Ok(Row::from_vec(spares))
 }

@@ -1,4 +1,4 @@
-//! A core decides. g is the number of a core's processors, t the moment.
+//! A core decides.
 
 ghost use Rattle.sched_model.specs.CheckedMachine.{most_span};
 ghost use Rattle.std.specs.Prelude.{◌≡◌, ◌≤◌, length, IsTrue};
@@ -22,19 +22,19 @@ use sched_model::state::{Pool, Resource, Stage};
 use sched_model::units::is_same_choice;
 
 /// What the core asks its scheduler.
-pub fn ask_of(g: u8, t: Moment, pool: &Pool, r: ResId, c: &Resource) -> Ask
+pub fn ask_of(granularity: u8, t: Moment, pool: &Pool, r: ResId, core: &Resource) -> Ask
     requires { length pool.now.resources ≤ 64 }
-    ensures { result ≡ core_ask g t.0 pool.now r.0 c.now }
+    ensures { result ≡ core_ask granularity t.0 pool.now r.0 core.now }
 {
-    let runnable = match c.cur {
+    let runnable = match core.cur {
         None => false,
-        Some(u) => is_runnable(g, pool.domains.as_slice(), u),
+        Some(u) => is_runnable(granularity, pool.domains.as_slice(), u),
     };
     Ask {
-        cur: c.cur,
+        cur: core.cur,
         runnable,
-        since: c.since,
-        leaving: c.leaving,
+        since: core.since,
+        leaving: core.leaving,
         at: t,
         core: r,
         home: Cores(home_cores(pool.resources.as_slice())),
@@ -42,17 +42,17 @@ pub fn ask_of(g: u8, t: Moment, pool: &Pool, r: ResId, c: &Resource) -> Ask
 }
 
 /// The core with what was decided.
-fn set_decided(t: Moment, answer: Decided, c: &mut Resource)
-    ensures { c.new ≡ decided_by t.0 answer c.old }
+fn set_decided(t: Moment, answer: Decided, core: &mut Resource)
+    ensures { core.new ≡ decided_by t.0 answer core.old }
 {
-    if !is_same_choice(answer.unit, c.cur) {
-        c.saving = c.cur;
-        c.cur = answer.unit;
-        c.since = t;
+    if !is_same_choice(answer.unit, core.cur) {
+        core.saving = core.cur;
+        core.cur = answer.unit;
+        core.since = t;
     }
-    c.due = answer.due;
-    c.pending = false;
-    c.stage = Stage::Decided;
+    core.due = answer.due;
+    core.pending = false;
+    core.stage = Stage::Decided;
 }
 
 /// What was decided at the core with this number.
@@ -67,18 +67,18 @@ fn set_decided_at(t: Moment, r: ResId, answer: Decided, cores: &mut Row<Option<R
 }
 
 /// The core decides: its scheduler chooses, and its old unit, where it is another, is to be saved.
-pub fn decide(g: u8, t: Moment, r: ResId, pool: &mut Pool) -> Event
-    requires enabled { IsTrue (enabled_in g t.0 pool.old (Decide r)) }
+pub fn decide(granularity: u8, t: Moment, r: ResId, pool: &mut Pool) -> Event
+    requires enabled { IsTrue (enabled_in granularity t.0 pool.old (Decide r)) }
     requires early { t.0 ≤ most_span }
     requires fits { PoolFits pool.old }
     requires records { RecordsFit t.0 pool.old.scheduler.records }
-    ensures event { result ≡ event_in g t.0 pool.old (Decide r) }
-    ensures pool { pool.new ≡ after_in g t.0 pool.old (Decide r) }
+    ensures event { result ≡ event_in granularity t.0 pool.old (Decide r) }
+    ensures pool { pool.new ≡ after_in granularity t.0 pool.old (Decide r) }
 {
     let Some(c) = item_at(pool.resources.as_slice(), r.0 as usize) else {
         unreachable!();
     };
-    let ask = ask_of(g, t, pool, r, c);
+    let ask = ask_of(granularity, t, pool, r, c);
     let late = lateness_of(t, c);
     let answer = decide_by_policy(&mut pool.scheduler, &ask);
     set_decided_at(t, r, answer, &mut pool.resources);

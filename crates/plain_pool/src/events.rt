@@ -1,4 +1,4 @@
-//! The events of one pool, before its cores are looked at. g is the number of a core's processors, t the moment.
+//! The events of one pool, before its cores are looked at.
 
 ghost use Rattle.sched_model.specs.CheckedMachine.{most_span};
 ghost use Rattle.std.specs.Prelude.{◌≡◌, ◌<◌, ◌≤◌, length, IsTrue, true};
@@ -24,36 +24,36 @@ use sched_model::places::item_at;
 use sched_model::state::{Doing, Pool, Resource};
 
 /// The core's due has come.
-pub fn slice(g: u8, t: Moment, r: ResId, pool: &mut Pool) -> Event
-    ensures event { result ≡ event_in g t.0 pool.old (Slice r) }
-    ensures pool { pool.new ≡ after_in g t.0 pool.old (Slice r) }
+pub fn slice(granularity: u8, t: Moment, r: ResId, pool: &mut Pool) -> Event
+    ensures event { result ≡ event_in granularity t.0 pool.old (Slice r) }
+    ensures pool { pool.new ≡ after_in granularity t.0 pool.old (Slice r) }
 {
     set_pending(r, &mut pool.resources);
     Event::Slice { r }
 }
 
 /// The processor arrives: its vCPU stops, and it waits for its siblings.
-pub fn arrive(g: u8, t: Moment, p: ProcId, pool: &mut Pool) -> Event
-    requires { 0 < g }
-    ensures event { result ≡ event_in g t.0 pool.old (Arrive p) }
-    ensures pool { pool.new ≡ after_in g t.0 pool.old (Arrive p) }
+pub fn arrive(granularity: u8, t: Moment, p: ProcId, pool: &mut Pool) -> Event
+    requires { 0 < granularity }
+    ensures event { result ≡ event_in granularity t.0 pool.old (Arrive p) }
+    ensures pool { pool.new ≡ after_in granularity t.0 pool.old (Arrive p) }
 {
-    if let Some(v) = guest_of(g, pool, p) {
+    if let Some(v) = guest_of(granularity, pool, p) {
         stop_vcpu(&mut pool.domains, v, t);
     }
-    change_doing(g, p, Doing::Held, &mut pool.resources);
+    change_doing(granularity, p, Doing::Held, &mut pool.resources);
     Event::Arrive { p }
 }
 
 /// The vCPU of the core's cur that belongs on the core's i-th processor, where cur is runnable and that vCPU is there and awake.
-pub fn vcpu_for(g: u8, pool: &Pool, c: &Resource, i: u8) -> Option<VcpuId>
-    requires few { g ≤ 4 }
-    requires place { i < 4 }
+pub fn vcpu_for(granularity: u8, pool: &Pool, core: &Resource, sibling: u8) -> Option<VcpuId>
+    requires few { granularity ≤ 4 }
+    requires place { sibling < 4 }
     requires fits { PoolFits pool.now }
-    ensures { result ≡ vcpu_to_run g pool.now c.now i }
+    ensures { result ≡ vcpu_to_run granularity pool.now core.now sibling }
 {
-    let u = c.cur?;
-    let n = u.n as usize * g as usize + i as usize;
+    let u = core.cur?;
+    let n = u.n as usize * granularity as usize + sibling as usize;
     if n >= 32 {
         return None;
     }
@@ -62,7 +62,7 @@ pub fn vcpu_for(g: u8, pool: &Pool, c: &Resource, i: u8) -> Option<VcpuId>
         n: n as u8,
     };
     let x = vcpu_of(pool.domains.as_slice(), v)?;
-    if is_runnable(g, pool.domains.as_slice(), u) && x.asleep_until.is_none() {
+    if is_runnable(granularity, pool.domains.as_slice(), u) && x.asleep_until.is_none() {
         Some(v)
     } else {
         None
@@ -70,34 +70,34 @@ pub fn vcpu_for(g: u8, pool: &Pool, c: &Resource, i: u8) -> Option<VcpuId>
 }
 
 /// The processor leaves the meeting with the vCPU of its place in the core's unit, or idles; the last one opens the stage.
-pub fn leave(g: u8, t: Moment, p: ProcId, pool: &mut Pool) -> Event
-    requires enabled { IsTrue (enabled_in g t.0 pool.old (Leave p)) }
-    requires some { 0 < g }
-    requires few { g ≤ 4 }
+pub fn leave(granularity: u8, t: Moment, p: ProcId, pool: &mut Pool) -> Event
+    requires enabled { IsTrue (enabled_in granularity t.0 pool.old (Leave p)) }
+    requires some { 0 < granularity }
+    requires few { granularity ≤ 4 }
     requires fits { PoolFits pool.old }
-    ensures event { result ≡ event_in g t.0 pool.old (Leave p) }
-    ensures pool { pool.new ≡ after_in g t.0 pool.old (Leave p) }
+    ensures event { result ≡ event_in granularity t.0 pool.old (Leave p) }
+    ensures pool { pool.new ≡ after_in granularity t.0 pool.old (Leave p) }
 {
-    let Some(c) = item_at(pool.resources.as_slice(), (p.0 / g) as usize) else {
+    let Some(c) = item_at(pool.resources.as_slice(), (p.0 / granularity) as usize) else {
         unreachable!();
     };
-    let v = vcpu_for(g, pool, c, p.0 % g);
-    take(g, t, p, v, pool);
-    open_if_left(ResId(p.0 / g), &mut pool.resources);
+    let v = vcpu_for(granularity, pool, c, p.0 % granularity);
+    take(granularity, t, p, v, pool);
+    open_if_left(ResId(p.0 / granularity), &mut pool.resources);
     Event::Leave { p, v }
 }
 
 /// The saved unit waits at the end of the queue where it is runnable, and else is off.
-pub fn save(g: u8, t: Moment, r: ResId, pool: &mut Pool) -> Event
-    requires enabled { IsTrue (enabled_in g t.0 pool.old (Save r)) }
-    requires room { length (after_in g t.0 pool.old (Save r)).scheduler.queue ≤ 256 }
-    ensures event { result ≡ event_in g t.0 pool.old (Save r) }
-    ensures pool { pool.new ≡ after_in g t.0 pool.old (Save r) }
+pub fn save(granularity: u8, t: Moment, r: ResId, pool: &mut Pool) -> Event
+    requires enabled { IsTrue (enabled_in granularity t.0 pool.old (Save r)) }
+    requires room { length (after_in granularity t.0 pool.old (Save r)).scheduler.queue ≤ 256 }
+    ensures event { result ≡ event_in granularity t.0 pool.old (Save r) }
+    ensures pool { pool.new ≡ after_in granularity t.0 pool.old (Save r) }
 {
     let Some(u) = take_saved(r, &mut pool.resources) else {
         unreachable!();
     };
-    let queued = is_runnable(g, pool.domains.as_slice(), u);
+    let queued = is_runnable(granularity, pool.domains.as_slice(), u);
     if queued {
         enqueue(u, &mut pool.scheduler);
     }
@@ -105,28 +105,28 @@ pub fn save(g: u8, t: Moment, r: ResId, pool: &mut Pool) -> Event
 }
 
 /// The event happens in the pool, before the pool's cores are looked at.
-pub fn happen(g: u8, t: Moment, action: Action, pool: &mut Pool) -> Event
-    requires some { 0 < g }
-    requires few { g ≤ 4 }
+pub fn happen(granularity: u8, t: Moment, action: Action, pool: &mut Pool) -> Event
+    requires some { 0 < granularity }
+    requires few { granularity ≤ 4 }
     requires early { t.0 ≤ most_span }
     requires fits { PoolFits pool.old }
     requires records { RecordsFit t.0 pool.old.scheduler.records }
-    requires enabled { enabled_in g t.0 pool.old action ≡ true }
+    requires enabled { enabled_in granularity t.0 pool.old action ≡ true }
     requires own { IsOfPool action }
-    requires room { length (after_in g t.0 pool.old action).scheduler.queue ≤ 256 }
-    ensures event { result ≡ event_in g t.0 pool.old action }
-    ensures pool { pool.new ≡ after_in g t.0 pool.old action }
+    requires room { length (after_in granularity t.0 pool.old action).scheduler.queue ≤ 256 }
+    ensures event { result ≡ event_in granularity t.0 pool.old action }
+    ensures pool { pool.new ≡ after_in granularity t.0 pool.old action }
 {
     match action {
-        Action::Wake(v) => wake(g, t, v, pool),
-        Action::Block(p) => block(g, t, p, pool),
-        Action::Slice(r) => slice(g, t, r, pool),
-        Action::Repl(u) => replenish(g, t, u, pool),
-        Action::Refill(d) => refill(g, t, d, pool),
-        Action::Arrive(p) => arrive(g, t, p, pool),
-        Action::Decide(r) => decide(g, t, r, pool),
-        Action::Leave(p) => leave(g, t, p, pool),
-        Action::Save(r) => save(g, t, r, pool),
+        Action::Wake(v) => wake(granularity, t, v, pool),
+        Action::Block(p) => block(granularity, t, p, pool),
+        Action::Slice(r) => slice(granularity, t, r, pool),
+        Action::Repl(u) => replenish(granularity, t, u, pool),
+        Action::Refill(d) => refill(granularity, t, d, pool),
+        Action::Arrive(p) => arrive(granularity, t, p, pool),
+        Action::Decide(r) => decide(granularity, t, r, pool),
+        Action::Leave(p) => leave(granularity, t, p, pool),
+        Action::Save(r) => save(granularity, t, r, pool),
         _ => unreachable!(),
     }
 }

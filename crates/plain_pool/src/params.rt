@@ -16,12 +16,12 @@ use sched_model::row::Row;
 use sched_model::state::{Pool, Resource};
 
 /// The core is to decide anew, and is due now, where it runs a unit of the domain.
-fn make_core_due(d: DomId, t: Moment, c: &mut Resource)
-    ensures { c.new ≡ due_now_of d.0 t.0 0 c.old }
+fn make_core_due(d: DomId, t: Moment, core: &mut Resource)
+    ensures { core.new ≡ due_now_of d.0 t.0 0 core.old }
 {
-    if is_of_domain(d, c.cur) {
-        c.pending = true;
-        c.due = Some(t);
+    if is_of_domain(d, core.cur) {
+        core.pending = true;
+        core.due = Some(t);
     }
 }
 

@@ -1,4 +1,4 @@
-//! Domains that are paused or leave for another pool. g is the number of a core's processors.
+//! Domains that are paused or leave for another pool.
 
 ghost use Rattle.std.specs.Prelude.{◌≡◌, ◌<◌, ◌≤◌, length};
 ghost use Rattle.sched_model.specs.Places.{change_each};
@@ -60,17 +60,17 @@ pub fn pause(d: DomId, pool: &mut Pool)
 }
 
 /// How many units the domain has, where it is there and paused.
-fn paused_units(g: u8, d: DomId, domains: &[Option<Domain>]) -> Option<u8>
-    requires some { 0 < g }
-    requires few { g ≤ 4 }
+fn paused_units(granularity: u8, d: DomId, domains: &[Option<Domain>]) -> Option<u8>
+    requires some { 0 < granularity }
+    requires few { granularity ≤ 4 }
     requires fits { AllPlaces DomainFits domains.now }
-    ensures { result ≡ paused_count g d.0 domains.now }
+    ensures { result ≡ paused_count granularity d.0 domains.now }
 {
     match item_at(domains, d.0 as usize) {
         None => None,
         Some(domain) => {
             if domain.paused {
-                Some(unit_count(g, domain))
+                Some(unit_count(granularity, domain))
             } else {
                 None
             }
@@ -79,23 +79,23 @@ fn paused_units(g: u8, d: DomId, domains: &[Option<Domain>]) -> Option<u8>
 }
 
 /// The domain is no longer paused, and its units that may run wait. Nothing changes where it is not paused.
-pub fn unpause(g: u8, d: DomId, pool: &mut Pool)
-    requires some { 0 < g }
-    requires few { g ≤ 4 }
+pub fn unpause(granularity: u8, d: DomId, pool: &mut Pool)
+    requires some { 0 < granularity }
+    requires few { granularity ≤ 4 }
     requires fits { PoolFits pool.old }
-    requires room { length (unpaused_pool g d.0 pool.old).scheduler.queue ≤ 256 }
-    ensures { pool.new ≡ unpaused_pool g d.0 pool.old }
+    requires room { length (unpaused_pool granularity d.0 pool.old).scheduler.queue ≤ 256 }
+    ensures { pool.new ≡ unpaused_pool granularity d.0 pool.old }
 {
-    if let Some(count) = paused_units(g, d, pool.domains.as_slice()) {
+    if let Some(count) = paused_units(granularity, d, pool.domains.as_slice()) {
         set_paused(d, false, &mut pool.domains);
-        queue_units(g, d, count, pool);
+        queue_units(granularity, d, count, pool);
     }
 }
 
-/// The domain is moving to the pool i: its units stop waiting, and the cores that run one are to decide anew.
-pub fn set_moving(d: DomId, i: u8, pool: &mut Pool)
-    ensures { pool.new ≡ pool_with_moving d.0 i pool.old }
+/// The domain is moving to this pool: its units stop waiting, and the cores that run one are to decide anew.
+pub fn set_moving(d: DomId, place: u8, pool: &mut Pool)
+    ensures { pool.new ≡ pool_with_moving d.0 place pool.old }
 {
-    set_target(d, Some(PoolId(i)), &mut pool.domains);
+    set_target(d, Some(PoolId(place)), &mut pool.domains);
     withdraw(d, pool);
 }

@@ -1,4 +1,4 @@
-//! When the events of one pool may come. g is the number of a core's processors, t the moment.
+//! When the events of one pool may come.
 
 ghost use Rattle.std.specs.Prelude.{◌≡◌, ◌<◌, ◌≤◌, ◌/◌, ◌%◌, length, Some, None, false};
 ghost use Rattle.std.specs.Option.{option_copied};
@@ -20,20 +20,20 @@ use sched_model::places::item_at;
 use sched_model::state::{Doing, Pool, Processor};
 
 /// The processor with this number.
-pub fn processor_of(g: u8, pool: &Pool, p: ProcId) -> Option<&Processor>
-    requires { 0 < g }
-    ensures { option_copied result ≡ pool_processor g pool.now p.0 }
+pub fn processor_of(granularity: u8, pool: &Pool, p: ProcId) -> Option<&Processor>
+    requires { 0 < granularity }
+    ensures { option_copied result ≡ pool_processor granularity pool.now p.0 }
 {
-    let c = item_at(pool.resources.as_slice(), (p.0 / g) as usize)?;
-    c.processors.as_slice().get((p.0 % g) as usize)
+    let c = item_at(pool.resources.as_slice(), (p.0 / granularity) as usize)?;
+    c.processors.as_slice().get((p.0 % granularity) as usize)
 }
 
 /// The vCPU that the processor runs.
-pub fn guest_of(g: u8, pool: &Pool, p: ProcId) -> Option<VcpuId>
-    requires { 0 < g }
-    ensures { result ≡ running_guest g pool.now p.0 }
+pub fn guest_of(granularity: u8, pool: &Pool, p: ProcId) -> Option<VcpuId>
+    requires { 0 < granularity }
+    ensures { result ≡ running_guest granularity pool.now p.0 }
 {
-    match processor_of(g, pool, p) {
+    match processor_of(granularity, pool, p) {
         None => None,
         Some(q) => match q.doing {
             Doing::Guest(v) => Some(v),
@@ -57,9 +57,9 @@ fn lowest_up(t: Moment, pool: &Pool) -> bool
 }
 
 /// Whether the domain is moving, and no unit of it is on a core.
-fn may_dom_moved(g: u8, t: Moment, pool: &Pool, d: DomId) -> bool
+fn may_dom_moved(granularity: u8, t: Moment, pool: &Pool, d: DomId) -> bool
     requires { length pool.now.resources ≤ 64 }
-    ensures { result ≡ enabled_in g t.0 pool.now (DomMoved d) }
+    ensures { result ≡ enabled_in granularity t.0 pool.now (DomMoved d) }
 {
     match item_at(pool.domains.as_slice(), d.0 as usize) {
         None => false,
@@ -68,8 +68,8 @@ fn may_dom_moved(g: u8, t: Moment, pool: &Pool, d: DomId) -> bool
 }
 
 /// Whether the core may be moved: it is leaving, and nothing is on it.
-fn may_moved(g: u8, t: Moment, pool: &Pool, r: ResId) -> bool
-    ensures { result ≡ enabled_in g t.0 pool.now (Moved r) }
+fn may_moved(granularity: u8, t: Moment, pool: &Pool, r: ResId) -> bool
+    ensures { result ≡ enabled_in granularity t.0 pool.now (Moved r) }
 {
     match item_at(pool.resources.as_slice(), r.0 as usize) {
         None => false,
@@ -85,8 +85,8 @@ fn may_moved(g: u8, t: Moment, pool: &Pool, r: ResId) -> bool
 }
 
 /// Whether the vCPU sleeps and its wake moment has come.
-fn may_wake(g: u8, t: Moment, pool: &Pool, v: VcpuId) -> bool
-    ensures { result ≡ enabled_in g t.0 pool.now (Wake v) }
+fn may_wake(granularity: u8, t: Moment, pool: &Pool, v: VcpuId) -> bool
+    ensures { result ≡ enabled_in granularity t.0 pool.now (Wake v) }
 {
     match vcpu_of(pool.domains.as_slice(), v) {
         None => false,
@@ -106,31 +106,31 @@ fn is_done(t: Moment, pool: &Pool, v: VcpuId) -> bool
 }
 
 /// Whether the processor is there and up at t.
-fn is_processor_up(g: u8, t: Moment, pool: &Pool, p: ProcId) -> bool
-    requires { 0 < g }
-    ensures { result ≡ processor_up g t.0 pool.now p.0 }
+fn is_processor_up(granularity: u8, t: Moment, pool: &Pool, p: ProcId) -> bool
+    requires { 0 < granularity }
+    ensures { result ≡ processor_up granularity t.0 pool.now p.0 }
 {
-    match processor_of(g, pool, p) {
+    match processor_of(granularity, pool, p) {
         None => false,
         Some(q) => is_up(t, q),
     }
 }
 
 /// Whether the processor runs a vCPU whose work is done, and is up.
-fn may_block(g: u8, t: Moment, pool: &Pool, p: ProcId) -> bool
-    requires some { 0 < g }
+fn may_block(granularity: u8, t: Moment, pool: &Pool, p: ProcId) -> bool
+    requires some { 0 < granularity }
     requires fits { PoolFits pool.now }
-    ensures { result ≡ enabled_in g t.0 pool.now (Block p) }
+    ensures { result ≡ enabled_in granularity t.0 pool.now (Block p) }
 {
-    match guest_of(g, pool, p) {
+    match guest_of(granularity, pool, p) {
         None => false,
-        Some(v) => is_done(t, pool, v) && is_processor_up(g, t, pool, p),
+        Some(v) => is_done(t, pool, v) && is_processor_up(granularity, t, pool, p),
     }
 }
 
 /// Whether the core's due has come, it is not pending yet, and its first processor is up.
-fn may_slice(g: u8, t: Moment, pool: &Pool, r: ResId) -> bool
-    ensures { result ≡ enabled_in g t.0 pool.now (Slice r) }
+fn may_slice(granularity: u8, t: Moment, pool: &Pool, r: ResId) -> bool
+    ensures { result ≡ enabled_in granularity t.0 pool.now (Slice r) }
 {
     match item_at(pool.resources.as_slice(), r.0 as usize) {
         None => false,
@@ -139,9 +139,9 @@ fn may_slice(g: u8, t: Moment, pool: &Pool, r: ResId) -> bool
 }
 
 /// Whether the unit waits or runs, its deadline has come, and the pool's lowest processor is up.
-fn may_repl(g: u8, t: Moment, pool: &Pool, u: UnitId) -> bool
+fn may_repl(granularity: u8, t: Moment, pool: &Pool, u: UnitId) -> bool
     requires { PoolFits pool.now }
-    ensures { result ≡ enabled_in g t.0 pool.now (Repl u) }
+    ensures { result ≡ enabled_in granularity t.0 pool.now (Repl u) }
 {
     replenish_due(&pool.scheduler.records, t, u)
         && lowest_up(t, pool)
@@ -150,23 +150,23 @@ fn may_repl(g: u8, t: Moment, pool: &Pool, u: UnitId) -> bool
 }
 
 /// Whether the domain's refill has come, and the pool's lowest processor is up.
-fn may_refill(g: u8, t: Moment, pool: &Pool, d: DomId) -> bool
+fn may_refill(granularity: u8, t: Moment, pool: &Pool, d: DomId) -> bool
     requires { PoolFits pool.now }
-    ensures { result ≡ enabled_in g t.0 pool.now (Refill d) }
+    ensures { result ≡ enabled_in granularity t.0 pool.now (Refill d) }
 {
     has_come(t, next_refill(&pool.scheduler.records, d)) && lowest_up(t, pool)
 }
 
 /// Whether the processor's core is pending, open and saves nothing, and the processor is not held and is up.
-fn may_arrive(g: u8, t: Moment, pool: &Pool, p: ProcId) -> bool
-    requires { 0 < g }
-    ensures { result ≡ enabled_in g t.0 pool.now (Arrive p) }
+fn may_arrive(granularity: u8, t: Moment, pool: &Pool, p: ProcId) -> bool
+    requires { 0 < granularity }
+    ensures { result ≡ enabled_in granularity t.0 pool.now (Arrive p) }
 {
-    let gathers = match item_at(pool.resources.as_slice(), (p.0 / g) as usize) {
+    let gathers = match item_at(pool.resources.as_slice(), (p.0 / granularity) as usize) {
         None => false,
         Some(c) => c.pending && is_open(c) && c.saving.is_none(),
     };
-    let free = match processor_of(g, pool, p) {
+    let free = match processor_of(granularity, pool, p) {
         None => false,
         Some(q) => !is_held(q) && is_up(t, q),
     };
@@ -174,8 +174,8 @@ fn may_arrive(g: u8, t: Moment, pool: &Pool, p: ProcId) -> bool
 }
 
 /// Whether all processors of the core are held, its stage is open, and its first processor is up.
-fn may_decide(g: u8, t: Moment, pool: &Pool, r: ResId) -> bool
-    ensures { result ≡ enabled_in g t.0 pool.now (Decide r) }
+fn may_decide(granularity: u8, t: Moment, pool: &Pool, r: ResId) -> bool
+    ensures { result ≡ enabled_in granularity t.0 pool.now (Decide r) }
 {
     match item_at(pool.resources.as_slice(), r.0 as usize) {
         None => false,
@@ -184,15 +184,15 @@ fn may_decide(g: u8, t: Moment, pool: &Pool, r: ResId) -> bool
 }
 
 /// Whether the processor's core has decided, and the processor is held and up.
-fn may_leave(g: u8, t: Moment, pool: &Pool, p: ProcId) -> bool
-    requires { 0 < g }
-    ensures { result ≡ enabled_in g t.0 pool.now (Leave p) }
+fn may_leave(granularity: u8, t: Moment, pool: &Pool, p: ProcId) -> bool
+    requires { 0 < granularity }
+    ensures { result ≡ enabled_in granularity t.0 pool.now (Leave p) }
 {
-    let decided = match item_at(pool.resources.as_slice(), (p.0 / g) as usize) {
+    let decided = match item_at(pool.resources.as_slice(), (p.0 / granularity) as usize) {
         None => false,
         Some(c) => !is_open(c),
     };
-    let waits = match processor_of(g, pool, p) {
+    let waits = match processor_of(granularity, pool, p) {
         None => false,
         Some(q) => is_held(q) && is_up(t, q),
     };
@@ -200,8 +200,8 @@ fn may_leave(g: u8, t: Moment, pool: &Pool, p: ProcId) -> bool
 }
 
 /// Whether the core saves a unit, nobody of it is held, and its first processor is up.
-fn may_save(g: u8, t: Moment, pool: &Pool, r: ResId) -> bool
-    ensures { result ≡ enabled_in g t.0 pool.now (Save r) }
+fn may_save(granularity: u8, t: Moment, pool: &Pool, r: ResId) -> bool
+    ensures { result ≡ enabled_in granularity t.0 pool.now (Save r) }
 {
     match item_at(pool.resources.as_slice(), r.0 as usize) {
         None => false,
@@ -210,24 +210,24 @@ fn may_save(g: u8, t: Moment, pool: &Pool, r: ResId) -> bool
 }
 
 /// Whether an event of this pool may come at t.
-pub fn is_enabled_in(g: u8, t: Moment, pool: &Pool, action: Action) -> bool
-    requires some { 0 < g }
+pub fn is_enabled_in(granularity: u8, t: Moment, pool: &Pool, action: Action) -> bool
+    requires some { 0 < granularity }
     requires fits { PoolFits pool.now }
-    ensures { result ≡ enabled_in g t.0 pool.now action }
+    ensures { result ≡ enabled_in granularity t.0 pool.now action }
 {
     match action {
         Action::Stall => false,
         Action::Xl => false,
-        Action::Moved(r) => may_moved(g, t, pool, r),
-        Action::DomMoved(d) => may_dom_moved(g, t, pool, d),
-        Action::Wake(v) => may_wake(g, t, pool, v),
-        Action::Block(p) => may_block(g, t, pool, p),
-        Action::Slice(r) => may_slice(g, t, pool, r),
-        Action::Repl(u) => may_repl(g, t, pool, u),
-        Action::Refill(d) => may_refill(g, t, pool, d),
-        Action::Arrive(p) => may_arrive(g, t, pool, p),
-        Action::Decide(r) => may_decide(g, t, pool, r),
-        Action::Leave(p) => may_leave(g, t, pool, p),
-        Action::Save(r) => may_save(g, t, pool, r),
+        Action::Moved(r) => may_moved(granularity, t, pool, r),
+        Action::DomMoved(d) => may_dom_moved(granularity, t, pool, d),
+        Action::Wake(v) => may_wake(granularity, t, pool, v),
+        Action::Block(p) => may_block(granularity, t, pool, p),
+        Action::Slice(r) => may_slice(granularity, t, pool, r),
+        Action::Repl(u) => may_repl(granularity, t, pool, u),
+        Action::Refill(d) => may_refill(granularity, t, pool, d),
+        Action::Arrive(p) => may_arrive(granularity, t, pool, p),
+        Action::Decide(r) => may_decide(granularity, t, pool, r),
+        Action::Leave(p) => may_leave(granularity, t, pool, p),
+        Action::Save(r) => may_save(granularity, t, pool, r),
     }
 }

@@ -46,10 +46,10 @@ fn later(a: Option<Moment>, b: Option<Moment>) -> Option<Moment>
 }
 
 /// The end of the stall of the core's first processor.
-fn first_end(c: &Resource) -> Option<Moment>
-    ensures { result ≡ first_stall_end c.now }
+fn first_end(core: &Resource) -> Option<Moment>
+    ensures { result ≡ first_stall_end core.now }
 {
-    match c.processors.as_slice() {
+    match core.processors.as_slice() {
         [] => None,
         [p, ..] => Some(p.stall_end),
     }
@@ -94,21 +94,21 @@ fn work_on(pool: &Pool, q: &Processor) -> Option<Moment>
 }
 
 /// Whether the core's processors may arrive.
-fn gathers(c: &Resource) -> bool
-    ensures { result ≡ may_gather c.now }
+fn gathers(core: &Resource) -> bool
+    ensures { result ≡ may_gather core.now }
 {
-    c.pending && is_open(c) && c.saving.is_none()
+    core.pending && is_open(core) && core.saving.is_none()
 }
 
 /// From when on the processor of the core may arrive, or leave.
 #[tactic(auto, unfolding(crate::specs::Ready::move_moment))]
-fn move_end(c: &Resource, q: &Processor) -> Option<Moment>
-    ensures { result ≡ move_moment c.now q.now }
+fn move_end(core: &Resource, q: &Processor) -> Option<Moment>
+    ensures { result ≡ move_moment core.now q.now }
 {
     if is_held(q) {
-        end_if(!is_open(c), Some(q.stall_end))
+        end_if(!is_open(core), Some(q.stall_end))
     } else {
-        end_if(gathers(c), Some(q.stall_end))
+        end_if(gathers(core), Some(q.stall_end))
     }
 }
 
@@ -122,88 +122,88 @@ fn block_end(pool: &Pool, q: &Processor) -> Option<Moment>
 }
 
 /// The least so far, or from when on the processor of the core may arrive, leave or block.
-fn of_processor(best: u64, pool: &Pool, c: &Resource, q: &Processor) -> u64
+fn of_processor(best: u64, pool: &Pool, core: &Resource, q: &Processor) -> u64
     requires { PoolFits pool.now }
-    ensures { result ≡ least_of_processor pool.now c.now best q.now }
+    ensures { result ≡ least_of_processor pool.now core.now best q.now }
 {
-    lesser(lesser(best, move_end(c, q)), block_end(pool, q))
+    lesser(lesser(best, move_end(core, q)), block_end(pool, q))
 }
 
 /// The same of each of these processors of the core.
-fn of_processors(best: u64, pool: &Pool, c: &Resource, processors: &[Processor]) -> u64
+fn of_processors(best: u64, pool: &Pool, core: &Resource, processors: &[Processor]) -> u64
     requires { PoolFits pool.now }
-    ensures { result ≡ least_each (least_of_processor pool.now c.now) best processors.now }
+    ensures { result ≡ least_each (least_of_processor pool.now core.now) best processors.now }
 {
     match processors {
         [] => best,
-        [q, rest @ ..] => of_processors(of_processor(best, pool, c, q), pool, c, rest),
+        [q, rest @ ..] => of_processors(of_processor(best, pool, core, q), pool, core, rest),
     }
 }
 
 /// From when on the core's due has come.
 #[tactic(auto, unfolding(crate::specs::Ready::due_moment))]
-fn due_end(c: &Resource) -> Option<Moment>
-    ensures { result ≡ due_moment c.now }
+fn due_end(core: &Resource) -> Option<Moment>
+    ensures { result ≡ due_moment core.now }
 {
-    end_if(!c.pending, later(c.due, first_end(c)))
+    end_if(!core.pending, later(core.due, first_end(core)))
 }
 
 /// Whether the core's processors are all held, and its stage is open.
-fn decides(c: &Resource) -> bool
-    ensures { result ≡ is_to_decide c.now }
+fn decides(core: &Resource) -> bool
+    ensures { result ≡ is_to_decide core.now }
 {
-    all_held(c.processors.as_slice()) && is_open(c)
+    all_held(core.processors.as_slice()) && is_open(core)
 }
 
 /// From when on the core may decide.
 #[tactic(auto, unfolding(crate::specs::Ready::decide_moment))]
-fn decide_end(c: &Resource) -> Option<Moment>
-    ensures { result ≡ decide_moment c.now }
+fn decide_end(core: &Resource) -> Option<Moment>
+    ensures { result ≡ decide_moment core.now }
 {
-    end_if(decides(c), first_end(c))
+    end_if(decides(core), first_end(core))
 }
 
 /// Whether the core saves a unit, and none of its processors is held.
-fn saves(c: &Resource) -> bool
-    ensures { result ≡ is_to_save c.now }
+fn saves(core: &Resource) -> bool
+    ensures { result ≡ is_to_save core.now }
 {
-    c.saving.is_some() && !any_held(c.processors.as_slice())
+    core.saving.is_some() && !any_held(core.processors.as_slice())
 }
 
 /// From when on the core may save.
 #[tactic(auto, unfolding(crate::specs::Ready::save_moment))]
-fn save_end(c: &Resource) -> Option<Moment>
-    ensures { result ≡ save_moment c.now }
+fn save_end(core: &Resource) -> Option<Moment>
+    ensures { result ≡ save_moment core.now }
 {
-    end_if(saves(c), first_end(c))
+    end_if(saves(core), first_end(core))
 }
 
 /// Whether the core is leaving the pool, and nothing is on it.
-fn may_move(c: &Resource) -> bool
-    ensures { result ≡ may_core_move c.now }
+fn may_move(core: &Resource) -> bool
+    ensures { result ≡ may_core_move core.now }
 {
-    c.leaving && c.cur.is_none() && c.saving.is_none() && !c.pending && is_open(c)
+    core.leaving && core.cur.is_none() && core.saving.is_none() && !core.pending && is_open(core)
 }
 
 /// From when on the core may leave the pool.
 #[tactic(auto, unfolding(crate::specs::Ready::moved_moment))]
-fn moved_end(c: &Resource) -> Option<Moment>
-    ensures { result ≡ moved_moment c.now }
+fn moved_end(core: &Resource) -> Option<Moment>
+    ensures { result ≡ moved_moment core.now }
 {
-    end_if(may_move(c), first_end(c))
+    end_if(may_move(core), first_end(core))
 }
 
 /// The least so far, or from when on something of the core may come.
 #[tactic(auto, unfolding(crate::specs::Ready::least_of_core))]
-fn of_core(best: u64, pool: &Pool, c: &Resource) -> u64
+fn of_core(best: u64, pool: &Pool, core: &Resource) -> u64
     requires { PoolFits pool.now }
-    ensures { result ≡ least_of_core pool.now best c.now }
+    ensures { result ≡ least_of_core pool.now best core.now }
 {
-    let siblings = of_processors(best, pool, c, c.processors.as_slice());
-    let due = lesser(siblings, due_end(c));
-    let decides = lesser(due, decide_end(c));
-    let saves = lesser(decides, save_end(c));
-    lesser(saves, moved_end(c))
+    let siblings = of_processors(best, pool, core, core.processors.as_slice());
+    let due = lesser(siblings, due_end(core));
+    let decides = lesser(due, decide_end(core));
+    let saves = lesser(decides, save_end(core));
+    lesser(saves, moved_end(core))
 }
 
 /// The same of each of these cores, of which the first has the number r.
@@ -314,17 +314,17 @@ fn of_unit(best: u64, end: Moment, pool: &Pool, u: UnitId, deadline: u64) -> u64
     lesser(best, end_if(is_about(pool, u), Some(Moment(at))))
 }
 
-/// The same of each of these units of the domain d, of which the first has the index n.
-fn of_units(n: u8, best: u64, end: Moment, pool: &Pool, d: DomId, units: &[RtdsUnit]) -> u64
-    requires few { n + length units.now ≤ 32 }
+/// The same of each of these units of the domain d, of which the first has this index.
+fn of_units(first: u8, best: u64, end: Moment, pool: &Pool, d: DomId, units: &[RtdsUnit]) -> u64
+    requires few { first + length units.now ≤ 32 }
     requires cores { length pool.now.resources ≤ 64 }
-    ensures { result ≡ least_of_units pool.now end d.0 n best units.now }
+    ensures { result ≡ least_of_units pool.now end d.0 first best units.now }
 {
     match units {
         [] => best,
         [x, rest @ ..] => {
-            let next = of_unit(best, end, pool, UnitId { dom: d, n }, x.deadline);
-            of_units(n + 1, next, end, pool, d, rest)
+            let next = of_unit(best, end, pool, UnitId { dom: d, n: first }, x.deadline);
+            of_units(first + 1, next, end, pool, d, rest)
         }
     }
 }

@@ -1,4 +1,4 @@
-//! Replenishments of RTDS units and refills of Credit2 domains. g is the number of a core's processors, t the moment.
+//! Replenishments of RTDS units and refills of Credit2 domains.
 
 ghost use Rattle.sched_model.specs.CheckedMachine.{most_span};
 ghost use Rattle.std.specs.Prelude.{◌≡◌, ◌≤◌, IsTrue, Some, length, true};
@@ -48,13 +48,13 @@ fn renew(t: Moment, u: UnitId, records: &mut Records) -> RtdsUnit
 }
 
 /// The unit's deadline has come: it has its budget anew, and a core that runs it asks again when that is used up, if not before.
-pub fn replenish(g: u8, t: Moment, u: UnitId, pool: &mut Pool) -> Event
-    requires enabled { IsTrue (enabled_in g t.0 pool.old (Repl u)) }
+pub fn replenish(granularity: u8, t: Moment, u: UnitId, pool: &mut Pool) -> Event
+    requires enabled { IsTrue (enabled_in granularity t.0 pool.old (Repl u)) }
     requires early { t.0 ≤ most_span }
     requires fits { PoolFits pool.old }
     requires records { RecordsFit t.0 pool.old.scheduler.records }
-    ensures event { result ≡ event_in g t.0 pool.old (Repl u) }
-    ensures pool { pool.new ≡ after_in g t.0 pool.old (Repl u) }
+    ensures event { result ≡ event_in granularity t.0 pool.old (Repl u) }
+    ensures pool { pool.new ≡ after_in granularity t.0 pool.old (Repl u) }
 {
     let x = renew(t, u, &mut pool.scheduler.records);
     bring_due_of(u, t, x.budget, &mut pool.resources);
@@ -88,11 +88,11 @@ fn budget_of(d: DomId, pool: &Pool) -> i64
 }
 
 /// The domain's refill has come: its budget is filled.
-pub fn refill(g: u8, t: Moment, d: DomId, pool: &mut Pool) -> Event
+pub fn refill(granularity: u8, t: Moment, d: DomId, pool: &mut Pool) -> Event
     requires early { t.0 ≤ most_span }
     requires records { RecordsFit t.0 pool.old.scheduler.records }
-    ensures event { result ≡ event_in g t.0 pool.old (Refill d) }
-    ensures pool { pool.new ≡ after_in g t.0 pool.old (Refill d) }
+    ensures event { result ≡ event_in granularity t.0 pool.old (Refill d) }
+    ensures pool { pool.new ≡ after_in granularity t.0 pool.old (Refill d) }
 {
     let periods = periods_of(t, d, pool);
     refill_records(&mut pool.scheduler.records, t, d);

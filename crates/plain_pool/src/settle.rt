@@ -21,16 +21,16 @@ fn reconsider(
     home: Cores,
     core: ResId,
     t: Moment,
-    c: &mut Resource,
+    at_core: &mut Resource,
 )
     requires look { Finds look.now t.0 scheduler.now }
     requires records { RecordsFit t.0 scheduler.now.records }
     requires early { t.0 ≤ most_span }
     requires core { core.0 < 64 }
-    ensures { c.new ≡ reconsidered_core t.0 home.0 scheduler.now core.0 c.old }
+    ensures { at_core.new ≡ reconsidered_core t.0 home.0 scheduler.now core.0 at_core.old }
 {
-    if !c.leaving && !c.pending {
-        c.pending = better_waits(look, c.cur, c.since, t, core, home, scheduler);
+    if !at_core.leaving && !at_core.pending {
+        at_core.pending = better_waits(look, at_core.cur, at_core.since, t, core, home, scheduler);
     }
 }
 

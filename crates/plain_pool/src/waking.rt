@@ -1,4 +1,4 @@
-//! A vCPU wakes, or sleeps. g is the number of a core's processors, t the moment.
+//! A vCPU wakes, or sleeps.
 
 ghost use Rattle.sched_model.specs.CheckedMachine.{most_span};
 ghost use Rattle.std.specs.Prelude.{◌≡◌, ◌<◌, ◌≤◌, length, IsTrue};
@@ -27,79 +27,83 @@ pub fn is_off(pool: &Pool, u: UnitId) -> bool
 }
 
 /// Whether the processor is there and idles.
-fn is_idle_at(g: u8, pool: &Pool, p: ProcId) -> bool
-    requires { 0 < g }
-    ensures { result ≡ idles_at g pool.now p.0 }
+fn is_idle_at(granularity: u8, pool: &Pool, p: ProcId) -> bool
+    requires { 0 < granularity }
+    ensures { result ≡ idles_at granularity pool.now p.0 }
 {
-    match processor_of(g, pool, p) {
+    match processor_of(granularity, pool, p) {
         None => false,
         Some(q) => is_idle(q),
     }
 }
 
 /// The vCPU is started on its own processor, where its unit is cur of a core and that processor idles.
-fn join_siblings(g: u8, t: Moment, v: VcpuId, pool: &mut Pool)
-    requires some { 0 < g }
-    requires few { g ≤ 4 }
+fn join_siblings(granularity: u8, t: Moment, v: VcpuId, pool: &mut Pool)
+    requires some { 0 < granularity }
+    requires few { granularity ≤ 4 }
     requires cores { length pool.old.resources ≤ 64 }
-    ensures { pool.new ≡ joined_siblings g t.0 v pool.old }
+    ensures { pool.new ≡ joined_siblings granularity t.0 v pool.old }
 {
-    if let Some(r) = core_of(pool.resources.as_slice(), unit_of(g, v)) {
-        let p = r as u8 * g + v.n % g;
-        if is_idle_at(g, pool, ProcId(p)) {
-            take(g, t, ProcId(p), Some(v), pool);
+    if let Some(r) = core_of(pool.resources.as_slice(), unit_of(granularity, v)) {
+        let p = r as u8 * granularity + v.n % granularity;
+        if is_idle_at(granularity, pool, ProcId(p)) {
+            take(granularity, t, ProcId(p), Some(v), pool);
         }
     }
 }
 
 /// A vCPU that is awake now finds its place: its unit waits, where it was off, and else its processor runs it.
-fn find_place(g: u8, t: Moment, v: VcpuId, pool: &mut Pool)
-    requires some { 0 < g }
-    requires few { g ≤ 4 }
+fn find_place(granularity: u8, t: Moment, v: VcpuId, pool: &mut Pool)
+    requires some { 0 < granularity }
+    requires few { granularity ≤ 4 }
     requires cores { length pool.old.resources ≤ 64 }
-    requires room { length (after_placing g t.0 v pool.old).scheduler.queue ≤ 256 }
-    ensures { pool.new ≡ after_placing g t.0 v pool.old }
+    requires room { length (after_placing granularity t.0 v pool.old).scheduler.queue ≤ 256 }
+    ensures { pool.new ≡ after_placing granularity t.0 v pool.old }
 {
-    let u = unit_of(g, v);
-    if is_runnable(g, pool.domains.as_slice(), u) {
+    let u = unit_of(granularity, v);
+    if is_runnable(granularity, pool.domains.as_slice(), u) {
         if is_off(pool, u) {
             enqueue(u, &mut pool.scheduler);
         } else {
-            join_siblings(g, t, v, pool);
+            join_siblings(granularity, t, v, pool);
         }
     }
 }
 
 /// The vCPU wakes.
-pub fn wake(g: u8, t: Moment, v: VcpuId, pool: &mut Pool) -> Event
-    requires some { 0 < g }
-    requires few { g ≤ 4 }
+pub fn wake(granularity: u8, t: Moment, v: VcpuId, pool: &mut Pool) -> Event
+    requires some { 0 < granularity }
+    requires few { granularity ≤ 4 }
     requires fits { PoolFits pool.old }
-    requires room { length (after_in g t.0 pool.old (Wake v)).scheduler.queue ≤ 256 }
-    ensures event { result ≡ event_in g t.0 pool.old (Wake v) }
-    ensures pool { pool.new ≡ after_in g t.0 pool.old (Wake v) }
+    requires room { length (after_in granularity t.0 pool.old (Wake v)).scheduler.queue ≤ 256 }
+    ensures event { result ≡ event_in granularity t.0 pool.old (Wake v) }
+    ensures pool { pool.new ≡ after_in granularity t.0 pool.old (Wake v) }
 {
     wake_vcpu(&mut pool.domains, v);
-    find_place(g, t, v, pool);
+    find_place(granularity, t, v, pool);
     Event::Wake { v }
 }
 
 /// The vCPU that the processor runs sleeps; its core is to decide anew, where its unit is no longer runnable.
-pub fn block(g: u8, t: Moment, p: ProcId, pool: &mut Pool) -> Event
-    requires enabled { IsTrue (enabled_in g t.0 pool.old (Block p)) }
-    requires some { 0 < g }
+pub fn block(granularity: u8, t: Moment, p: ProcId, pool: &mut Pool) -> Event
+    requires enabled { IsTrue (enabled_in granularity t.0 pool.old (Block p)) }
+    requires some { 0 < granularity }
     requires early { t.0 ≤ most_span }
     requires fits { PoolFits pool.old }
-    ensures event { result ≡ event_in g t.0 pool.old (Block p) }
-    ensures pool { pool.new ≡ after_in g t.0 pool.old (Block p) }
+    ensures event { result ≡ event_in granularity t.0 pool.old (Block p) }
+    ensures pool { pool.new ≡ after_in granularity t.0 pool.old (Block p) }
 {
-    let Some(v) = guest_of(g, pool, p) else {
+    let Some(v) = guest_of(granularity, pool, p) else {
         unreachable!();
     };
     sleep_vcpu(&mut pool.domains, v, t);
-    change_doing(g, p, Doing::Idle, &mut pool.resources);
-    if !is_runnable(g, pool.domains.as_slice(), unit_of(g, v)) {
-        set_pending(ResId(p.0 / g), &mut pool.resources);
+    change_doing(granularity, p, Doing::Idle, &mut pool.resources);
+    if !is_runnable(
+        granularity,
+        pool.domains.as_slice(),
+        unit_of(granularity, v),
+    ) {
+        set_pending(ResId(p.0 / granularity), &mut pool.resources);
     }
     Event::Block { p, v }
 }

@@ -19,7 +19,7 @@ ghost use Rattle.state_ranges.specs.Counts.{Matches};
 ghost use Rattle.policy_laws.specs.Holds.{Holds};
 
 /// What holds of a pool holds after each step inside of it, after a core or a domain has come or gone, and of every pool that
-/// has none yet. g is the number of a core's processors.
+/// has none yet.
 pub fn law_pool_kept()
     ensures later { (g s t : ℕ) → (pool : Pool) → s ≤ t → Holds g s pool → Holds g t pool }
     ensures settles { (g t : ℕ) → (pool : Pool) → Holds g t pool → Holds g t (settled_pool t pool) }

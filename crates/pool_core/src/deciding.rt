@@ -1,4 +1,4 @@
-//! What a core asks its scheduler, and the timers of a scheduler. g is the number of a core's processors.
+//! What a core asks its scheduler, and the timers of a scheduler.
 
 ghost use Rattle.std.specs.Prelude.{◌≡◌, true, false, None, Some};
 ghost use Rattle.sched_model.specs.declared.action.Action.TheVariants.{Decide, Repl};
@@ -19,27 +19,27 @@ use sched_ops::{Policy, Timer};
 use unit_state::Guests;
 
 /// What the core asks its scheduler at t, where these are the pool's cores.
-fn ask_of(guests: &Guests, home: Cores, t: Moment, r: ResId, c: &Resource) -> Ask
+fn ask_of(guests: &Guests, home: Cores, t: Moment, r: ResId, core: &Resource) -> Ask
     ensures { result ≡ record {
-      cur = c.now.cur;
-      runnable = elim c.now.cur
+      cur = core.now.cur;
+      runnable = elim core.now.cur
           [ None ↦ false | Some u ↦ runnable_among guests.now.granularity guests.now.domains u ];
-      since = c.now.since;
-      leaving = c.now.leaving;
+      since = core.now.since;
+      leaving = core.now.leaving;
       at = t;
       core = r;
       home = home;
     } }
 {
-    let runnable = match c.cur {
+    let runnable = match core.cur {
         None => false,
         Some(u) => guests.runnable(u),
     };
     Ask {
-        cur: c.cur,
+        cur: core.cur,
         runnable,
-        since: c.since,
-        leaving: c.leaving,
+        since: core.since,
+        leaving: core.leaving,
         at: t,
         core: r,
         home,

@@ -1,4 +1,4 @@
-//! What the processors of a core do. g is the number of a core's processors.
+//! What the processors of a core do.
 
 ghost use Rattle.std.specs.Prelude.{◌≡◌, ◌≤◌, ◌<◌, ◌/◌, ◌%◌, ◌*◌, true, IfSome, None, slice_set};
 ghost use Rattle.sched_model.specs.Pool.{after_arrive, after_block, taken_at};

@@ -1,4 +1,4 @@
-//! Domains that join a pool, pause, go on and part. g is the number of a core's processors.
+//! Domains that join a pool, pause, go on and part.
 
 ghost use Rattle.std.specs.Prelude.{◌≡◌, ◌≤◌, ◌<◌, ◌+◌, ◌-◌, ◌&&◌, not, true, is_some, ℕ, None, Some, length};
 ghost use Rattle.std.specs.Option.{ForSome};

@@ -137,12 +137,12 @@ pub fn facts<P: Policy>(guests: &Guests, policy: &P, d: Option<DomId>) -> Facts
 }
 
 /// The core with the number r, as it moves to another pool: the ends of the stalls of its processors.
-pub fn part_of(r: ResId, c: &Resource) -> ResPart
+pub fn part_of(r: ResId, core: &Resource) -> ResPart
     ensures number { result.r ≡ r }
-    ensures ends { result.stall_ends ≡ ends_of c.now }
+    ensures ends { result.stall_ends ≡ ends_of core.now }
 {
     ResPart {
         r,
-        stall_ends: stall_ends_of(c),
+        stall_ends: stall_ends_of(core),
     }
 }

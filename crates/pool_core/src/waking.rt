@@ -1,4 +1,4 @@
-//! Units that come to wait: that of a vCPU that wakes, and one that a core puts away. g is the number of a core's processors.
+//! Units that come to wait: that of a vCPU that wakes, and one that a core puts away.
 
 ghost use Rattle.std.specs.Prelude.{◌≡◌, ◌<◌, ◌||◌, true, ℕ};
 ghost use Rattle.sched_model.specs.State.{runnable_among};

@@ -18,11 +18,11 @@ fn sooner(t: Moment, budget: u64, due: Moment) -> Moment
 }
 
 /// The core asks again after the budget at the latest, where it is to ask again at all.
-fn bring_due(t: Moment, budget: u64, c: &mut Resource)
-    ensures { c.new ≡ due_within t.0 budget c.old }
+fn bring_due(t: Moment, budget: u64, core: &mut Resource)
+    ensures { core.new ≡ due_within t.0 budget core.old }
 {
-    if let Some(due) = c.due {
-        c.due = Some(sooner(t, budget, due));
+    if let Some(due) = core.due {
+        core.due = Some(sooner(t, budget, due));
     }
 }
 

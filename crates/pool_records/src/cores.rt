@@ -64,20 +64,20 @@ pub fn is_idle(p: &Processor) -> bool
 }
 
 /// Whether the core's siblings still gather.
-pub fn is_open(c: &Resource) -> bool
-    ensures { result ≡ is_gathering c.now }
+pub fn is_open(core: &Resource) -> bool
+    ensures { result ≡ is_gathering core.now }
 {
-    match c.stage {
+    match core.stage {
         Stage::Open => true,
         Stage::Decided => false,
     }
 }
 
 /// Whether the core's first processor is up at t.
-pub fn first_up(t: Moment, c: &Resource) -> bool
-    ensures { result ≡ is_first_processor_up t.0 c.now }
+pub fn first_up(t: Moment, core: &Resource) -> bool
+    ensures { result ≡ is_first_processor_up t.0 core.now }
 {
-    match c.processors.as_slice() {
+    match core.processors.as_slice() {
         [] => false,
         [p, ..] => is_up(t, p),
     }
@@ -166,10 +166,10 @@ pub fn has_domain(r: usize, cores: &[Option<Resource>], d: DomId) -> bool
 }
 
 /// How much later than its due the core decides.
-pub fn lateness_of(t: Moment, c: &Resource) -> Span
-    ensures { result ≡ span (lateness t.0 c.now) }
+pub fn lateness_of(t: Moment, core: &Resource) -> Span
+    ensures { result ≡ span (lateness t.0 core.now) }
 {
-    match c.due {
+    match core.due {
         None => Span(0),
         Some(due) => Span(t.0.saturating_sub(due.0)),
     }

@@ -1,4 +1,4 @@
-//! What the processors of a core do. g is the number of a core's processors, t the moment.
+//! What the processors of a core do.
 
 ghost use Rattle.std.specs.Prelude.{◌≡◌, ◌<◌, ◌/◌, ◌%◌, None, Some, true};
 ghost use Rattle.sched_model.specs.declared.state.Doing.TheVariants as doing;
@@ -14,25 +14,25 @@ use sched_model::state::{Doing, Pool, Resource};
 
 /// The core's processor at this place does this.
 #[tactic(auto, using(sched_model::proofs::PlaceLemmas::past_the_end))]
-fn set_doing(c: &mut Resource, i: usize, doing: Doing)
-    ensures { c.new
-        ≡ record c.old { processors = change_item i (with_doing doing) c.old.processors } }
+fn set_doing(core: &mut Resource, sibling: usize, doing: Doing)
+    ensures { core.new
+        ≡ record core.old { processors = change_item sibling (with_doing doing) core.old.processors } }
 {
-    if let Some(p) = c.processors.get_mut(i) {
+    if let Some(p) = core.processors.get_mut(sibling) {
         p.doing = doing;
     }
 }
 
 /// The processor does this.
-pub fn change_doing(g: u8, p: ProcId, doing: Doing, cores: &mut Row<Option<Resource>>)
-    requires { 0 < g }
-    ensures { cores.new ≡ change_at (p.0 / g) (λ (c : ResourceRecord).
-        record c { processors = change_item (p.0 % g) (with_doing doing) c.processors }) cores.old }
+pub fn change_doing(granularity: u8, p: ProcId, doing: Doing, cores: &mut Row<Option<Resource>>)
+    requires { 0 < granularity }
+    ensures { cores.new ≡ change_at (p.0 / granularity) (λ (c : ResourceRecord).
+        record c { processors = change_item (p.0 % granularity) (with_doing doing) c.processors }) cores.old }
 {
-    if let Some(place) = cores.get_mut((p.0 / g) as usize)
+    if let Some(place) = cores.get_mut((p.0 / granularity) as usize)
         && let Some(c) = place
     {
-        set_doing(c, (p.0 % g) as usize, doing);
+        set_doing(c, (p.0 % granularity) as usize, doing);
     }
 }
 
@@ -49,18 +49,18 @@ pub fn set_pending(r: ResId, cores: &mut Row<Option<Resource>>)
 }
 
 /// The processor takes the vCPU from t on, or idles.
-pub fn take(g: u8, t: Moment, p: ProcId, taken: Option<VcpuId>, pool: &mut Pool)
-    requires { 0 < g }
+pub fn take(granularity: u8, t: Moment, p: ProcId, taken: Option<VcpuId>, pool: &mut Pool)
+    requires { 0 < granularity }
     ensures { pool.new ≡ elim taken [
-      | None ↦ change_processor g p.0 (with_doing doing.Idle) pool.old
-      | Some v ↦ started_on g t.0 p.0 v pool.old
+      | None ↦ change_processor granularity p.0 (with_doing doing.Idle) pool.old
+      | Some v ↦ started_on granularity t.0 p.0 v pool.old
     ] }
 {
     match taken {
-        None => change_doing(g, p, Doing::Idle, &mut pool.resources),
+        None => change_doing(granularity, p, Doing::Idle, &mut pool.resources),
         Some(v) => {
             start_vcpu(&mut pool.domains, v, t);
-            change_doing(g, p, Doing::Guest(v), &mut pool.resources);
+            change_doing(granularity, p, Doing::Guest(v), &mut pool.resources);
         }
     }
 }

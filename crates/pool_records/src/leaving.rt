@@ -1,4 +1,4 @@
-//! Cores that join a pool and leave it, and the ends of their stalls. g is the number of a core's processors.
+//! Cores that join a pool and leave it, and the ends of their stalls.
 
 ghost use Rattle.std.specs.Prelude.{◌≡◌, ◌<◌, ◌/◌, ◌%◌, map, option_map};
 ghost use Rattle.sched_model.specs.Opening.{joined_core};
@@ -52,11 +52,11 @@ pub fn put_core(r: ResId, stall_ends: &StallEnds, pool: &mut Pool)
 }
 
 /// The ends of the stalls of the core's processors.
-pub fn stall_ends_of(c: &Resource) -> StallEnds
-    ensures { result ≡ ends_of c.now }
+pub fn stall_ends_of(core: &Resource) -> StallEnds
+    ensures { result ≡ ends_of core.now }
 {
     let mut stall_ends = Short::new();
-    for p in c.processors.as_slice() {
+    for p in core.processors.as_slice() {
         stall_ends.push(p.stall_end);
     }
     stall_ends
@@ -95,31 +95,31 @@ pub fn set_leaving(r: ResId, pool: &mut Pool)
 
 /// The stall of the processor at this place ends then.
 #[tactic(auto, using(sched_model::proofs::PlaceLemmas::past_the_end))]
-fn set_end(processors: &mut Processors, i: usize, end: Moment)
-    ensures { processors.new ≡ change_item i (stalled_to end) processors.old }
+fn set_end(processors: &mut Processors, sibling: usize, end: Moment)
+    ensures { processors.new ≡ change_item sibling (stalled_to end) processors.old }
 {
-    if let Some(p) = processors.get_mut(i) {
+    if let Some(p) = processors.get_mut(sibling) {
         p.stall_end = end;
     }
 }
 
 /// The stall of the processor of one of the cores ends then.
-pub fn end_stall(g: u8, p: ProcId, end: Moment, cores: &mut Row<Option<Resource>>)
-    requires { 0 < g }
-    ensures { cores.new ≡ change_at (p.0 / g) (with_sibling (p.0 % g) (stalled_to end)) cores.old }
+pub fn end_stall(granularity: u8, p: ProcId, end: Moment, cores: &mut Row<Option<Resource>>)
+    requires { 0 < granularity }
+    ensures { cores.new ≡ change_at (p.0 / granularity) (with_sibling (p.0 % granularity) (stalled_to end)) cores.old }
 {
-    let r = (p.0 / g) as usize;
+    let r = (p.0 / granularity) as usize;
     if r < cores.len() {
         if let Some(c) = cores.item_mut(r) {
-            set_end(&mut c.processors, (p.0 % g) as usize, end);
+            set_end(&mut c.processors, (p.0 % granularity) as usize, end);
         }
     }
 }
 
 /// The stall of the pool's processor ends then.
-pub fn set_stall_end(g: u8, p: ProcId, end: Moment, pool: &mut Pool)
-    requires { 0 < g }
-    ensures { pool.new ≡ change_processor g p.0 (stalled_to end) pool.old }
+pub fn set_stall_end(granularity: u8, p: ProcId, end: Moment, pool: &mut Pool)
+    requires { 0 < granularity }
+    ensures { pool.new ≡ change_processor granularity p.0 (stalled_to end) pool.old }
 {
-    end_stall(g, p, end, &mut pool.resources);
+    end_stall(granularity, p, end, &mut pool.resources);
 }

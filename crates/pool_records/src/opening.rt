@@ -18,14 +18,14 @@ pub fn has_core(cores: u64, r: ResId) -> bool
     cores / (1u64 << r.0) % 2 == 1
 }
 
-/// The ends of the stalls of g processors that were never stalled.
+/// The ends of the stalls of `granularity` processors that were never stalled.
 #[tactic(auto, using(sched_model::proofs::Replicate::replicate_one_more))]
-pub fn no_stalls(g: u8) -> StallEnds
-    requires { g ≤ 4 }
-    ensures { result ≡ replicate g (moment 0) }
+pub fn no_stalls(granularity: u8) -> StallEnds
+    requires { granularity ≤ 4 }
+    ensures { result ≡ replicate granularity (moment 0) }
 {
     let mut ends = Short::new();
-    for i in 0..g {
+    for i in 0..granularity {
         ends.push(Moment(0));
     }
     ends

@@ -19,21 +19,25 @@ fn any_awake(vcpus: &[Vcpu], from: usize, count: usize) -> bool
         .any(|v| v.asleep_until.is_none())
 }
 
-/// Whether some vCPU of the unit with this index is awake, and its domain is neither paused nor moving. A unit has g vCPUs.
-pub fn is_unit_runnable(g: u8, domain: &Domain, n: u8) -> bool
-    ensures { result ≡ unit_runnable g domain.now n }
+/// Whether some vCPU of the unit with this index is awake, and its domain is neither paused nor moving. A unit has `granularity` vCPUs.
+pub fn is_unit_runnable(granularity: u8, domain: &Domain, index: u8) -> bool
+    ensures { result ≡ unit_runnable granularity domain.now index }
 {
     !domain.paused
         && domain.moving.is_none()
-        && any_awake(domain.vcpus.as_slice(), n as usize * g as usize, g as usize)
+        && any_awake(
+            domain.vcpus.as_slice(),
+            index as usize * granularity as usize,
+            granularity as usize,
+        )
 }
 
 /// The same of a unit of one of these domains.
-pub fn is_runnable(g: u8, domains: &[Option<Domain>], u: UnitId) -> bool
-    ensures { result ≡ runnable_among g domains.now u }
+pub fn is_runnable(granularity: u8, domains: &[Option<Domain>], u: UnitId) -> bool
+    ensures { result ≡ runnable_among granularity domains.now u }
 {
     match item_at(domains, u.dom.0 as usize) {
         None => false,
-        Some(domain) => is_unit_runnable(g, domain, u.n),
+        Some(domain) => is_unit_runnable(granularity, domain, u.n),
     }
 }

@@ -27,10 +27,10 @@ pub fn vcpu_of(domains: &[Option<Domain>], v: VcpuId) -> Option<&Vcpu>
 }
 
 /// The vCPU at this place in the domain.
-fn vcpu_in(domain: &Domain, n: usize) -> Option<&Vcpu>
-    ensures { option_copied result ≡ slice_get domain.now.vcpus n }
+fn vcpu_in(domain: &Domain, index: usize) -> Option<&Vcpu>
+    ensures { option_copied result ≡ slice_get domain.now.vcpus index }
 {
-    domain.vcpus.as_slice().get(n)
+    domain.vcpus.as_slice().get(index)
 }
 
 /// The moment at which the vCPU's work is done, where it is run and its work has an end.
@@ -58,11 +58,11 @@ fn stop(v: &mut Vcpu, t: Moment)
 
 /// The domain's vCPU at this place stopped at t.
 #[tactic(auto, using(sched_model::proofs::PlaceLemmas::past_the_end))]
-fn stop_at(domain: &mut Domain, n: usize, t: Moment)
+fn stop_at(domain: &mut Domain, index: usize, t: Moment)
     ensures { domain.new ≡ record domain.old
-        { vcpus = change_item n (stopped_vcpu t.0) domain.old.vcpus } }
+        { vcpus = change_item index (stopped_vcpu t.0) domain.old.vcpus } }
 {
-    if let Some(v) = domain.vcpus.get_mut(n) {
+    if let Some(v) = domain.vcpus.get_mut(index) {
         stop(v, t);
     }
 }
@@ -82,13 +82,13 @@ pub fn stop_vcpu(domains: &mut Row<Option<Domain>>, v: VcpuId, t: Moment)
 
 /// The domain's vCPU at this place counts its work from t on.
 #[tactic(auto, using(sched_model::proofs::PlaceLemmas::past_the_end))]
-fn start_at(domain: &mut Domain, n: usize, t: Moment)
+fn start_at(domain: &mut Domain, index: usize, t: Moment)
     ensures { domain.new ≡ record domain.old {
-      vcpus = change_item n (λ (x : VcpuRecord). record x { started = Some t })
+      vcpus = change_item index (λ (x : VcpuRecord). record x { started = Some t })
           domain.old.vcpus;
     } }
 {
-    if let Some(v) = domain.vcpus.get_mut(n) {
+    if let Some(v) = domain.vcpus.get_mut(index) {
         v.started = Some(t);
     }
 }
@@ -133,12 +133,12 @@ fn wake_up(v: &mut Vcpu)
 
 /// The domain's vCPU at this place wakes.
 #[tactic(auto, using(sched_model::proofs::PlaceLemmas::past_the_end))]
-fn wake_at(domain: &mut Domain, n: usize)
+fn wake_at(domain: &mut Domain, index: usize)
     requires { DomainFits domain.old }
     ensures { domain.new ≡ record domain.old
-        { vcpus = change_item n woken_vcpu domain.old.vcpus } }
+        { vcpus = change_item index woken_vcpu domain.old.vcpus } }
 {
-    if let Some(v) = domain.vcpus.get_mut(n) {
+    if let Some(v) = domain.vcpus.get_mut(index) {
         wake_up(v);
     }
 }
@@ -184,13 +184,13 @@ fn fall_asleep(v: &mut Vcpu, t: Moment)
 
 /// The domain's vCPU at this place sleeps from t for the next span of its script.
 #[tactic(auto, using(sched_model::proofs::PlaceLemmas::past_the_end))]
-fn sleep_at(domain: &mut Domain, n: usize, t: Moment)
+fn sleep_at(domain: &mut Domain, index: usize, t: Moment)
     requires fits { DomainFits domain.old }
     requires early { t.0 ≤ most_span }
     ensures { domain.new ≡ record domain.old
-        { vcpus = change_item n (put_to_sleep t.0) domain.old.vcpus } }
+        { vcpus = change_item index (put_to_sleep t.0) domain.old.vcpus } }
 {
-    if let Some(v) = domain.vcpus.get_mut(n) {
+    if let Some(v) = domain.vcpus.get_mut(index) {
         fall_asleep(v, t);
     }
 }

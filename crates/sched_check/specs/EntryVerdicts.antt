@@ -15,14 +15,14 @@ use Rattle.sched_check.specs.Same.{same_action, same_event}
 
 -- the number that tells a stall or a command from those that are not next: the processor of a stall, the number of a command; the others
 -- are told by their action, which names their subject
-abbrev pub number_of : Event → ℕ
-number_of (event.Stall p until) = p.0
-number_of (event.Xl k answer) = k
-number_of _ = 0
+abbrev pub event_number : Event → ℕ
+event_number (event.Stall p until) = p.0
+event_number (event.Xl k answer) = k
+event_number _ = 0
 
 -- whether the event has the subject of the action that it would be, as that comes now
 abbrev pub has_subject : Machine → State → Event → Action → Bool
-has_subject m s e action = number_of e == number_of (event_of m s s.now action)
+has_subject m s e action = event_number e == event_number (event_of m s s.now action)
 
 -- whether the moment that is named, if one is, is this one
 abbrev pub is_named : Option ℕ → ℕ → Bool
@@ -74,6 +74,6 @@ abbrev pub verdict_of : Machine → Bool → Reached → Entry → Result (Unit 
 verdict_of m ordered from entry = if from.over then Err no.AfterFinish else moment_verdict ordered m from.state entry
 
 -- whether it is the end of the run
-abbrev pub is_finish : Event → Bool
-is_finish event.Finish = true
-is_finish _ = false
+abbrev pub is_run_end : Event → Bool
+is_run_end event.Finish = true
+is_run_end _ = false

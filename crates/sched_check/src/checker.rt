@@ -4,7 +4,7 @@ ghost use Rattle.std.specs.Prelude.{◌≡◌, ◌↔◌, false, IsOk, OnOk};
 ghost use Rattle.sched_model.specs.Runs.{after_entry, after_quiet};
 ghost use Rattle.sched_check.specs.Checking.{IsQuietDue, IsTaken};
 ghost use Rattle.sched_check.specs.ReachedState.{state_after};
-ghost use Rattle.sched_check.specs.EntryVerdicts.{is_finish as is_finish_spec, moment_verdict, quiet_verdict};
+ghost use Rattle.sched_check.specs.EntryVerdicts.{is_run_end, moment_verdict, quiet_verdict};
 ghost use Rattle.sched_model.specs.Machine.{first_enabled_action, next_in_horizon};
 
 use crate::entries::{action_of, end_of, judge_action, judge_quiet};
@@ -56,7 +56,7 @@ fn take(plain: &mut Plain, ordered: bool, e: Entry) -> Result<(), NotStep>
 
 /// Whether it is the end of the run.
 fn is_finish(e: Event) -> bool
-    ensures { result ≡ is_finish_spec e }
+    ensures { result ≡ is_run_end e }
 {
     match e {
         Event::Finish => true,

@@ -6,7 +6,7 @@ ghost use Rattle.sched_model.specs.Runs.{action_entry, event_action, named_next_
 ghost use Rattle.sched_check.specs.declared.refusal.NotStep.TheVariants as no;
 ghost use Rattle.sched_check.specs.Same.{same_event};
 ghost use Rattle.sched_check.specs.Checking.{HasTurn, IsDue, IsQuietDue};
-ghost use Rattle.sched_check.specs.EntryVerdicts.{action_verdict, due_verdict, first_refusal, is_named, number_of as number_of_spec, quiet_verdict, turn_refusal};
+ghost use Rattle.sched_check.specs.EntryVerdicts.{action_verdict, due_verdict, first_refusal, is_named, event_number, quiet_verdict, turn_refusal};
 
 use crate::refusal::NotStep;
 use crate::same::{is_same_action, is_same_event};
@@ -64,7 +64,7 @@ fn perform(plain: &mut Plain, action: Action) -> Entry
 /// The number that tells a stall or a command from those that are not next: the processor of a stall, the number of a command. The others
 /// are told by their action, which names their subject.
 fn number_of(e: Event) -> u32
-    ensures { result ≡ number_of_spec e }
+    ensures { result ≡ event_number e }
 {
     match e {
         Event::Stall { p, .. } => u32::from(p.0),
@@ -75,7 +75,7 @@ fn number_of(e: Event) -> u32
 
 /// The same number of the entry of an action, where that comes now.
 fn due_number(plain: &Plain, action: Action) -> u64
-    ensures { result ≡ number_of_spec (event_of plain.now.machine plain.now.state
+    ensures { result ≡ event_number (event_of plain.now.machine plain.now.state
         plain.now.state.now action) }
 {
     match action {

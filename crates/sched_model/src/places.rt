@@ -6,12 +6,12 @@ ghost use Rattle.sched_model.specs.Places.{at_place, clear_at};
 
 use crate::row::Row;
 
-/// What stands at the place i; nothing where there is no such place.
-pub fn item_at<T>(places: &[Option<T>], i: usize) -> Option<&T>
-    ensures { option_copied result ≡ at_place places.now i }
+/// What stands at this place; nothing where there is no such place.
+pub fn item_at<T>(places: &[Option<T>], place: usize) -> Option<&T>
+    ensures { option_copied result ≡ at_place places.now place }
 {
-    if i < places.len() {
-        places[i].as_ref()
+    if place < places.len() {
+        places[place].as_ref()
     } else {
         None
     }
@@ -27,13 +27,13 @@ pub fn set_place<T: Drop>(places: &mut Row<Option<T>>, place: u8, item: Option<T
     }
 }
 
-/// What stands at the place i is taken out of it.
-pub fn take_item<T>(places: &mut Row<Option<T>>, i: usize) -> Option<T>
-    ensures item { result ≡ at_place places.old i }
-    ensures places { places.new ≡ clear_at i places.old }
+/// What stands at this place is taken out of it.
+pub fn take_item<T>(places: &mut Row<Option<T>>, place: usize) -> Option<T>
+    ensures item { result ≡ at_place places.old place }
+    ensures places { places.new ≡ clear_at place places.old }
 {
-    if i < places.len() {
-        places.replace(i, None)
+    if place < places.len() {
+        places.replace(place, None)
     } else {
         None
     }

@@ -53,31 +53,31 @@ impl<T> Row<T> {
         self.items.is_empty()
     }
 
-    /// The item at the place i, for writing.
-    pub fn item_mut(&mut self, i: usize) -> &mut T
-        requires { i < length self.old }
-        ensures* writes_back { sem 𝓛 (row_lends_item T.row self.entry i result) }
-        ensures value { result.now ≡ slice_index_or self.old i result.now }
+    /// The item at this place, for writing.
+    pub fn item_mut(&mut self, place: usize) -> &mut T
+        requires { place < length self.old }
+        ensures* writes_back { sem 𝓛 (row_lends_item T.row self.entry place result) }
+        ensures value { result.now ≡ slice_index_or self.old place result.now }
     {
-        &mut self.items[i]
+        &mut self.items[place]
     }
 
-    /// The item at the place i, for writing, where there is one.
-    pub fn get_mut(&mut self, i: usize) -> Option<&mut T>
-        ensures* writes_back { sem 𝓛 (row_lends_get T.row self.entry i result) }
-        ensures some { IsSome result ↔ (i < length self.old) }
-        ensures value { IfSome result (λ x. x.now ≡ slice_index_or self.old i x.now) }
+    /// The item at this place, for writing, where there is one.
+    pub fn get_mut(&mut self, place: usize) -> Option<&mut T>
+        ensures* writes_back { sem 𝓛 (row_lends_get T.row self.entry place result) }
+        ensures some { IsSome result ↔ (place < length self.old) }
+        ensures value { IfSome result (λ x. x.now ≡ slice_index_or self.old place x.now) }
     {
-        self.items.get_mut(i)
+        self.items.get_mut(place)
     }
 
-    /// Puts an item at the place i, and answers what stood there.
-    pub fn replace(&mut self, i: usize, item: T) -> T
-        requires { i < length self.old }
-        ensures old { result ≡ slice_index_or self.old i result }
-        ensures new { self.new ≡ slice_set self.old i item }
+    /// Puts an item at this place, and answers what stood there.
+    pub fn replace(&mut self, place: usize, item: T) -> T
+        requires { place < length self.old }
+        ensures old { result ≡ slice_index_or self.old place result }
+        ensures new { self.new ≡ slice_set self.old place item }
     {
-        std::mem::replace(&mut self.items[i], item)
+        std::mem::replace(&mut self.items[place], item)
     }
 }
 

@@ -54,13 +54,13 @@ impl<T, const N: usize> Short<T, N> {
         self.items.is_full()
     }
 
-    /// The item at the place i, for writing, where there is one.
-    pub fn get_mut(&mut self, i: usize) -> Option<&mut T>
-        ensures* writes_back { sem 𝓛 (short_lends_get T.row N.row self.entry i result) }
-        ensures some { IsSome result ↔ (i < length self.old) }
-        ensures value { IfSome result (λ x. x.now ≡ slice_index_or self.old i x.now) }
+    /// The item at this place, for writing, where there is one.
+    pub fn get_mut(&mut self, place: usize) -> Option<&mut T>
+        ensures* writes_back { sem 𝓛 (short_lends_get T.row N.row self.entry place result) }
+        ensures some { IsSome result ↔ (place < length self.old) }
+        ensures value { IfSome result (λ x. x.now ≡ slice_index_or self.old place x.now) }
     {
-        self.items.get_mut(i)
+        self.items.get_mut(place)
     }
 }
 
@@ -84,13 +84,13 @@ impl<T: Default + Drop, const N: usize> Short<T, N> {
         self.items.push(item);
     }
 
-    /// Takes out the item at the place i; those behind it move up.
-    pub fn remove(&mut self, i: usize) -> T
-        requires { i < length self.old }
-        ensures value { result ≡ slice_index_or self.old i result }
-        ensures items { self.new ≡ remove self.old i }
+    /// Takes out the item at this place; those behind it move up.
+    pub fn remove(&mut self, place: usize) -> T
+        requires { place < length self.old }
+        ensures value { result ≡ slice_index_or self.old place result }
+        ensures items { self.new ≡ remove self.old place }
     {
-        self.items.remove(i)
+        self.items.remove(place)
     }
 
     /// Takes out all items.

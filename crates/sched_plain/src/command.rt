@@ -29,9 +29,9 @@ use sched_model::state::{Pool, State};
 use sched_model::work::CommandLine;
 
 /// The pool whose cores are looked at after the command: the one that it names, or the home of the domain that it names.
-fn pool_of_plan(s: &State, plan: &Plan) -> Option<usize>
-    requires { length s.now.pools ≤ 16 }
-    ensures { result ≡ plan_pool s.entry.now plan.now }
+fn pool_of_plan(state: &State, plan: &Plan) -> Option<usize>
+    requires { length state.now.pools ≤ 16 }
+    ensures { result ≡ plan_pool state.entry.now plan.now }
 {
     match plan {
         Plan::PoolList { pool: None, .. } => None,
@@ -42,58 +42,63 @@ fn pool_of_plan(s: &State, plan: &Plan) -> Option<usize>
         Plan::CpuAdd { pool, .. } => Some(pool.0 as usize),
         Plan::CpuRemove { pool, .. } => Some(pool.0 as usize),
         Plan::Migrate { from, .. } => Some(from.0 as usize),
-        Plan::Credit2Dom { dom, .. } => home_of_domain(s, *dom),
+        Plan::Credit2Dom { dom, .. } => home_of_domain(state, *dom),
         Plan::Credit2Pool { pool, .. } => Some(pool.0 as usize),
-        Plan::RtdsDom { dom, .. } => home_of_domain(s, *dom),
-        Plan::Pause { dom, .. } => home_of_domain(s, *dom),
-        Plan::Unpause { dom, .. } => home_of_domain(s, *dom),
+        Plan::RtdsDom { dom, .. } => home_of_domain(state, *dom),
+        Plan::Pause { dom, .. } => home_of_domain(state, *dom),
+        Plan::Unpause { dom, .. } => home_of_domain(state, *dom),
         Plan::ArincSet { pool, .. } => Some(pool.0 as usize),
-        Plan::Pin { dom, .. } => home_of_domain(s, *dom),
+        Plan::Pin { dom, .. } => home_of_domain(state, *dom),
     }
 }
 
 /// What the command will do, or why it is refused.
-fn judged(m: &Machine, s: &State, c: &Command, tool: &mut ToolState) -> Result<Plan, Refusal>
-    requires stands { Stands m.now s.now }
-    requires command { IsCheckedCommand c.now }
-    requires tool { KnowsMachine m.now tool.old }
-    ensures verdict { result ≡ judged_command m.now s.entry.now c.now }
-    ensures tool { KnowsMachine m.now tool.new }
+fn judged(
+    machine: &Machine,
+    state: &State,
+    command: &Command,
+    tool: &mut ToolState,
+) -> Result<Plan, Refusal>
+    requires stands { Stands machine.now state.now }
+    requires c { IsCheckedCommand command.now }
+    requires tool { KnowsMachine machine.now tool.old }
+    ensures verdict { result ≡ judged_command machine.now state.entry.now command.now }
+    ensures tool { KnowsMachine machine.now tool.new }
 {
-    tool.read(s);
-    let subject = tool.subject(c);
-    let facts = facts_at(m.config.granularity, s, subject);
-    tool.judge(c, &facts)
+    tool.read(state);
+    let subject = tool.subject(command);
+    let facts = facts_at(machine.config.granularity, state, subject);
+    tool.judge(command, &facts)
 }
 
 /// What is answered to the next line with a command.
 pub(crate) fn verdict(
-    m: &Machine,
-    s: &State,
+    machine: &Machine,
+    state: &State,
     line: &CommandLine,
     tool: &mut ToolState,
 ) -> Result<Plan, Refusal>
-    requires stands { Stands m.now s.now }
-    requires next { slice_get m.now.work.commands s.now.next_command ≡ Some line.now }
-    requires tool { KnowsMachine m.now tool.old }
-    ensures verdict { result ≡ line_verdict m.now s.entry.now line.now }
-    ensures tool { KnowsMachine m.now tool.new }
+    requires stands { Stands machine.now state.now }
+    requires next { slice_get machine.now.work.commands state.now.next_command ≡ Some line.now }
+    requires tool { KnowsMachine machine.now tool.old }
+    ensures verdict { result ≡ line_verdict machine.now state.entry.now line.now }
+    ensures tool { KnowsMachine machine.now tool.new }
 {
     match &line.command {
         Err(fault) => Err(Refusal::Syntax {
             place: u64::from(fault.place),
         }),
-        Ok(c) => judged(m, s, c, tool),
+        Ok(c) => judged(machine, state, c, tool),
     }
 }
 
 /// The cores of the pool with this number are looked at.
-fn settle_pool(t: Moment, i: usize, pools: &mut Row<Option<Pool>>)
+fn settle_pool(t: Moment, index: usize, pools: &mut Row<Option<Pool>>)
     requires early { t.0 ≤ most_span }
     requires fits { EachPlace (PoolFitsAt t.0) pools.old }
-    ensures { pools.new ≡ change_at i (settled_pool t.0) pools.old }
+    ensures { pools.new ≡ change_at index (settled_pool t.0) pools.old }
 {
-    if let Some(place) = pools.get_mut(i)
+    if let Some(place) = pools.get_mut(index)
         && let Some(pool) = place
     {
         settle(t, pool);
@@ -101,56 +106,61 @@ fn settle_pool(t: Moment, i: usize, pools: &mut Row<Option<Pool>>)
 }
 
 /// The same, where there is one.
-fn settle_at(t: Moment, home: Option<usize>, s: &mut State)
+fn settle_at(t: Moment, home: Option<usize>, state: &mut State)
     requires early { t.0 ≤ most_span }
-    requires fits { EachPlace (PoolFitsAt t.0) s.old.pools }
-    ensures { s.new ≡ settled_at t.0 home s.old }
+    requires fits { EachPlace (PoolFitsAt t.0) state.old.pools }
+    ensures { state.new ≡ settled_at t.0 home state.old }
 {
     if let Some(i) = home {
-        settle_pool(t, i, &mut s.pools);
+        settle_pool(t, i, &mut state.pools);
     }
 }
 
 /// The next command, which is accepted with this plan, is over and carried out, and the cores of its pool are looked at.
-fn accept(m: &Machine, plan: Plan, s: &mut State, spares: &mut Row<Option<Pool>>)
-    requires stands { Stands m.now s.old }
-    requires enabled { is_action_enabled m.now s.old s.old.now actions.Xl ≡ true }
-    requires accepted { IsAccepted m.now s.old plan }
-    requires spares { HasSpares m.now s.old.next_command spares.old }
-    ensures state { s.new ≡ after m.now s.old s.old.now actions.Xl }
-    ensures spares { HasSpares m.now s.new.next_command spares.new }
+fn accept(machine: &Machine, plan: Plan, state: &mut State, spares: &mut Row<Option<Pool>>)
+    requires stands { Stands machine.now state.old }
+    requires enabled { is_action_enabled machine.now state.old state.old.now actions.Xl ≡ true }
+    requires accepted { IsAccepted machine.now state.old plan }
+    requires spares { HasSpares machine.now state.old.next_command spares.old }
+    ensures s { state.new ≡ after machine.now state.old state.old.now actions.Xl }
+    ensures spares { HasSpares machine.now state.new.next_command spares.new }
 {
-    let t = s.now;
-    let k = s.next_command as usize;
-    let home = pool_of_plan(s, &plan);
-    s.next_command += 1;
-    carry_out(m, Moment(t), k, plan, home, s, spares);
-    settle_at(Moment(t), home, s);
+    let t = state.now;
+    let k = state.next_command as usize;
+    let home = pool_of_plan(state, &plan);
+    state.next_command += 1;
+    carry_out(machine, Moment(t), k, plan, home, state, spares);
+    settle_at(Moment(t), home, state);
 }
 
 /// The next command of the workload, whose moment has come.
 pub fn command(
-    m: &Machine,
-    s: &mut State,
+    machine: &Machine,
+    state: &mut State,
     tool: &mut ToolState,
     spares: &mut Row<Option<Pool>>,
 ) -> Event
-    requires stands { Stands m.now s.old }
-    requires enabled { is_action_enabled m.now s.old s.old.now actions.Xl ≡ true }
-    requires tool { KnowsMachine m.now tool.old }
-    requires spares { HasSpares m.now s.old.next_command spares.old }
-    ensures event { result ≡ event_of m.now s.old s.old.now actions.Xl }
-    ensures state { s.new ≡ after m.now s.old s.old.now actions.Xl }
-    ensures tool { KnowsMachine m.now tool.new }
-    ensures spares { HasSpares m.now s.new.next_command spares.new }
+    requires stands { Stands machine.now state.old }
+    requires enabled { is_action_enabled machine.now state.old state.old.now actions.Xl ≡ true }
+    requires tool { KnowsMachine machine.now tool.old }
+    requires spares { HasSpares machine.now state.old.next_command spares.old }
+    ensures event { result ≡ event_of machine.now state.old state.old.now actions.Xl }
+    ensures s { state.new ≡ after machine.now state.old state.old.now actions.Xl }
+    ensures tool { KnowsMachine machine.now tool.new }
+    ensures spares { HasSpares machine.now state.new.next_command spares.new }
 {
-    let Some(line) = m.work.commands.as_slice().get(s.next_command as usize) else {
+    let Some(line) = machine
+        .work
+        .commands
+        .as_slice()
+        .get(state.next_command as usize)
+    else {
         unreachable!();
     };
-    let k = s.next_command + 1;
-    match verdict(m, s, line, tool) {
+    let k = state.next_command + 1;
+    match verdict(machine, state, line, tool) {
         Err(fault) => {
-            s.next_command = k;
+            state.next_command = k;
             Event::Xl {
                 k,
                 reply: Err(fault),
@@ -158,7 +168,7 @@ pub fn command(
         }
         Ok(plan) => {
             let reply = reply_of(&plan);
-            accept(m, plan, s, spares);
+            accept(machine, plan, state, spares);
             Event::Xl {
                 k,
                 reply: Ok(reply),

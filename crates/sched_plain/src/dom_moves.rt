@@ -1,4 +1,4 @@
-//! Domains that move from one pool to another. g is the number of a core's processors, t the moment.
+//! Domains that move from one pool to another.
 
 ghost use Rattle.sched_model.specs.CheckedMachine.{most_span};
 ghost use Rattle.std.specs.Prelude.{◌≡◌, ◌<◌, ◌≤◌, length, true};
@@ -23,10 +23,10 @@ use sched_model::row::Row;
 use sched_model::state::{Domain, Pool, State};
 
 /// The pool to which the domain is moving, where the pool with this number has it.
-pub(crate) fn target_in(s: &State, i: usize, d: DomId) -> Option<PoolId>
-    ensures { result ≡ domain_target d.0 i s.entry.now.pools }
+pub(crate) fn target_in(state: &State, place: usize, d: DomId) -> Option<PoolId>
+    ensures { result ≡ domain_target d.0 place state.entry.now.pools }
 {
-    let pool = pool_at(s, i)?;
+    let pool = pool_at(state, place)?;
     item_at(pool.domains.as_slice(), d.0 as usize)?.moving
 }
 
@@ -46,13 +46,13 @@ fn leave(t: Moment, d: DomId, pool: &mut Pool) -> Option<Domain>
 }
 
 /// The same in the pool with this number.
-fn leave_at(t: Moment, d: DomId, i: usize, pools: &mut Row<Option<Pool>>) -> Option<Domain>
+fn leave_at(t: Moment, d: DomId, index: usize, pools: &mut Row<Option<Pool>>) -> Option<Domain>
     requires early { t.0 ≤ most_span }
     requires fits { EachPlace (PoolFitsAt t.0) pools.old }
-    ensures domain { result ≡ domain_in d.0 i pools.old }
-    ensures pools { pools.new ≡ change_at i (left_by t.0 d.0) pools.old }
+    ensures domain { result ≡ domain_in d.0 index pools.old }
+    ensures pools { pools.new ≡ change_at index (left_by t.0 d.0) pools.old }
 {
-    if let Some(place) = pools.get_mut(i)
+    if let Some(place) = pools.get_mut(index)
         && let Some(pool) = place
     {
         leave(t, d, pool)
@@ -62,14 +62,14 @@ fn leave_at(t: Moment, d: DomId, i: usize, pools: &mut Row<Option<Pool>>) -> Opt
 }
 
 /// The domain joins the pool with its scheduler's default parameters, and the pool's cores are looked at.
-fn join(g: u8, t: Moment, d: DomId, joining: Domain, pool: &mut Pool)
-    requires some { 0 < g }
-    requires few { g ≤ 4 }
+fn join(granularity: u8, t: Moment, d: DomId, joining: Domain, pool: &mut Pool)
+    requires some { 0 < granularity }
+    requires few { granularity ≤ 4 }
     requires early { t.0 ≤ most_span }
     requires vcpus { length joining.vcpus ≤ 32 }
     requires before { PoolFitsAt t.0 pool.old }
-    requires after { PoolFitsAt t.0 (joined_by g t.0 d.0 joining pool.old) }
-    ensures { pool.new ≡ joined_by g t.0 d.0 joining pool.old }
+    requires after { PoolFitsAt t.0 (joined_by granularity t.0 d.0 joining pool.old) }
+    ensures { pool.new ≡ joined_by granularity t.0 d.0 joining pool.old }
 {
     let params = default_dom_params(&pool.scheduler.records);
     let domain = Domain {
@@ -77,46 +77,53 @@ fn join(g: u8, t: Moment, d: DomId, joining: Domain, pool: &mut Pool)
         moving: None,
         vcpus: joining.vcpus,
     };
-    with_domain(g, t, d, domain, &params, pool);
+    with_domain(granularity, t, d, domain, &params, pool);
     settle(t, pool);
 }
 
 /// The same in the pool with this number.
-fn join_at(g: u8, t: Moment, d: DomId, joining: Domain, i: usize, pools: &mut Row<Option<Pool>>)
-    requires some { 0 < g }
-    requires few { g ≤ 4 }
+fn join_at(
+    granularity: u8,
+    t: Moment,
+    d: DomId,
+    joining: Domain,
+    index: usize,
+    pools: &mut Row<Option<Pool>>,
+)
+    requires some { 0 < granularity }
+    requires few { granularity ≤ 4 }
     requires early { t.0 ≤ most_span }
     requires vcpus { length joining.vcpus ≤ 32 }
     requires before { EachPlace (PoolFitsAt t.0) pools.old }
     requires after { EachPlace (PoolFitsAt t.0)
-        (change_at i (joined_by g t.0 d.0 joining) pools.old) }
-    ensures { pools.new ≡ change_at i (joined_by g t.0 d.0 joining) pools.old }
+        (change_at index (joined_by granularity t.0 d.0 joining) pools.old) }
+    ensures { pools.new ≡ change_at index (joined_by granularity t.0 d.0 joining) pools.old }
 {
-    if let Some(place) = pools.get_mut(i)
+    if let Some(place) = pools.get_mut(index)
         && let Some(pool) = place
     {
-        join(g, t, d, joining, pool);
+        join(granularity, t, d, joining, pool);
     }
 }
 
 /// The domain leaves its pool and joins the one to which it is moving.
-pub fn move_domain(m: &Machine, d: DomId, s: &mut State) -> Event
-    requires stands { Stands m.now s.old }
-    requires enabled { is_action_enabled m.now s.old s.old.now (actions.DomMoved d) ≡ true }
-    ensures event { result ≡ event_of m.now s.old s.old.now (actions.DomMoved d) }
-    ensures state { s.new ≡ after m.now s.old s.old.now (actions.DomMoved d) }
+pub fn move_domain(machine: &Machine, d: DomId, state: &mut State) -> Event
+    requires stands { Stands machine.now state.old }
+    requires enabled { is_action_enabled machine.now state.old state.old.now (actions.DomMoved d) ≡ true }
+    ensures event { result ≡ event_of machine.now state.old state.old.now (actions.DomMoved d) }
+    ensures s { state.new ≡ after machine.now state.old state.old.now (actions.DomMoved d) }
 {
-    let g = m.config.granularity;
-    let t = s.now;
-    let Some(from) = home_of_domain(s, d) else {
+    let g = machine.config.granularity;
+    let t = state.now;
+    let Some(from) = home_of_domain(state, d) else {
         unreachable!();
     };
-    let Some(to) = target_in(s, from, d) else {
+    let Some(to) = target_in(state, from, d) else {
         unreachable!();
     };
-    let Some(domain) = leave_at(Moment(t), d, from, &mut s.pools) else {
+    let Some(domain) = leave_at(Moment(t), d, from, &mut state.pools) else {
         unreachable!();
     };
-    join_at(g, Moment(t), d, domain, to.0 as usize, &mut s.pools);
+    join_at(g, Moment(t), d, domain, to.0 as usize, &mut state.pools);
     Event::DomMoved { d, to }
 }

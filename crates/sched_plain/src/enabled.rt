@@ -16,80 +16,91 @@ use sched_model::places::item_at;
 use sched_model::state::{FreeCore, State};
 
 /// Whether the next stall has come.
-fn stall_due(m: &Machine, s: &State, t: Moment) -> bool
-    ensures { result ≡ has_stall_come m.now s.entry.now t.0 }
+fn stall_due(machine: &Machine, state: &State, t: Moment) -> bool
+    ensures { result ≡ has_stall_come machine.now state.entry.now t.0 }
 {
-    match m.work.stalls.as_slice().get(s.next_stall as usize) {
+    match machine
+        .work
+        .stalls
+        .as_slice()
+        .get(state.next_stall as usize)
+    {
         None => false,
         Some(line) => line.at.0 <= t.0,
     }
 }
 
 /// Whether the next command has come.
-fn command_due(m: &Machine, s: &State, t: Moment) -> bool
-    ensures { result ≡ has_command_come m.now s.entry.now t.0 }
+fn command_due(machine: &Machine, state: &State, t: Moment) -> bool
+    ensures { result ≡ has_command_come machine.now state.entry.now t.0 }
 {
-    match m.work.commands.as_slice().get(s.next_command as usize) {
+    match machine
+        .work
+        .commands
+        .as_slice()
+        .get(state.next_command as usize)
+    {
         None => false,
         Some(line) => line.at.0 <= t.0,
     }
 }
 
 /// Whether a core of no pool is leaving, and its first processor is up.
-fn free_ready(t: Moment, c: &FreeCore) -> bool
-    ensures { result ≡ is_free_core_ready t.0 c.now }
+fn free_ready(t: Moment, core: &FreeCore) -> bool
+    ensures { result ≡ is_free_core_ready t.0 core.now }
 {
-    c.target.is_some()
-        && match c.stall_ends.as_slice() {
+    core.target.is_some()
+        && match core.stall_ends.as_slice() {
             [] => false,
             [end, ..] => end.0 <= t.0,
         }
 }
 
 /// The same of the core with this number.
-fn is_free_ready(s: &State, t: Moment, r: ResId) -> bool
-    ensures { result ≡ test_at s.entry.now.free r.0 (is_free_core_ready t.0) }
+fn is_free_ready(state: &State, t: Moment, r: ResId) -> bool
+    ensures { result ≡ test_at state.entry.now.free r.0 (is_free_core_ready t.0) }
 {
-    match item_at(s.free.as_slice(), r.0 as usize) {
+    match item_at(state.free.as_slice(), r.0 as usize) {
         None => false,
         Some(c) => free_ready(t, c),
     }
 }
 
 /// Whether the action may come at t, by the pool of its subject.
-fn is_enabled_at_home(m: &Machine, s: &State, t: Moment, action: Action) -> bool
-    requires machine { MachineFits m.now }
-    requires state { StateFits s.now }
-    ensures { result ≡ enabled_at_home m.now s.entry.now t.0 action }
+fn is_enabled_at_home(machine: &Machine, state: &State, t: Moment, action: Action) -> bool
+    requires m { MachineFits machine.now }
+    requires s { StateFits state.now }
+    ensures { result ≡ enabled_at_home machine.now state.entry.now t.0 action }
 {
-    match home_of(m.config.granularity, s, action) {
+    match home_of(machine.config.granularity, state, action) {
         None => false,
-        Some(i) => is_enabled_at(m.config.granularity, s, t, action, i),
+        Some(i) => is_enabled_at(machine.config.granularity, state, t, action, i),
     }
 }
 
 /// Whether the action may come at t in the pool with this number.
-fn is_enabled_at(g: u8, s: &State, t: Moment, action: Action, i: usize) -> bool
-    requires some { 0 < g }
-    requires state { StateFits s.now }
-    ensures { result ≡ test_at s.entry.now.pools i (λ pool. enabled_in g t.0 pool action) }
+fn is_enabled_at(granularity: u8, state: &State, t: Moment, action: Action, place: usize) -> bool
+    requires some { 0 < granularity }
+    requires s { StateFits state.now }
+    ensures { result ≡ test_at state.entry.now.pools place (λ pool. enabled_in granularity t.0 pool action) }
 {
-    match pool_at(s, i) {
+    match pool_at(state, place) {
         None => false,
-        Some(pool) => is_enabled_in(g, t, pool, action),
+        Some(pool) => is_enabled_in(granularity, t, pool, action),
     }
 }
 
 /// Whether the action may come at t.
-pub fn is_enabled(m: &Machine, s: &State, t: Moment, action: Action) -> bool
-    requires machine { MachineFits m.now }
-    requires state { StateFits s.now }
-    ensures { result ≡ is_action_enabled m.now s.entry.now t.0 action }
+pub fn is_enabled(machine: &Machine, state: &State, t: Moment, action: Action) -> bool
+    requires m { MachineFits machine.now }
+    requires s { StateFits state.now }
+    ensures { result ≡ is_action_enabled machine.now state.entry.now t.0 action }
 {
     match action {
-        Action::Stall => stall_due(m, s, t),
-        Action::Xl => command_due(m, s, t) && !is_move_under_way(s),
-        Action::Moved(r) => is_free_ready(s, t, r) || is_enabled_at_home(m, s, t, action),
-        _ => is_enabled_at_home(m, s, t, action),
+        Action::Stall => stall_due(machine, state, t),
+        Action::Xl => command_due(machine, state, t) && !is_move_under_way(state),
+        Action::Moved(r) => is_free_ready(state, t, r)
+            || is_enabled_at_home(machine, state, t, action),
+        _ => is_enabled_at_home(machine, state, t, action),
     }
 }

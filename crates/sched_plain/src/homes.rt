@@ -19,126 +19,126 @@ use sched_model::action::Action;
 use sched_model::places::item_at;
 use sched_model::state::{Domain, FreeCore, Pool, Resource, State};
 
-/// The pool that has the core, where the first of these has the number i.
-fn core_home(i: usize, pools: &[Option<Pool>], r: ResId) -> Option<usize>
-    requires { i + length pools.now < 2 ^ 64 }
-    ensures { result ≡ first_place i (λ (pool : PoolRecord). is_some (at_place pool.resources r.0))
+/// The pool that has the core, where the first of these has this number.
+fn core_home(first: usize, pools: &[Option<Pool>], r: ResId) -> Option<usize>
+    requires { first + length pools.now < 2 ^ 64 }
+    ensures { result ≡ first_place first (λ (pool : PoolRecord). is_some (at_place pool.resources r.0))
         pools.now }
 {
     match pools {
         [] => None,
-        [None, rest @ ..] => core_home(i + 1, rest, r),
+        [None, rest @ ..] => core_home(first + 1, rest, r),
         [Some(pool), rest @ ..] => {
             if item_at(pool.resources.as_slice(), r.0 as usize).is_some() {
-                Some(i)
+                Some(first)
             } else {
-                core_home(i + 1, rest, r)
+                core_home(first + 1, rest, r)
             }
         }
     }
 }
 
-/// The pool that has the domain, where the first of these has the number i.
-fn domain_home(i: usize, pools: &[Option<Pool>], d: DomId) -> Option<usize>
-    requires { i + length pools.now < 2 ^ 64 }
-    ensures { result ≡ first_place i (λ (pool : PoolRecord). is_some (at_place pool.domains d.0))
+/// The pool that has the domain, where the first of these has this number.
+fn domain_home(first: usize, pools: &[Option<Pool>], d: DomId) -> Option<usize>
+    requires { first + length pools.now < 2 ^ 64 }
+    ensures { result ≡ first_place first (λ (pool : PoolRecord). is_some (at_place pool.domains d.0))
         pools.now }
 {
     match pools {
         [] => None,
-        [None, rest @ ..] => domain_home(i + 1, rest, d),
+        [None, rest @ ..] => domain_home(first + 1, rest, d),
         [Some(pool), rest @ ..] => {
             if item_at(pool.domains.as_slice(), d.0 as usize).is_some() {
-                Some(i)
+                Some(first)
             } else {
-                domain_home(i + 1, rest, d)
+                domain_home(first + 1, rest, d)
             }
         }
     }
 }
 
 /// The pool that has the core.
-pub fn home_of_core(s: &State, r: ResId) -> Option<usize>
-    requires { length s.now.pools ≤ 16 }
-    ensures { result ≡ home_pool_of_core s.entry.now r.0 }
+pub fn home_of_core(state: &State, r: ResId) -> Option<usize>
+    requires { length state.now.pools ≤ 16 }
+    ensures { result ≡ home_pool_of_core state.entry.now r.0 }
 {
-    core_home(0, s.pools.as_slice(), r)
+    core_home(0, state.pools.as_slice(), r)
 }
 
 /// The pool that has the domain.
-pub fn home_of_domain(s: &State, d: DomId) -> Option<usize>
-    requires { length s.now.pools ≤ 16 }
-    ensures { result ≡ home_pool_of_domain s.entry.now d.0 }
+pub fn home_of_domain(state: &State, d: DomId) -> Option<usize>
+    requires { length state.now.pools ≤ 16 }
+    ensures { result ≡ home_pool_of_domain state.entry.now d.0 }
 {
-    domain_home(0, s.pools.as_slice(), d)
+    domain_home(0, state.pools.as_slice(), d)
 }
 
 /// The pool with this number.
-pub fn pool_at(s: &State, i: usize) -> Option<&Pool>
-    ensures { option_copied result ≡ at_place s.entry.now.pools i }
+pub fn pool_at(state: &State, place: usize) -> Option<&Pool>
+    ensures { option_copied result ≡ at_place state.entry.now.pools place }
 {
-    item_at(s.pools.as_slice(), i)
+    item_at(state.pools.as_slice(), place)
 }
 
 /// The pool of the action's subject.
-pub fn home_of(g: u8, s: &State, action: Action) -> Option<usize>
-    requires some { 0 < g }
-    requires few { length s.now.pools ≤ 16 }
-    ensures { result ≡ home_pool_of_action g s.entry.now action }
+pub fn home_of(granularity: u8, state: &State, action: Action) -> Option<usize>
+    requires some { 0 < granularity }
+    requires few { length state.now.pools ≤ 16 }
+    ensures { result ≡ home_pool_of_action granularity state.entry.now action }
 {
     match action {
         Action::Stall => None,
         Action::Xl => None,
-        Action::Moved(r) => home_of_core(s, r),
-        Action::DomMoved(d) => home_of_domain(s, d),
-        Action::Wake(v) => home_of_domain(s, v.dom),
-        Action::Block(p) => home_of_core(s, ResId(p.0 / g)),
-        Action::Slice(r) => home_of_core(s, r),
-        Action::Repl(u) => home_of_domain(s, u.dom),
-        Action::Refill(d) => home_of_domain(s, d),
-        Action::Arrive(p) => home_of_core(s, ResId(p.0 / g)),
-        Action::Decide(r) => home_of_core(s, r),
-        Action::Leave(p) => home_of_core(s, ResId(p.0 / g)),
-        Action::Save(r) => home_of_core(s, r),
+        Action::Moved(r) => home_of_core(state, r),
+        Action::DomMoved(d) => home_of_domain(state, d),
+        Action::Wake(v) => home_of_domain(state, v.dom),
+        Action::Block(p) => home_of_core(state, ResId(p.0 / granularity)),
+        Action::Slice(r) => home_of_core(state, r),
+        Action::Repl(u) => home_of_domain(state, u.dom),
+        Action::Refill(d) => home_of_domain(state, d),
+        Action::Arrive(p) => home_of_core(state, ResId(p.0 / granularity)),
+        Action::Decide(r) => home_of_core(state, r),
+        Action::Leave(p) => home_of_core(state, ResId(p.0 / granularity)),
+        Action::Save(r) => home_of_core(state, r),
     }
 }
 
-/// Whether one of the cores is leaving, where the first of these has the number i.
-fn any_leaving(i: usize, cores: &[Option<Resource>]) -> bool
-    requires { i + length cores.now < 2 ^ 64 }
+/// Whether one of the cores is leaving, where the first of these has this number.
+fn any_leaving(first: usize, cores: &[Option<Resource>]) -> bool
+    requires { first + length cores.now < 2 ^ 64 }
     ensures { result
-        ≡ list_any (λ (c : ℕ × ResourceRecord). c.1.leaving) (numbered_items i cores.now) }
+        ≡ list_any (λ (c : ℕ × ResourceRecord). c.1.leaving) (numbered_items first cores.now) }
 {
     match cores {
         [] => false,
-        [None, rest @ ..] => any_leaving(i + 1, rest),
-        [Some(c), rest @ ..] => c.leaving || any_leaving(i + 1, rest),
+        [None, rest @ ..] => any_leaving(first + 1, rest),
+        [Some(c), rest @ ..] => c.leaving || any_leaving(first + 1, rest),
     }
 }
 
-/// Whether one of the domains is moving, where the first of these has the number i.
-fn any_moving(i: usize, domains: &[Option<Domain>]) -> bool
-    requires { i + length domains.now < 2 ^ 64 }
+/// Whether one of the domains is moving, where the first of these has this number.
+fn any_moving(first: usize, domains: &[Option<Domain>]) -> bool
+    requires { first + length domains.now < 2 ^ 64 }
     ensures { result ≡ list_any (λ (d : ℕ × DomainRecord). is_some d.1.moving)
-        (numbered_items i domains.now) }
+        (numbered_items first domains.now) }
 {
     match domains {
         [] => false,
-        [None, rest @ ..] => any_moving(i + 1, rest),
-        [Some(d), rest @ ..] => d.moving.is_some() || any_moving(i + 1, rest),
+        [None, rest @ ..] => any_moving(first + 1, rest),
+        [Some(d), rest @ ..] => d.moving.is_some() || any_moving(first + 1, rest),
     }
 }
 
-/// Whether one of the free cores is leaving, where the first of these has the number i.
-fn any_free_leaving(i: usize, free: &[Option<FreeCore>]) -> bool
-    requires { i + length free.now < 2 ^ 64 }
+/// Whether one of the free cores is leaving, where the first of these has this number.
+fn any_free_leaving(first: usize, free: &[Option<FreeCore>]) -> bool
+    requires { first + length free.now < 2 ^ 64 }
     ensures { result ≡ list_any (λ (e : ℕ × FreeCoreRecord). is_some e.1.target)
-        (numbered_items i free.now) }
+        (numbered_items first free.now) }
 {
     match free {
         [] => false,
-        [None, rest @ ..] => any_free_leaving(i + 1, rest),
-        [Some(c), rest @ ..] => c.target.is_some() || any_free_leaving(i + 1, rest),
+        [None, rest @ ..] => any_free_leaving(first + 1, rest),
+        [Some(c), rest @ ..] => c.target.is_some() || any_free_leaving(first + 1, rest),
     }
 }
 
@@ -150,26 +150,26 @@ fn is_moving_in(pool: &Pool) -> bool
     any_leaving(0, pool.resources.as_slice()) || any_moving(0, pool.domains.as_slice())
 }
 
-/// Whether a core or a domain of one of the pools is on its way, where the first of these has the number i.
-fn any_in_pools(i: usize, pools: &[Option<Pool>]) -> bool
-    requires few { i + length pools.now < 2 ^ 64 }
+/// Whether a core or a domain of one of the pools is on its way, where the first of these has this number.
+fn any_in_pools(first: usize, pools: &[Option<Pool>]) -> bool
+    requires few { first + length pools.now < 2 ^ 64 }
     requires fits { AllPlaces PoolFits pools.now }
     ensures { result ≡ list_any (λ (e : ℕ × PoolRecord). is_anything_moving e.1)
-        (numbered_items i pools.now) }
+        (numbered_items first pools.now) }
 {
     match pools {
         [] => false,
-        [None, rest @ ..] => any_in_pools(i + 1, rest),
-        [Some(pool), rest @ ..] => is_moving_in(pool) || any_in_pools(i + 1, rest),
+        [None, rest @ ..] => any_in_pools(first + 1, rest),
+        [Some(pool), rest @ ..] => is_moving_in(pool) || any_in_pools(first + 1, rest),
     }
 }
 
 /// Whether a core or a domain is on its way to another pool.
-pub fn is_move_under_way(s: &State) -> bool
-    requires pools { length s.now.pools ≤ 16 }
-    requires free { length s.now.free ≤ 64 }
-    requires fits { AllPlaces PoolFits s.now.pools }
-    ensures { result ≡ has_move_under_way s.entry.now }
+pub fn is_move_under_way(state: &State) -> bool
+    requires pools { length state.now.pools ≤ 16 }
+    requires free { length state.now.free ≤ 64 }
+    requires fits { AllPlaces PoolFits state.now.pools }
+    ensures { result ≡ has_move_under_way state.entry.now }
 {
-    any_in_pools(0, s.pools.as_slice()) || any_free_leaving(0, s.free.as_slice())
+    any_in_pools(0, state.pools.as_slice()) || any_free_leaving(0, state.free.as_slice())
 }

@@ -1,4 +1,4 @@
-//! Cores and domains that move from one pool to another. g is the number of a core's processors, t the moment.
+//! Cores and domains that move from one pool to another.
 
 ghost use Rattle.sched_model.specs.CheckedMachine.{most_span};
 ghost use Rattle.std.specs.Prelude.{◌≡◌, ◌<◌, ◌≤◌, length, Some, None, option_map};
@@ -45,14 +45,14 @@ fn join_core_at(
     t: Moment,
     r: ResId,
     stall_ends: &StallEnds,
-    i: usize,
+    index: usize,
     pools: &mut Row<Option<Pool>>,
 )
     requires early { t.0 ≤ most_span }
     requires fits { EachPlace (PoolFitsAt t.0) pools.old }
-    ensures { pools.new ≡ change_at i (pool_with_core t.0 r.0 stall_ends.now) pools.old }
+    ensures { pools.new ≡ change_at index (pool_with_core t.0 r.0 stall_ends.now) pools.old }
 {
-    if let Some(place) = pools.get_mut(i)
+    if let Some(place) = pools.get_mut(index)
         && let Some(pool) = place
     {
         join_core(t, r, stall_ends, pool);
@@ -72,13 +72,18 @@ fn part_core(t: Moment, r: ResId, pool: &mut Pool) -> Option<StallEnds>
 }
 
 /// The same in the pool with this number.
-fn part_core_at(t: Moment, r: ResId, i: usize, pools: &mut Row<Option<Pool>>) -> Option<StallEnds>
+fn part_core_at(
+    t: Moment,
+    r: ResId,
+    index: usize,
+    pools: &mut Row<Option<Pool>>,
+) -> Option<StallEnds>
     requires early { t.0 ≤ most_span }
     requires fits { EachPlace (PoolFitsAt t.0) pools.old }
-    ensures ends { result ≡ ends_at r.0 i pools.old }
-    ensures pools { pools.new ≡ change_at i (without_its_core t.0 r.0) pools.old }
+    ensures ends { result ≡ ends_at r.0 index pools.old }
+    ensures pools { pools.new ≡ change_at index (without_its_core t.0 r.0) pools.old }
 {
-    if let Some(place) = pools.get_mut(i)
+    if let Some(place) = pools.get_mut(index)
         && let Some(pool) = place
     {
         part_core(t, r, pool)
@@ -88,50 +93,50 @@ fn part_core_at(t: Moment, r: ResId, i: usize, pools: &mut Row<Option<Pool>>) ->
 }
 
 /// A core of no pool joins the pool to which it is leaving.
-fn attach(t: Moment, r: ResId, i: u8, s: &mut State)
+fn attach(t: Moment, r: ResId, place: u8, state: &mut State)
     requires early { t.0 ≤ most_span }
-    requires fits { EachPlace (PoolFitsAt t.0) s.old.pools }
-    requires target { free_core_target s.old.free r.0 ≡ Some i }
-    ensures { s.new ≡ state_after_moved t.0 r.0 s.old }
+    requires fits { EachPlace (PoolFitsAt t.0) state.old.pools }
+    requires target { free_core_target state.old.free r.0 ≡ Some place }
+    ensures { state.new ≡ state_after_moved t.0 r.0 state.old }
 {
-    let Some(c) = take_item(&mut s.free, r.0 as usize) else {
+    let Some(c) = take_item(&mut state.free, r.0 as usize) else {
         unreachable!();
     };
-    join_core_at(t, r, &c.stall_ends, i as usize, &mut s.pools);
+    join_core_at(t, r, &c.stall_ends, place as usize, &mut state.pools);
 }
 
 /// A core leaves its pool, and is one of no pool then.
-fn detach(t: Moment, r: ResId, s: &mut State)
+fn detach(t: Moment, r: ResId, state: &mut State)
     requires early { t.0 ≤ most_span }
-    requires few { length s.old.pools ≤ 16 }
-    requires fits { EachPlace (PoolFitsAt t.0) s.old.pools }
-    requires owned { at_place s.old.free r.0 ≡ None }
-    ensures { s.new ≡ state_after_moved t.0 r.0 s.old }
+    requires few { length state.old.pools ≤ 16 }
+    requires fits { EachPlace (PoolFitsAt t.0) state.old.pools }
+    requires owned { at_place state.old.free r.0 ≡ None }
+    ensures { state.new ≡ state_after_moved t.0 r.0 state.old }
 {
-    if let Some(i) = home_of_core(s, r) {
-        if let Some(ends) = part_core_at(t, r, i, &mut s.pools) {
+    if let Some(i) = home_of_core(state, r) {
+        if let Some(ends) = part_core_at(t, r, i, &mut state.pools) {
             let free = FreeCore {
                 target: None,
                 stall_ends: ends,
             };
-            set_place(&mut s.free, r.0, Some(free));
+            set_place(&mut state.free, r.0, Some(free));
         }
     }
 }
 
 /// The core moves: from no pool to the one to which it is leaving, or from its pool to none.
-pub fn move_core(m: &Machine, r: ResId, s: &mut State) -> Event
-    requires { Stands m.now s.old }
-    ensures event { result ≡ event_of m.now s.old s.old.now (actions.Moved r) }
-    ensures state { s.new ≡ after m.now s.old s.old.now (actions.Moved r) }
+pub fn move_core(machine: &Machine, r: ResId, state: &mut State) -> Event
+    requires { Stands machine.now state.old }
+    ensures event { result ≡ event_of machine.now state.old state.old.now (actions.Moved r) }
+    ensures s { state.new ≡ after machine.now state.old state.old.now (actions.Moved r) }
 {
-    let t = s.now;
-    let to = target_at(s.free.as_slice(), r);
+    let t = state.now;
+    let to = target_at(state.free.as_slice(), r);
     match to {
-        Some(i) => attach(Moment(t), r, i, s),
+        Some(i) => attach(Moment(t), r, i, state),
         None => {
-            if item_at(s.free.as_slice(), r.0 as usize).is_none() {
-                detach(Moment(t), r, s);
+            if item_at(state.free.as_slice(), r.0 as usize).is_none() {
+                detach(Moment(t), r, state);
             }
         }
     }

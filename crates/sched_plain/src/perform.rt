@@ -26,78 +26,84 @@ use sched_model::row::Row;
 use sched_model::state::{Pool, State};
 
 /// The event in its pool, and then the pool's cores that are to decide anew.
-fn perform_in(g: u8, t: Moment, action: Action, pool: &mut Pool) -> Event
-    requires some { 0 < g }
-    requires few { g ≤ 4 }
+fn perform_in(granularity: u8, t: Moment, action: Action, pool: &mut Pool) -> Event
+    requires some { 0 < granularity }
+    requires few { granularity ≤ 4 }
     requires early { t.0 ≤ most_span }
     requires own { IsOfPool action }
-    requires enabled { enabled_in g t.0 pool.old action ≡ true }
+    requires enabled { enabled_in granularity t.0 pool.old action ≡ true }
     requires before { PoolFitsAt t.0 pool.old }
-    requires after { PoolFitsAt t.0 (after_in g t.0 pool.old action) }
-    ensures event { result ≡ event_in g t.0 pool.old action }
-    ensures pool { pool.new ≡ settled_pool t.0 (after_in g t.0 pool.old action) }
+    requires after { PoolFitsAt t.0 (after_in granularity t.0 pool.old action) }
+    ensures event { result ≡ event_in granularity t.0 pool.old action }
+    ensures pool { pool.new ≡ settled_pool t.0 (after_in granularity t.0 pool.old action) }
 {
-    let event = happen(g, t, action, pool);
+    let event = happen(granularity, t, action, pool);
     settle(t, pool);
     event
 }
 
 /// The event in the pool with this number.
-fn perform_at(m: &Machine, t: Moment, action: Action, i: usize, s: &mut State) -> Event
-    requires stands { Stands m.now s.old }
-    requires now { t.0 ≡ s.old.now }
+fn perform_at(
+    machine: &Machine,
+    t: Moment,
+    action: Action,
+    place: usize,
+    state: &mut State,
+) -> Event
+    requires stands { Stands machine.now state.old }
+    requires now { t.0 ≡ state.old.now }
     requires own { IsOfPool action }
-    requires enabled { is_action_enabled m.now s.old s.old.now action ≡ true }
-    requires home { home_pool_of_action m.now.config.granularity s.old action ≡ Some i }
-    ensures event { result ≡ event_of m.now s.old s.old.now action }
-    ensures state { s.new ≡ after m.now s.old s.old.now action }
+    requires enabled { is_action_enabled machine.now state.old state.old.now action ≡ true }
+    requires home { home_pool_of_action machine.now.config.granularity state.old action ≡ Some place }
+    ensures event { result ≡ event_of machine.now state.old state.old.now action }
+    ensures s { state.new ≡ after machine.now state.old state.old.now action }
 {
-    if i >= s.pools.len() {
+    if place >= state.pools.len() {
         unreachable!();
     }
-    match s.pools.item_mut(i) {
+    match state.pools.item_mut(place) {
         None => unreachable!(),
-        Some(pool) => perform_in(m.config.granularity, t, action, pool),
+        Some(pool) => perform_in(machine.config.granularity, t, action, pool),
     }
 }
 
 /// The event of an action that may come now at a pool, which is done.
-fn perform_at_home(m: &Machine, s: &mut State, action: Action) -> Event
-    requires stands { Stands m.now s.old }
+fn perform_at_home(machine: &Machine, state: &mut State, action: Action) -> Event
+    requires stands { Stands machine.now state.old }
     requires own { IsOfPool action }
-    requires enabled { is_action_enabled m.now s.old s.old.now action ≡ true }
-    ensures event { result ≡ event_of m.now s.old s.old.now action }
-    ensures state { s.new ≡ after m.now s.old s.old.now action }
+    requires enabled { is_action_enabled machine.now state.old state.old.now action ≡ true }
+    ensures event { result ≡ event_of machine.now state.old state.old.now action }
+    ensures s { state.new ≡ after machine.now state.old state.old.now action }
 {
-    let t = s.now;
-    match home_of(m.config.granularity, s, action) {
+    let t = state.now;
+    match home_of(machine.config.granularity, state, action) {
         None => unreachable!(),
-        Some(i) => perform_at(m, Moment(t), action, i, s),
+        Some(i) => perform_at(machine, Moment(t), action, i, state),
     }
 }
 
 /// The event of an action that may come now, which is done.
 pub fn perform(
-    m: &Machine,
-    s: &mut State,
+    machine: &Machine,
+    state: &mut State,
     tool: &mut ToolState,
     spares: &mut Row<Option<Pool>>,
     action: Action,
 ) -> Event
-    requires stands { Stands m.now s.old }
-    requires enabled { is_action_enabled m.now s.old s.old.now action ≡ true }
-    requires tool { KnowsMachine m.now tool.old }
-    requires spares { HasSpares m.now s.old.next_command spares.old }
-    ensures event { result ≡ event_of m.now s.old s.old.now action }
-    ensures state { s.new ≡ after m.now s.old s.old.now action }
-    ensures tool { KnowsMachine m.now tool.new }
-    ensures spares { HasSpares m.now s.new.next_command spares.new }
+    requires stands { Stands machine.now state.old }
+    requires enabled { is_action_enabled machine.now state.old state.old.now action ≡ true }
+    requires tool { KnowsMachine machine.now tool.old }
+    requires spares { HasSpares machine.now state.old.next_command spares.old }
+    ensures event { result ≡ event_of machine.now state.old state.old.now action }
+    ensures s { state.new ≡ after machine.now state.old state.old.now action }
+    ensures tool { KnowsMachine machine.now tool.new }
+    ensures spares { HasSpares machine.now state.new.next_command spares.new }
 {
     match action {
-        Action::Stall => stall(m, s),
-        Action::Xl => command(m, s, tool, spares),
-        Action::Moved(r) => move_core(m, r, s),
-        Action::DomMoved(d) => move_domain(m, d, s),
-        _ => perform_at_home(m, s, action),
+        Action::Stall => stall(machine, state),
+        Action::Xl => command(machine, state, tool, spares),
+        Action::Moved(r) => move_core(machine, r, state),
+        Action::DomMoved(d) => move_domain(machine, d, state),
+        _ => perform_at_home(machine, state, action),
     }
 }

@@ -50,13 +50,13 @@ impl Model for Plain {
 }
 
 /// The state of a machine at its opening, and what its tool knows then.
-fn open_states(alloc: Global, m: &Machine) -> Result<(State, ToolState), NoMemory>
-    requires { IsChecked m.now }
-    ensures state { IfOk result (λ r. r.0 ≡ opening m.now) }
-    ensures tool { IfOk result (λ r. r.1 ≡ tool_of m.now (opening m.now)) }
+fn open_states(alloc: Global, machine: &Machine) -> Result<(State, ToolState), NoMemory>
+    requires { IsChecked machine.now }
+    ensures state { IfOk result (λ r. r.0 ≡ opening machine.now) }
+    ensures tool { IfOk result (λ r. r.1 ≡ tool_of machine.now (opening machine.now)) }
 {
-    let state = open_state(alloc, m)?;
-    match ToolState::open(alloc, &m.config, &m.work) {
+    let state = open_state(alloc, machine)?;
+    match ToolState::open(alloc, &machine.config, &machine.work) {
         Ok(tool) => Ok((state, tool)),
         Err(full) => {
             drop(state);
@@ -68,15 +68,15 @@ fn open_states(alloc: Global, m: &Machine) -> Result<(State, ToolState), NoMemor
 /// All that stands beside the machine.
 fn open_beside(
     alloc: Global,
-    m: &Machine,
+    machine: &Machine,
 ) -> Result<(State, ToolState, Row<Option<Pool>>), NoMemory>
-    requires { IsChecked m.now }
-    ensures state { IfOk result (λ r. r.0 ≡ opening m.now) }
-    ensures tool { IfOk result (λ r. r.1 ≡ tool_of m.now (opening m.now)) }
-    ensures spares { IfOk result (λ r. r.2 ≡ spares_of m.now) }
+    requires { IsChecked machine.now }
+    ensures state { IfOk result (λ r. r.0 ≡ opening machine.now) }
+    ensures tool { IfOk result (λ r. r.1 ≡ tool_of machine.now (opening machine.now)) }
+    ensures spares { IfOk result (λ r. r.2 ≡ spares_of machine.now) }
 {
-    let (state, tool) = open_states(alloc, m)?;
-    match open_spares(alloc, m) {
+    let (state, tool) = open_states(alloc, machine)?;
+    match open_spares(alloc, machine) {
         Ok(spares) => Ok((state, tool, spares)),
         Err(full) => {
             drop(state);

@@ -34,103 +34,123 @@ pub enum Numbered {
 }
 
 impl Numbered {
-    /// The action of this kind whose subject has the number n.
-    fn at(self, n: u8) -> Action
-        ensures { result ≡ action_at self n }
+    /// The action of this kind has this number.
+    fn at(self, index: u8) -> Action
+        ensures { result ≡ action_at self index }
     {
         match self {
-            Numbered::Moved => Action::Moved(ResId(n)),
-            Numbered::DomMoved => Action::DomMoved(DomId(n)),
-            Numbered::Block => Action::Block(ProcId(n)),
-            Numbered::Slice => Action::Slice(ResId(n)),
-            Numbered::Refill => Action::Refill(DomId(n)),
-            Numbered::Arrive => Action::Arrive(ProcId(n)),
-            Numbered::Decide => Action::Decide(ResId(n)),
-            Numbered::Leave => Action::Leave(ProcId(n)),
-            Numbered::Save => Action::Save(ResId(n)),
+            Numbered::Moved => Action::Moved(ResId(index)),
+            Numbered::DomMoved => Action::DomMoved(DomId(index)),
+            Numbered::Block => Action::Block(ProcId(index)),
+            Numbered::Slice => Action::Slice(ResId(index)),
+            Numbered::Refill => Action::Refill(DomId(index)),
+            Numbered::Arrive => Action::Arrive(ProcId(index)),
+            Numbered::Decide => Action::Decide(ResId(index)),
+            Numbered::Leave => Action::Leave(ProcId(index)),
+            Numbered::Save => Action::Save(ResId(index)),
         }
     }
 }
 
-/// The first action of the kind that may come at t, among count subjects from the number n on.
+/// The first action of the kind that may come at t, among count subjects from this number on.
 fn first_numbered(
-    m: &Machine,
-    s: &State,
+    machine: &Machine,
+    state: &State,
     t: Moment,
     kind: Numbered,
-    n: u8,
+    first: u8,
     count: u8,
 ) -> Option<Action>
-    requires machine { MachineFits m.now }
-    requires state { StateFits s.now }
-    requires few { n + count < 2 ^ 8 }
-    ensures { result ≡ find (is_action_enabled m.now s.entry.now t.0)
-        (map (action_at kind) (numbers_from n count)) }
+    requires m { MachineFits machine.now }
+    requires s { StateFits state.now }
+    requires few { first + count < 2 ^ 8 }
+    ensures { result ≡ find (is_action_enabled machine.now state.entry.now t.0)
+        (map (action_at kind) (numbers_from first count)) }
 {
     if count == 0 {
         return None;
     }
-    let action = kind.at(n);
-    if is_enabled(m, s, t, action) {
+    let action = kind.at(first);
+    if is_enabled(machine, state, t, action) {
         return Some(action);
     }
-    first_numbered(m, s, t, kind, n + 1, count - 1)
+    first_numbered(machine, state, t, kind, first + 1, count - 1)
 }
 
-/// The first vCPU of the domain that may wake at t, among count from the index n on.
-fn first_wake_in(m: &Machine, s: &State, t: Moment, d: DomId, n: u8, count: u8) -> Option<Action>
-    requires machine { MachineFits m.now }
-    requires state { StateFits s.now }
-    requires few { n + count < 2 ^ 8 }
-    ensures { result ≡ find (is_action_enabled m.now s.entry.now t.0)
+/// The first vCPU of the domain that may wake at t, among count from this index on.
+fn first_wake_in(
+    machine: &Machine,
+    state: &State,
+    t: Moment,
+    d: DomId,
+    first: u8,
+    count: u8,
+) -> Option<Action>
+    requires m { MachineFits machine.now }
+    requires s { StateFits state.now }
+    requires few { first + count < 2 ^ 8 }
+    ensures { result ≡ find (is_action_enabled machine.now state.entry.now t.0)
         (map action_of.Wake (map (λ k. let v : VcpuRecord = record { dom = d; n = k } in v)
-        (numbers_from n count))) }
+        (numbers_from first count))) }
 {
     if count == 0 {
         return None;
     }
-    let action = Action::Wake(VcpuId { dom: d, n });
-    if is_enabled(m, s, t, action) {
+    let action = Action::Wake(VcpuId { dom: d, n: first });
+    if is_enabled(machine, state, t, action) {
         return Some(action);
     }
-    first_wake_in(m, s, t, d, n + 1, count - 1)
+    first_wake_in(machine, state, t, d, first + 1, count - 1)
 }
 
-/// The first unit of the domain that may be replenished at t, among count from the index n on.
-fn first_repl_in(m: &Machine, s: &State, t: Moment, d: DomId, n: u8, count: u8) -> Option<Action>
-    requires machine { MachineFits m.now }
-    requires state { StateFits s.now }
-    requires few { n + count < 2 ^ 8 }
-    ensures { result ≡ find (is_action_enabled m.now s.entry.now t.0)
+/// The first unit of the domain that may be replenished at t, among count from this index on.
+fn first_repl_in(
+    machine: &Machine,
+    state: &State,
+    t: Moment,
+    d: DomId,
+    first: u8,
+    count: u8,
+) -> Option<Action>
+    requires m { MachineFits machine.now }
+    requires s { StateFits state.now }
+    requires few { first + count < 2 ^ 8 }
+    ensures { result ≡ find (is_action_enabled machine.now state.entry.now t.0)
         (map action_of.Repl (map (λ k. let u : UnitRecord = record { dom = d; n = k } in u)
-        (numbers_from n count))) }
+        (numbers_from first count))) }
 {
     if count == 0 {
         return None;
     }
-    let action = Action::Repl(UnitId { dom: d, n });
-    if is_enabled(m, s, t, action) {
+    let action = Action::Repl(UnitId { dom: d, n: first });
+    if is_enabled(machine, state, t, action) {
         return Some(action);
     }
-    first_repl_in(m, s, t, d, n + 1, count - 1)
+    first_repl_in(machine, state, t, d, first + 1, count - 1)
 }
 
 /// The first vCPU that may wake at t, of these domains, of which the first has the number d.
 #[tactic(auto, using(crate::proofs::Searching::found_in_map))]
-fn first_wake(m: &Machine, s: &State, t: Moment, d: DomId, domains: &[DomConfig]) -> Option<Action>
-    requires machine { MachineFits m.now }
-    requires state { StateFits s.now }
+fn first_wake(
+    machine: &Machine,
+    state: &State,
+    t: Moment,
+    d: DomId,
+    domains: &[DomConfig],
+) -> Option<Action>
+    requires m { MachineFits machine.now }
+    requires s { StateFits state.now }
     requires guests { FewGuests domains.now }
     requires few { d.0 + length domains.now ≤ 64 }
-    ensures { result ≡ find (is_action_enabled m.now s.entry.now t.0)
+    ensures { result ≡ find (is_action_enabled machine.now state.entry.now t.0)
         (map action_of.Wake (vcpus_from d.0 domains.now)) }
 {
     match domains {
         [] => None,
         [domain, rest @ ..] => {
-            match first_wake_in(m, s, t, d, 0, domain.guests.len() as u8) {
+            match first_wake_in(machine, state, t, d, 0, domain.guests.len() as u8) {
                 Some(action) => Some(action),
-                None => first_wake(m, s, t, DomId(d.0 + 1), rest),
+                None => first_wake(machine, state, t, DomId(d.0 + 1), rest),
             }
         }
     }
@@ -138,22 +158,28 @@ fn first_wake(m: &Machine, s: &State, t: Moment, d: DomId, domains: &[DomConfig]
 
 /// The first unit that may be replenished at t, of these domains, of which the first has the number d.
 #[tactic(auto, using(crate::proofs::Searching::found_in_map))]
-fn first_repl(m: &Machine, s: &State, t: Moment, d: DomId, domains: &[DomConfig]) -> Option<Action>
-    requires machine { MachineFits m.now }
-    requires state { StateFits s.now }
+fn first_repl(
+    machine: &Machine,
+    state: &State,
+    t: Moment,
+    d: DomId,
+    domains: &[DomConfig],
+) -> Option<Action>
+    requires m { MachineFits machine.now }
+    requires s { StateFits state.now }
     requires guests { FewGuests domains.now }
     requires few { d.0 + length domains.now ≤ 64 }
-    ensures { result ≡ find (is_action_enabled m.now s.entry.now t.0)
-        (map action_of.Repl (units_from m.now.config.granularity d.0 domains.now)) }
+    ensures { result ≡ find (is_action_enabled machine.now state.entry.now t.0)
+        (map action_of.Repl (units_from machine.now.config.granularity d.0 domains.now)) }
 {
     match domains {
         [] => None,
         [domain, rest @ ..] => {
-            let g = m.config.granularity as usize;
+            let g = machine.config.granularity as usize;
             let count = (domain.guests.len() + g - 1) / g;
-            match first_repl_in(m, s, t, d, 0, count as u8) {
+            match first_repl_in(machine, state, t, d, 0, count as u8) {
                 Some(action) => Some(action),
-                None => first_repl(m, s, t, DomId(d.0 + 1), rest),
+                None => first_repl(machine, state, t, DomId(d.0 + 1), rest),
             }
         }
     }
@@ -169,159 +195,234 @@ fn core_count(config: &Config) -> u8
 
 /// The first stall, command or move of a core that may come at t.
 #[tactic(auto, unfolding(crate::specs::Search::moved_actions))]
-fn first_up_to_moved(m: &Machine, s: &State, t: Moment) -> Option<Action>
-    requires machine { MachineFits m.now }
-    requires state { StateFits s.now }
-    ensures { result ≡ find (is_action_enabled m.now s.entry.now t.0) (moved_actions m.now.config) }
+fn first_up_to_moved(machine: &Machine, state: &State, t: Moment) -> Option<Action>
+    requires m { MachineFits machine.now }
+    requires s { StateFits state.now }
+    ensures { result ≡ find (is_action_enabled machine.now state.entry.now t.0) (moved_actions machine.now.config) }
 {
-    if is_enabled(m, s, t, Action::Stall) {
+    if is_enabled(machine, state, t, Action::Stall) {
         return Some(Action::Stall);
     }
-    if is_enabled(m, s, t, Action::Xl) {
+    if is_enabled(machine, state, t, Action::Xl) {
         return Some(Action::Xl);
     }
-    first_numbered(m, s, t, Numbered::Moved, 0, core_count(&m.config))
+    first_numbered(
+        machine,
+        state,
+        t,
+        Numbered::Moved,
+        0,
+        core_count(&machine.config),
+    )
 }
 
 /// The first up to the moves of domains.
 #[tactic(auto, using(crate::proofs::Searching::found_in_both), unfolding(crate::specs::Search::dom_moved_actions))]
-fn first_up_to_dom_moved(m: &Machine, s: &State, t: Moment) -> Option<Action>
-    requires machine { MachineFits m.now }
-    requires state { StateFits s.now }
-    ensures { result ≡ find (is_action_enabled m.now s.entry.now t.0)
-        (dom_moved_actions m.now.config) }
+fn first_up_to_dom_moved(machine: &Machine, state: &State, t: Moment) -> Option<Action>
+    requires m { MachineFits machine.now }
+    requires s { StateFits state.now }
+    ensures { result ≡ find (is_action_enabled machine.now state.entry.now t.0)
+        (dom_moved_actions machine.now.config) }
 {
-    match first_up_to_moved(m, s, t) {
+    match first_up_to_moved(machine, state, t) {
         Some(action) => Some(action),
-        None => first_numbered(m, s, t, Numbered::DomMoved, 0, m.config.domains.len() as u8),
+        None => first_numbered(
+            machine,
+            state,
+            t,
+            Numbered::DomMoved,
+            0,
+            machine.config.domains.len() as u8,
+        ),
     }
 }
 
 /// The first up to the wakes.
 #[tactic(auto, using(crate::proofs::Searching::found_in_both), unfolding(crate::specs::Search::wake_actions))]
-fn first_up_to_wake(m: &Machine, s: &State, t: Moment) -> Option<Action>
-    requires machine { MachineFits m.now }
-    requires state { StateFits s.now }
-    ensures { result ≡ find (is_action_enabled m.now s.entry.now t.0) (wake_actions m.now.config) }
+fn first_up_to_wake(machine: &Machine, state: &State, t: Moment) -> Option<Action>
+    requires m { MachineFits machine.now }
+    requires s { StateFits state.now }
+    ensures { result ≡ find (is_action_enabled machine.now state.entry.now t.0) (wake_actions machine.now.config) }
 {
-    match first_up_to_dom_moved(m, s, t) {
+    match first_up_to_dom_moved(machine, state, t) {
         Some(action) => Some(action),
-        None => first_wake(m, s, t, DomId(0), m.config.domains.as_slice()),
+        None => first_wake(
+            machine,
+            state,
+            t,
+            DomId(0),
+            machine.config.domains.as_slice(),
+        ),
     }
 }
 
 /// The first up to the blocks.
 #[tactic(auto, using(crate::proofs::Searching::found_in_both), unfolding(crate::specs::Search::block_actions))]
-fn first_up_to_block(m: &Machine, s: &State, t: Moment) -> Option<Action>
-    requires machine { MachineFits m.now }
-    requires state { StateFits s.now }
-    ensures { result ≡ find (is_action_enabled m.now s.entry.now t.0) (block_actions m.now.config) }
+fn first_up_to_block(machine: &Machine, state: &State, t: Moment) -> Option<Action>
+    requires m { MachineFits machine.now }
+    requires s { StateFits state.now }
+    ensures { result ≡ find (is_action_enabled machine.now state.entry.now t.0) (block_actions machine.now.config) }
 {
-    match first_up_to_wake(m, s, t) {
+    match first_up_to_wake(machine, state, t) {
         Some(action) => Some(action),
-        None => first_numbered(m, s, t, Numbered::Block, 0, m.config.processors),
+        None => first_numbered(
+            machine,
+            state,
+            t,
+            Numbered::Block,
+            0,
+            machine.config.processors,
+        ),
     }
 }
 
 /// The first up to the slices.
 #[tactic(auto, using(crate::proofs::Searching::found_in_both), unfolding(crate::specs::Search::slice_actions))]
-fn first_up_to_slice(m: &Machine, s: &State, t: Moment) -> Option<Action>
-    requires machine { MachineFits m.now }
-    requires state { StateFits s.now }
-    ensures { result ≡ find (is_action_enabled m.now s.entry.now t.0) (slice_actions m.now.config) }
+fn first_up_to_slice(machine: &Machine, state: &State, t: Moment) -> Option<Action>
+    requires m { MachineFits machine.now }
+    requires s { StateFits state.now }
+    ensures { result ≡ find (is_action_enabled machine.now state.entry.now t.0) (slice_actions machine.now.config) }
 {
-    match first_up_to_block(m, s, t) {
+    match first_up_to_block(machine, state, t) {
         Some(action) => Some(action),
-        None => first_numbered(m, s, t, Numbered::Slice, 0, core_count(&m.config)),
+        None => first_numbered(
+            machine,
+            state,
+            t,
+            Numbered::Slice,
+            0,
+            core_count(&machine.config),
+        ),
     }
 }
 
 /// The first up to the replenishments.
 #[tactic(auto, using(crate::proofs::Searching::found_in_both), unfolding(crate::specs::Search::repl_actions))]
-fn first_up_to_repl(m: &Machine, s: &State, t: Moment) -> Option<Action>
-    requires machine { MachineFits m.now }
-    requires state { StateFits s.now }
-    ensures { result ≡ find (is_action_enabled m.now s.entry.now t.0) (repl_actions m.now.config) }
+fn first_up_to_repl(machine: &Machine, state: &State, t: Moment) -> Option<Action>
+    requires m { MachineFits machine.now }
+    requires s { StateFits state.now }
+    ensures { result ≡ find (is_action_enabled machine.now state.entry.now t.0) (repl_actions machine.now.config) }
 {
-    match first_up_to_slice(m, s, t) {
+    match first_up_to_slice(machine, state, t) {
         Some(action) => Some(action),
-        None => first_repl(m, s, t, DomId(0), m.config.domains.as_slice()),
+        None => first_repl(
+            machine,
+            state,
+            t,
+            DomId(0),
+            machine.config.domains.as_slice(),
+        ),
     }
 }
 
 /// The first up to the refills.
 #[tactic(auto, using(crate::proofs::Searching::found_in_both), unfolding(crate::specs::Search::refill_actions))]
-fn first_up_to_refill(m: &Machine, s: &State, t: Moment) -> Option<Action>
-    requires machine { MachineFits m.now }
-    requires state { StateFits s.now }
-    ensures { result ≡ find (is_action_enabled m.now s.entry.now t.0)
-        (refill_actions m.now.config) }
+fn first_up_to_refill(machine: &Machine, state: &State, t: Moment) -> Option<Action>
+    requires m { MachineFits machine.now }
+    requires s { StateFits state.now }
+    ensures { result ≡ find (is_action_enabled machine.now state.entry.now t.0)
+        (refill_actions machine.now.config) }
 {
-    match first_up_to_repl(m, s, t) {
+    match first_up_to_repl(machine, state, t) {
         Some(action) => Some(action),
-        None => first_numbered(m, s, t, Numbered::Refill, 0, m.config.domains.len() as u8),
+        None => first_numbered(
+            machine,
+            state,
+            t,
+            Numbered::Refill,
+            0,
+            machine.config.domains.len() as u8,
+        ),
     }
 }
 
 /// The first up to the arrivals.
 #[tactic(auto, using(crate::proofs::Searching::found_in_both), unfolding(crate::specs::Search::arrive_actions))]
-fn first_up_to_arrive(m: &Machine, s: &State, t: Moment) -> Option<Action>
-    requires machine { MachineFits m.now }
-    requires state { StateFits s.now }
-    ensures { result ≡ find (is_action_enabled m.now s.entry.now t.0)
-        (arrive_actions m.now.config) }
+fn first_up_to_arrive(machine: &Machine, state: &State, t: Moment) -> Option<Action>
+    requires m { MachineFits machine.now }
+    requires s { StateFits state.now }
+    ensures { result ≡ find (is_action_enabled machine.now state.entry.now t.0)
+        (arrive_actions machine.now.config) }
 {
-    match first_up_to_refill(m, s, t) {
+    match first_up_to_refill(machine, state, t) {
         Some(action) => Some(action),
-        None => first_numbered(m, s, t, Numbered::Arrive, 0, m.config.processors),
+        None => first_numbered(
+            machine,
+            state,
+            t,
+            Numbered::Arrive,
+            0,
+            machine.config.processors,
+        ),
     }
 }
 
 /// The first up to the decisions.
 #[tactic(auto, using(crate::proofs::Searching::found_in_both), unfolding(crate::specs::Search::decide_actions))]
-fn first_up_to_decide(m: &Machine, s: &State, t: Moment) -> Option<Action>
-    requires machine { MachineFits m.now }
-    requires state { StateFits s.now }
-    ensures { result ≡ find (is_action_enabled m.now s.entry.now t.0)
-        (decide_actions m.now.config) }
+fn first_up_to_decide(machine: &Machine, state: &State, t: Moment) -> Option<Action>
+    requires m { MachineFits machine.now }
+    requires s { StateFits state.now }
+    ensures { result ≡ find (is_action_enabled machine.now state.entry.now t.0)
+        (decide_actions machine.now.config) }
 {
-    match first_up_to_arrive(m, s, t) {
+    match first_up_to_arrive(machine, state, t) {
         Some(action) => Some(action),
-        None => first_numbered(m, s, t, Numbered::Decide, 0, core_count(&m.config)),
+        None => first_numbered(
+            machine,
+            state,
+            t,
+            Numbered::Decide,
+            0,
+            core_count(&machine.config),
+        ),
     }
 }
 
 /// The first up to the leaves.
 #[tactic(auto, using(crate::proofs::Searching::found_in_both), unfolding(crate::specs::Search::leave_actions))]
-fn first_up_to_leave(m: &Machine, s: &State, t: Moment) -> Option<Action>
-    requires machine { MachineFits m.now }
-    requires state { StateFits s.now }
-    ensures { result ≡ find (is_action_enabled m.now s.entry.now t.0) (leave_actions m.now.config) }
+fn first_up_to_leave(machine: &Machine, state: &State, t: Moment) -> Option<Action>
+    requires m { MachineFits machine.now }
+    requires s { StateFits state.now }
+    ensures { result ≡ find (is_action_enabled machine.now state.entry.now t.0) (leave_actions machine.now.config) }
 {
-    match first_up_to_decide(m, s, t) {
+    match first_up_to_decide(machine, state, t) {
         Some(action) => Some(action),
-        None => first_numbered(m, s, t, Numbered::Leave, 0, m.config.processors),
+        None => first_numbered(
+            machine,
+            state,
+            t,
+            Numbered::Leave,
+            0,
+            machine.config.processors,
+        ),
     }
 }
 
 /// The first up to the saves.
 #[tactic(auto, using(crate::proofs::Searching::found_in_both), unfolding(crate::specs::Search::save_actions))]
-fn first_up_to_save(m: &Machine, s: &State, t: Moment) -> Option<Action>
-    requires machine { MachineFits m.now }
-    requires state { StateFits s.now }
-    ensures { result ≡ find (is_action_enabled m.now s.entry.now t.0) (save_actions m.now.config) }
+fn first_up_to_save(machine: &Machine, state: &State, t: Moment) -> Option<Action>
+    requires m { MachineFits machine.now }
+    requires s { StateFits state.now }
+    ensures { result ≡ find (is_action_enabled machine.now state.entry.now t.0) (save_actions machine.now.config) }
 {
-    match first_up_to_leave(m, s, t) {
+    match first_up_to_leave(machine, state, t) {
         Some(action) => Some(action),
-        None => first_numbered(m, s, t, Numbered::Save, 0, core_count(&m.config)),
+        None => first_numbered(
+            machine,
+            state,
+            t,
+            Numbered::Save,
+            0,
+            core_count(&machine.config),
+        ),
     }
 }
 
 /// The first action that may come at t, or none exactly where none may.
-pub fn first_enabled(m: &Machine, s: &State, t: Moment) -> Option<Action>
-    requires machine { MachineFits m.now }
-    requires state { StateFits s.now }
-    ensures { result ≡ first_enabled_action m.now s.entry.now t.0 }
+pub fn first_enabled(machine: &Machine, state: &State, t: Moment) -> Option<Action>
+    requires m { MachineFits machine.now }
+    requires s { StateFits state.now }
+    ensures { result ≡ first_enabled_action machine.now state.entry.now t.0 }
 {
-    first_up_to_save(m, s, t)
+    first_up_to_save(machine, state, t)
 }

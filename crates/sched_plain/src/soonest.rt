@@ -17,10 +17,15 @@ use sched_model::machine::Machine;
 use sched_model::state::{FreeCore, Pool, State};
 
 /// From when on the next stall may come.
-fn stall_ready(m: &Machine, s: &State) -> Option<Moment>
-    ensures { result ≡ next_stall_moment m.now s.entry.now }
+fn stall_ready(machine: &Machine, state: &State) -> Option<Moment>
+    ensures { result ≡ next_stall_moment machine.now state.entry.now }
 {
-    match m.work.stalls.as_slice().get(s.next_stall as usize) {
+    match machine
+        .work
+        .stalls
+        .as_slice()
+        .get(state.next_stall as usize)
+    {
         None => None,
         Some(line) => Some(line.at),
     }
@@ -28,17 +33,22 @@ fn stall_ready(m: &Machine, s: &State) -> Option<Moment>
 
 /// The least so far, or from when on the next command may come. Whether a move is under way is asked only where the command's moment
 /// comes before the least so far.
-fn of_command(best: u64, m: &Machine, s: &State) -> u64
-    requires { StateFits s.now }
-    ensures { result ≡ lesser_moment best (command_ready m.now s.entry.now) }
+fn of_command(best: u64, machine: &Machine, state: &State) -> u64
+    requires { StateFits state.now }
+    ensures { result ≡ lesser_moment best (command_ready machine.now state.entry.now) }
 {
-    match m.work.commands.as_slice().get(s.next_command as usize) {
+    match machine
+        .work
+        .commands
+        .as_slice()
+        .get(state.next_command as usize)
+    {
         None => best,
         Some(line) => {
             if best <= line.at.0 {
                 best
             } else {
-                lesser(best, end_if(!is_move_under_way(s), Some(line.at)))
+                lesser(best, end_if(!is_move_under_way(state), Some(line.at)))
             }
         }
     }
@@ -55,10 +65,10 @@ fn first_end(ends: &[Moment]) -> Option<Moment>
 }
 
 /// From when on the core of no pool may move to the pool to which it is leaving.
-fn free_end(c: &FreeCore) -> Option<Moment>
-    ensures { result ≡ free_core_moment c.now }
+fn free_end(core: &FreeCore) -> Option<Moment>
+    ensures { result ≡ free_core_moment core.now }
 {
-    end_if(c.target.is_some(), first_end(c.stall_ends.as_slice()))
+    end_if(core.target.is_some(), first_end(core.stall_ends.as_slice()))
 }
 
 /// The least so far, or from when on one of these cores of no pool may move. The first of them has the number r.
@@ -98,25 +108,29 @@ fn of_pools(best: u64, pools: &[Option<Pool>]) -> u64
 }
 
 /// The least moment from which on an action may come, and the greatest number that a moment may have where there is none.
-fn soonest(m: &Machine, s: &State) -> u64
-    requires { Stands m.now s.now }
-    ensures { IsSoonest m.now s.entry.now result }
+fn soonest(machine: &Machine, state: &State) -> u64
+    requires { Stands machine.now state.now }
+    ensures { IsSoonest machine.now state.entry.now result }
 {
-    let lines = of_command(lesser(u64::MAX, stall_ready(m, s)), m, s);
-    let free = of_free(0, lines, s.free.as_slice());
-    of_pools(free, s.pools.as_slice())
+    let lines = of_command(
+        lesser(u64::MAX, stall_ready(machine, state)),
+        machine,
+        state,
+    );
+    let free = of_free(0, lines, state.free.as_slice());
+    of_pools(free, state.pools.as_slice())
 }
 
 /// From when on an action may come, where that is at most the horizon: a moment that has come exactly where something may come now, and else
 /// the next moment. `None` where nothing may come any more within the horizon.
-pub fn next_turn(m: &Machine, s: &State) -> Option<Moment>
-    requires { Stands m.now s.now }
-    ensures { IsTurn m.now s.entry.now result }
+pub fn next_turn(machine: &Machine, state: &State) -> Option<Moment>
+    requires { Stands machine.now state.now }
+    ensures { IsTurn machine.now state.entry.now result }
 {
     law_enabled_stays();
     law_next_moment();
-    let at = soonest(m, s);
-    if at <= m.config.horizon.0 {
+    let at = soonest(machine, state);
+    if at <= machine.config.horizon.0 {
         Some(Moment(at))
     } else {
         None

@@ -16,11 +16,11 @@ pub struct LineBuf {
 }
 
 /// The character of a number below 10.
-fn digit(n: u64) -> u8
-    requires { n < 10 }
-    ensures { result ≡ 48 + n }
+fn digit(number: u64) -> u8
+    requires { number < 10 }
+    ensures { result ≡ 48 + number }
 {
-    b'0' + n as u8
+    b'0' + number as u8
 }
 
 impl Model for LineBuf {
@@ -69,52 +69,52 @@ impl LineBuf {
     }
 
     /// Adds the digits of a number at the end: at most 20.
-    pub fn put_number(&mut self, n: u64)
+    pub fn put_number(&mut self, number: u64)
         requires { length self.old + 20 ≤ 192 }
-        ensures bytes { self.new ≡ self.old ++ decimal n }
+        ensures bytes { self.new ≡ self.old ++ decimal number }
         ensures length { length self.new ≤ length self.old + 20 }
     {
         // Most numbers of a line have one digit or two.
-        if n < 10 {
-            self.put(&[digit(n)]);
-        } else if n < 100 {
-            self.put(&[digit(n / 10), digit(n % 10)]);
+        if number < 10 {
+            self.put(&[digit(number)]);
+        } else if number < 100 {
+            self.put(&[digit(number / 10), digit(number % 10)]);
         } else {
             let mut buffer = Buffer::new();
-            self.put(buffer.format(n).as_bytes());
+            self.put(buffer.format(number).as_bytes());
         }
     }
 
     /// Adds these bytes and then the digits of a number.
-    pub fn put_field(&mut self, before: &[u8], n: u64)
+    pub fn put_field(&mut self, before: &[u8], number: u64)
         requires { length self.old + length before.now + 20 ≤ 192 }
-        ensures bytes { self.new ≡ self.old ++ before.now ++ decimal n }
+        ensures bytes { self.new ≡ self.old ++ before.now ++ decimal number }
         ensures length { length self.new ≤ length self.old + length before.now + 20 }
     {
         self.put(before);
-        self.put_number(n);
+        self.put_number(number);
     }
 
     /// Adds these bytes and a number, and then other bytes and another number.
-    pub fn put_two_fields(&mut self, before: &[u8], n: u64, between: &[u8], m: u64)
+    pub fn put_two_fields(&mut self, before: &[u8], first: u64, between: &[u8], resets: u64)
         requires { length self.old + length before.now + length between.now + 40 ≤ 192 }
-        ensures bytes { self.new ≡ self.old ++ before.now ++ decimal n ++ between.now ++ decimal m }
+        ensures bytes { self.new ≡ self.old ++ before.now ++ decimal first ++ between.now ++ decimal resets }
         ensures length { length self.new ≤ length self.old + length before.now + length between.now
             + 40 }
     {
-        self.put_field(before, n);
-        self.put_field(between, m);
+        self.put_field(before, first);
+        self.put_field(between, resets);
     }
 
     /// Adds these bytes and then the digits of a number, behind a hyphen where it is negative.
-    pub fn put_signed_field(&mut self, before: &[u8], n: i64)
+    pub fn put_signed_field(&mut self, before: &[u8], number: i64)
         requires { length self.old + length before.now + 20 ≤ 192 }
-        ensures bytes { self.new ≡ self.old ++ before.now ++ signed_decimal n }
+        ensures bytes { self.new ≡ self.old ++ before.now ++ signed_decimal number }
         ensures length { length self.new ≤ length self.old + length before.now + 20 }
     {
         self.put(before);
         let mut buffer = Buffer::new();
-        let digits = buffer.format(n);
+        let digits = buffer.format(number);
         self.put(digits.as_bytes());
     }
 }

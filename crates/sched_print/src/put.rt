@@ -47,12 +47,12 @@ fn put_due(due: Option<Moment>, out: &mut LineBuf)
     }
 }
 
-fn put_xl(k: u32, reply: Result<Reply, Refusal>, out: &mut LineBuf)
+fn put_xl(command: u32, reply: Result<Reply, Refusal>, out: &mut LineBuf)
     requires { length out.old ≤ 20 }
-    ensures bytes { out.new ≡ with_event out.old (Event.Xl k reply) }
+    ensures bytes { out.new ≡ with_event out.old (Event.Xl command reply) }
     ensures length { length out.new ≤ 191 }
 {
-    out.put_field(b" xl ", u64::from(k));
+    out.put_field(b" xl ", u64::from(command));
     match reply {
         Ok(reply) => put_reply(reply, out),
         Err(refusal) => put_refusal(refusal, out),

@@ -71,14 +71,14 @@ fn put_wrong_sched(pool: PoolId, kind: SchedKind, out: &mut LineBuf)
     out.put(kind_word(kind));
 }
 
-fn put_range(param: Param, n: u64, out: &mut LineBuf)
+fn put_range(param: Param, number: u64, out: &mut LineBuf)
     requires { length out.old + 110 ≤ 192 }
-    ensures bytes { out.new ≡ with_refusal out.old (Refusal.Range param n) }
+    ensures bytes { out.new ≡ with_refusal out.old (Refusal.Range param number) }
     ensures length { length out.new ≤ length out.old + 110 }
 {
     out.put(b" refused 12 Range ");
     out.put(param_word(param));
-    out.put_field(b" ", n);
+    out.put_field(b" ", number);
 }
 
 /// Adds the number, the name and the values of a refusal: at most 110 bytes.

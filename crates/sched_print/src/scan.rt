@@ -32,13 +32,13 @@ pub fn word<'a>(bytes: &'a [u8], word: &[u8]) -> Result<&'a [u8], Left>
 }
 
 /// The number with a further digit, where the byte is a digit and the number stays below the bound.
-fn with_digit(high: u64, n: u64, b: u8) -> Option<u64>
-    ensures { result ≡ (if goes_on high n b then Some (10 * n + (b - 48)) else None) }
+fn with_digit(high: u64, number: u64, b: u8) -> Option<u64>
+    ensures { result ≡ (if goes_on high number b then Some (10 * number + (b - 48)) else None) }
 {
     if b < b'0' || b'9' < b {
         return None;
     }
-    let next = 10 * u128::from(n) + u128::from(b - b'0');
+    let next = 10 * u128::from(number) + u128::from(b - b'0');
     if next < u128::from(high) {
         Some(next as u64)
     } else {

@@ -23,26 +23,26 @@ fn push_units(names: &mut Vec<UnitId>, d: u8, count: u8) -> Result<(), NoMemory>
     Ok(())
 }
 
-/// Adds the units of these domains, of which the first has the number d, where a unit has g vCPUs.
+/// Adds the units of these domains, of which the first has the number d, where a unit has `granularity` vCPUs.
 pub fn push_names(
     names: &mut Vec<UnitId>,
-    g: u8,
+    granularity: u8,
     d: u8,
     domains: &[DomConfig],
 ) -> Result<(), NoMemory>
-    requires granularity { (1 ≤ g) × (g ≤ 4) }
+    requires g { (1 ≤ granularity) × (granularity ≤ 4) }
     requires guests { AllByRecursion (λ (x : DomRecord). length x.guests ≤ 32) domains.now }
     requires few { d + length domains.now ≤ 64 }
     ensures { IfOk result (λ done. names.new.items ≡ names.old.items
-        ++ units_from g d domains.now) }
+        ++ units_from granularity d domains.now) }
 {
     match domains {
         [] => Ok(()),
         [domain, rest @ ..] => {
-            let size = g as usize;
+            let size = granularity as usize;
             let count = (domain.guests.len() + size - 1) / size;
             push_units(names, d, count as u8)?;
-            push_names(names, g, d + 1, rest)
+            push_names(names, granularity, d + 1, rest)
         }
     }
 }

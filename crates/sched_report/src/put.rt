@@ -9,13 +9,13 @@ use sched_base::Moment;
 use sched_print::LineBuf;
 
 /// Adds these bytes and then the digits of a number of up to 128 bits, at most 40.
-fn put_large_field(before: &[u8], n: u128, out: &mut LineBuf)
+fn put_large_field(before: &[u8], number: u128, out: &mut LineBuf)
     requires { length out.old + length before.now + 40 ≤ 192 }
-    ensures bytes { out.new ≡ out.old ++ before.now ++ decimal n }
+    ensures bytes { out.new ≡ out.old ++ before.now ++ decimal number }
     ensures length { length out.new ≤ length out.old + length before.now + 40 }
 {
     let mut buffer = Buffer::new();
-    let digits = buffer.format(n);
+    let digits = buffer.format(number);
     out.put(before);
     out.put(digits.as_bytes());
 }

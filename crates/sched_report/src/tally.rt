@@ -51,24 +51,24 @@ impl CoreTally {
 }
 
 /// How long the stay was that the choice ends, 0 where it ends none.
-fn ended(core: &CoreTally, c: &CoreChoice) -> u64
-    ensures { result ≡ tallies.ended_span core.now c.now }
+fn ended(core: &CoreTally, choice: &CoreChoice) -> u64
+    ensures { result ≡ tallies.ended_span core.now choice.now }
 {
-    if core.cur.is_none() || is_same_choice(core.cur, c.unit) {
+    if core.cur.is_none() || is_same_choice(core.cur, choice.unit) {
         0
     } else {
-        c.at.0.saturating_sub(core.since.0)
+        choice.at.0.saturating_sub(core.since.0)
     }
 }
 
-fn core_after(core: &CoreTally, c: &CoreChoice) -> CoreTally
+fn core_after(core: &CoreTally, choice: &CoreChoice) -> CoreTally
     requires run { core.now.run + 2 ^ 64 ≤ 2 ^ 128 }
     requires decides { core.now.decides + 1 < 2 ^ 32 }
-    ensures { result ≡ tallies.core_tally_after core.now c.now }
+    ensures { result ≡ tallies.core_tally_after core.now choice.now }
 {
-    let run = core.run + u128::from(ended(core, c));
+    let run = core.run + u128::from(ended(core, choice));
     let decides = core.decides + 1;
-    if is_same_choice(core.cur, c.unit) {
+    if is_same_choice(core.cur, choice.unit) {
         CoreTally {
             run,
             decides,
@@ -76,8 +76,8 @@ fn core_after(core: &CoreTally, c: &CoreChoice) -> CoreTally
         }
     } else {
         CoreTally {
-            cur: c.unit,
-            since: c.at,
+            cur: choice.unit,
+            since: choice.at,
             run,
             decides,
         }
@@ -85,28 +85,28 @@ fn core_after(core: &CoreTally, c: &CoreChoice) -> CoreTally
 }
 
 /// Tells the unit that the choice finds on the core how much time ended, and how late the choice was.
-fn count_found(units: &mut [UnitTally], core: &CoreTally, c: &CoreChoice)
+fn count_found(units: &mut [UnitTally], core: &CoreTally, choice: &CoreChoice)
     requires places { length units.old ≡ 2048 }
     requires within { UnitsWithin 4294967294 4294967294 4294967294 units.old }
-    ensures { units.new ≡ tallies.after_found core.now c.now units.old }
+    ensures { units.new ≡ tallies.after_found core.now choice.now units.old }
 {
     if let Some(u) = core.cur {
         if let Some(i) = place_of(u) {
             let unit = &mut units[i];
-            unit.run += u128::from(ended(core, c));
-            unit.late += u128::from(c.late.0);
+            unit.run += u128::from(ended(core, choice));
+            unit.late += u128::from(choice.late.0);
         }
     }
 }
 
 /// Tells the unit whose stay begins with the choice that one begins.
-fn count_picked(units: &mut [UnitTally], core: &CoreTally, c: &CoreChoice)
+fn count_picked(units: &mut [UnitTally], core: &CoreTally, choice: &CoreChoice)
     requires places { length units.old ≡ 2048 }
     requires within { UnitsWithin 4294967295 4294967294 4294967294 units.old }
-    ensures { units.new ≡ tallies.after_picked core.now c.now units.old }
+    ensures { units.new ≡ tallies.after_picked core.now choice.now units.old }
 {
-    if !is_same_choice(core.cur, c.unit)
-        && let Some(u) = c.unit
+    if !is_same_choice(core.cur, choice.unit)
+        && let Some(u) = choice.unit
         && let Some(i) = place_of(u)
     {
         units[i].picks += 1;
@@ -114,30 +114,30 @@ fn count_picked(units: &mut [UnitTally], core: &CoreTally, c: &CoreChoice)
 }
 
 /// Tells the units what a choice of the core means for them.
-fn count_units(units: &mut [UnitTally], core: &CoreTally, c: &CoreChoice)
+fn count_units(units: &mut [UnitTally], core: &CoreTally, choice: &CoreChoice)
     requires places { length units.old ≡ 2048 }
     requires within { UnitsWithin 4294967294 4294967294 4294967294 units.old }
-    requires short { IsShort c.now }
-    ensures { units.new ≡ tallies.units_after core.now c.now units.old }
+    requires short { IsShort choice.now }
+    ensures { units.new ≡ tallies.units_after core.now choice.now units.old }
 {
-    count_found(units, core, c);
-    count_picked(units, core, c);
+    count_found(units, core, choice);
+    count_picked(units, core, choice);
 }
 
 /// Counts a choice of a core. A core that is not there changes nothing.
-fn count_choice(cores: &mut [CoreTally], units: &mut [UnitTally], c: &CoreChoice)
+fn count_choice(cores: &mut [CoreTally], units: &mut [UnitTally], choice: &CoreChoice)
     requires places { length units.old ≡ 2048 }
     requires units { UnitsWithin 4294967294 4294967294 4294967294 units.old }
     requires cores { CoresWithin 4294967294 cores.old }
-    requires short { IsShort c.now }
-    ensures cores { cores.new ≡ tallies.cores_with (Some c.now) cores.old }
-    ensures units { units.new ≡ tallies.units_with (Some c.now) cores.old units.old }
+    requires short { IsShort choice.now }
+    ensures cores { cores.new ≡ tallies.cores_with (Some choice.now) cores.old }
+    ensures units { units.new ≡ tallies.units_with (Some choice.now) cores.old units.old }
 {
-    let r = c.core.0 as usize;
+    let r = choice.core.0 as usize;
     if r < cores.len() {
         let core = cores[r];
-        count_units(units, &core, c);
-        cores[r] = core_after(&core, c);
+        count_units(units, &core, choice);
+        cores[r] = core_after(&core, choice);
     }
 }
 

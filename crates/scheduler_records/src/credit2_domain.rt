@@ -33,69 +33,69 @@ pub fn burn_units(most: u32, t: Moment, d: &mut Credit2Domain)
     d.units = burned;
 }
 
-/// Each unit of the domain after m resets.
-fn raise_units(m: u64, d: &mut Credit2Domain)
-    requires { m ≤ 1000000000000 }
+/// Each unit of the domain after so many resets.
+fn raise_units(resets: u64, d: &mut Credit2Domain)
+    requires { resets ≤ 1000000000000 }
     ensures { d.new ≡ record d.old {
       units = map
-          (λ (x : UnitRecord). record x { credit = raised_credit x.credit m }) d.old.units;
+          (λ (x : UnitRecord). record x { credit = raised_credit x.credit resets }) d.old.units;
     } }
 {
     let mut raised = Short::new();
     for u in d.units.as_slice() {
-        raised.push(raise_unit(m, *u));
+        raised.push(raise_unit(resets, *u));
     }
     d.units = raised;
 }
 
-/// The domain after m resets at t: its running units are charged, and then each unit's credit is raised.
-pub fn reset_domain(most: u32, t: Moment, m: u64, d: &mut Credit2Domain)
+/// The domain after so many resets at t: its running units are charged, and then each unit's credit is raised.
+pub fn reset_domain(most: u32, t: Moment, resets: u64, d: &mut Credit2Domain)
     requires early { t.0 ≤ most_span }
-    requires few { m ≤ 1000000000000 }
+    requires few { resets ≤ 1000000000000 }
     requires fits { DomainFits most t.0 d.old }
-    ensures { d.new ≡ reset_by most t.0 m d.old }
+    ensures { d.new ≡ reset_by most t.0 resets d.old }
 {
     burn_units(most, t, d);
-    raise_units(m, d);
+    raise_units(resets, d);
 }
 
 /// The unit with this index charged up to t where it runs.
-fn burn_at(most: u32, t: Moment, n: u8, d: &mut Credit2Domain)
+fn burn_at(most: u32, t: Moment, index: u8, d: &mut Credit2Domain)
     requires early { t.0 ≤ most_span }
     requires fits { DomainFits most t.0 d.old }
     ensures { d.new ≡ record d.old {
-      units = change_item n (burned_unit most t.0 d.old)
+      units = change_item index (burned_unit most t.0 d.old)
           d.old.units;
     } }
 {
-    if let Some(u) = unit_at(d.units.as_slice(), n) {
+    if let Some(u) = unit_at(d.units.as_slice(), index) {
         let burned = burn_unit(most, t, d, u);
-        set_unit(&mut d.units, n, burned);
+        set_unit(&mut d.units, index, burned);
     }
 }
 
 /// The budget that the unit with this index holds is given back to its domain.
-fn give_back(n: u8, d: &mut Credit2Domain)
-    requires room { (u : UnitRecord) → slice_get d.old.units n ≡ Some u →
+fn give_back(index: u8, d: &mut Credit2Domain)
+    requires room { (u : UnitRecord) → slice_get d.old.units index ≡ Some u →
         FitsSigned w64 (d.old.budget +ℤ u.held) }
-    ensures { d.new ≡ domain_after_return n d.old }
+    ensures { d.new ≡ domain_after_return index d.old }
 {
-    if let Some(u) = unit_at(d.units.as_slice(), n) {
+    if let Some(u) = unit_at(d.units.as_slice(), index) {
         d.budget += u.held;
-        set_held(&mut d.units, n, 0);
+        set_held(&mut d.units, index, 0);
     }
 }
 
 /// The unit charged up to t; under a cap it gives back the budget that it holds.
-pub fn burn_own(most: u32, t: Moment, n: u8, d: &mut Credit2Domain)
+pub fn burn_own(most: u32, t: Moment, index: u8, d: &mut Credit2Domain)
     requires early { t.0 ≤ most_span }
     requires fits { DomainFits most t.0 d.old }
     requires range { Credit2InRange t.0 d.old }
-    ensures { d.new ≡ own_charged most t.0 n d.old }
+    ensures { d.new ≡ own_charged most t.0 index d.old }
 {
-    burn_at(most, t, n, d);
+    burn_at(most, t, index, d);
     if d.cap != 0 {
-        give_back(n, d);
+        give_back(index, d);
     }
 }
 
@@ -114,16 +114,16 @@ fn share(d: &Credit2Domain) -> i64
 }
 
 /// The chosen unit takes its budget from a capped domain.
-pub fn take_budget(n: u8, d: &mut Credit2Domain)
+pub fn take_budget(index: u8, d: &mut Credit2Domain)
     requires { d.old.cap ≤ 6400 }
-    ensures { d.new ≡ domain_after_take n d.old }
+    ensures { d.new ≡ domain_after_take index d.old }
 {
     if d.cap == 0 {
         return;
     }
     let taken = share(d);
     d.budget -= taken;
-    set_held(&mut d.units, n, taken);
+    set_held(&mut d.units, index, taken);
 }
 
 /// The periods that have come at t since the refill was due, and 0 where none is due.
@@ -156,16 +156,16 @@ fn held_by_running(units: &[Credit2Unit]) -> u64
     units.iter().map(|u| held_of(*u)).sum()
 }
 
-/// The domain's budget after a refill for n periods.
-fn refilled_budget(n: u64, d: &Credit2Domain) -> i64
-    requires few { n ≤ 1000001 }
+/// The domain's budget after a refill for so many periods.
+fn refilled_budget(periods: u64, d: &Credit2Domain) -> i64
+    requires few { periods ≤ 1000001 }
     requires cap { d.now.cap ≤ 6400 }
     requires held { running_budget d.now < 2 ^ 63 }
     ensures { result ≡ budget_after_refill d.now.budget (running_budget d.now)
-        (cap_budget d.now.cap) n }
+        (cap_budget d.now.cap) periods }
 {
     let held = held_by_running(d.units.as_slice()) as i64;
-    refill(d.budget, held, total(d.cap), n)
+    refill(d.budget, held, total(d.cap), periods)
 }
 
 /// The domain after a refill at t.

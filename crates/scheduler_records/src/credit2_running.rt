@@ -46,23 +46,23 @@ pub fn credit_of(records: &Credit2Records, u: UnitId) -> i64
 }
 
 /// The credit of the unit with this index of the domain, and 0 where there is none.
-fn credit_in(d: &Credit2Domain, n: u8) -> i64
-    ensures { result ≡ credit_at d.now n }
+fn credit_in(d: &Credit2Domain, index: u8) -> i64
+    ensures { result ≡ credit_at d.now index }
 {
-    match unit_at(d.units.as_slice(), n) {
+    match unit_at(d.units.as_slice(), index) {
         None => 0,
         Some(x) => x.credit,
     }
 }
 
 /// The credit of the unit with this index of the domain, charged up to t where it runs, and 0 where there is none.
-fn burned_credit_in(most: u32, t: Moment, d: &Credit2Domain, n: u8) -> i64
+fn burned_credit_in(most: u32, t: Moment, d: &Credit2Domain, index: u8) -> i64
     requires early { t.0 ≤ most_span }
     requires fits { DomainFits most t.0 d.now }
     ensures { result ≡ credit_at (record d.now
-        { units = change_item n (burned_unit most t.0 d.now) d.now.units }) n }
+        { units = change_item index (burned_unit most t.0 d.now) d.now.units }) index }
 {
-    match unit_at(d.units.as_slice(), n) {
+    match unit_at(d.units.as_slice(), index) {
         None => 0,
         Some(x) => burn_unit(most, t, d, x).credit,
     }
@@ -118,31 +118,31 @@ pub fn charge(most: u32, u: UnitId, t: Moment, records: &mut Credit2Records)
     }
 }
 
-/// The pool after m resets at t.
-pub fn reset(t: Moment, m: u64, records: &mut Credit2Records)
+/// The pool after so many resets at t.
+pub fn reset(t: Moment, resets: u64, records: &mut Credit2Records)
     requires early { t.0 ≤ most_span }
-    requires few { m ≤ 1000000000000 }
+    requires few { resets ≤ 1000000000000 }
     requires fits { PoolFits t.0 records.old }
-    ensures { records.new ≡ reset_records t.0 m records.old }
+    ensures { records.new ≡ reset_records t.0 resets records.old }
 {
-    if m == 0 {
+    if resets == 0 {
         return;
     }
     let most = max_weight(records);
-    reset_all(most, t, m, &mut records.domains);
+    reset_all(most, t, resets, &mut records.domains);
     records.last_reset = Some(t.0);
 }
 
-/// Each domain after m resets at t. The greatest weight is most.
-fn reset_all(most: u32, t: Moment, m: u64, domains: &mut Row<Option<Credit2Domain>>)
+/// Each domain after so many resets at t. The greatest weight is most.
+fn reset_all(most: u32, t: Moment, resets: u64, domains: &mut Row<Option<Credit2Domain>>)
     requires early { t.0 ≤ most_span }
-    requires few { m ≤ 1000000000000 }
+    requires few { resets ≤ 1000000000000 }
     requires fits { EachPlace (DomainFits most t.0) domains.old }
-    ensures { domains.new ≡ change_each 0 (λ (n : ℕ). reset_by most t.0 m) domains.old }
+    ensures { domains.new ≡ change_each 0 (λ (n : ℕ). reset_by most t.0 resets) domains.old }
 {
     for r in 0..domains.len() {
         if let Some(d) = domains.item_mut(r) {
-            reset_domain(most, t, m, d);
+            reset_domain(most, t, resets, d);
         }
     }
 }

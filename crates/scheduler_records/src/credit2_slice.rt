@@ -76,13 +76,13 @@ fn slice(credit: i64, other: i64, weight: u32, most: u32, limit: u64) -> u64
 }
 
 /// How long the unit with this index of the domain runs; under a cap for no longer than the budget that it holds.
-pub fn slice_in(d: &Credit2Domain, n: u8, other: i64, most: u32, limit: u64) -> u64
+pub fn slice_in(d: &Credit2Domain, index: u8, other: i64, most: u32, limit: u64) -> u64
     requires params { ParamsFit most d.now }
     requires short { limit ≤ 500000000 }
-    ensures exact { result ≡ capped_slice d.now n other most limit }
+    ensures exact { result ≡ capped_slice d.now index other most limit }
     ensures few { result ≤ 500000000 }
 {
-    match unit_at(d.units.as_slice(), n) {
+    match unit_at(d.units.as_slice(), index) {
         None => 0,
         Some(x) => {
             let long = slice(x.credit, other, d.weight, most, limit);

@@ -14,38 +14,38 @@ use sched_base::{Moment, Span};
 use sched_model::state::{Credit2Domain, Credit2Unit, Credit2Units};
 
 /// The unit with this index.
-pub fn unit_at(units: &[Credit2Unit], n: u8) -> Option<Credit2Unit>
-    ensures { result ≡ slice_get units.now n }
+pub fn unit_at(units: &[Credit2Unit], index: u8) -> Option<Credit2Unit>
+    ensures { result ≡ slice_get units.now index }
 {
-    units.get(n as usize).copied()
+    units.get(index as usize).copied()
 }
 
 /// The unit with this index is put in place of the one that is there.
-pub fn set_unit(units: &mut Credit2Units, n: u8, unit: Credit2Unit)
-    ensures { units.new ≡ slice_set units.old n unit }
+pub fn set_unit(units: &mut Credit2Units, index: u8, unit: Credit2Unit)
+    ensures { units.new ≡ slice_set units.old index unit }
 {
-    if let Some(place) = units.get_mut(n as usize) {
+    if let Some(place) = units.get_mut(index as usize) {
         *place = unit;
     }
 }
 
 /// The unit with this index holds so much of its domain's budget.
 #[tactic(auto, using(sched_model::proofs::PlaceLemmas::past_the_end))]
-pub fn set_held(units: &mut Credit2Units, n: u8, held: i64)
-    ensures { units.new ≡ change_item n (λ (x : UnitRecord). record x { held = held }) units.old }
+pub fn set_held(units: &mut Credit2Units, index: u8, held: i64)
+    ensures { units.new ≡ change_item index (λ (x : UnitRecord). record x { held = held }) units.old }
 {
-    if let Some(u) = units.get_mut(n as usize) {
+    if let Some(u) = units.get_mut(index as usize) {
         u.held = held;
     }
 }
 
 /// The domain's unit with this index runs from a moment, or runs no more.
 #[tactic(auto, using(sched_model::proofs::PlaceLemmas::past_the_end))]
-pub fn set_burned(d: &mut Credit2Domain, n: u8, from: Option<u64>)
+pub fn set_burned(d: &mut Credit2Domain, index: u8, from: Option<u64>)
     ensures { d.new ≡ record d.old
-        { units = change_item n (λ (x : UnitRecord). record x { burned = from }) d.old.units } }
+        { units = change_item index (λ (x : UnitRecord). record x { burned = from }) d.old.units } }
 {
-    if let Some(u) = d.units.get_mut(n as usize) {
+    if let Some(u) = d.units.get_mut(index as usize) {
         u.burned = from;
     }
 }
@@ -87,20 +87,20 @@ pub fn burn_unit(most: u32, t: Moment, d: &Credit2Domain, u: Credit2Unit) -> Cre
     }
 }
 
-/// A unit after m resets.
-pub fn raise_unit(m: u64, u: Credit2Unit) -> Credit2Unit
-    requires { m ≤ 1000000000000 }
-    ensures { result ≡ (λ (x : UnitRecord). record x { credit = raised_credit x.credit m }) u }
+/// A unit after so many resets.
+pub fn raise_unit(resets: u64, u: Credit2Unit) -> Credit2Unit
+    requires { resets ≤ 1000000000000 }
+    ensures { result ≡ (λ (x : UnitRecord). record x { credit = raised_credit x.credit resets }) u }
 {
     Credit2Unit {
-        credit: raise(u.credit, m),
+        credit: raise(u.credit, resets),
         ..u
     }
 }
 
 /// What of a number is above 0.
-pub fn above_zero(n: i64) -> u64
-    ensures { result ≡ positive_part n }
+pub fn above_zero(number: i64) -> u64
+    ensures { result ≡ positive_part number }
 {
-    if n < 0 { 0 } else { n as u64 }
+    if number < 0 { 0 } else { number as u64 }
 }

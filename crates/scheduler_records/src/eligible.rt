@@ -19,11 +19,11 @@ fn cores_of(affinity: &[Option<Pins>], u: UnitId) -> u64
 }
 
 /// The set of cores at a place, and the empty one past the end.
-fn set_at(units: &Pins, n: usize) -> u64
-    ensures { result ≡ (slice_index_or units.now n (core_set 0)).0 }
+fn set_at(units: &Pins, index: usize) -> u64
+    ensures { result ≡ (slice_index_or units.now index (core_set 0)).0 }
 {
     let sets = units.as_slice();
-    if n < sets.len() { sets[n].0 } else { 0 }
+    if index < sets.len() { sets[index].0 } else { 0 }
 }
 
 /// Whether the unit may be on the core: its set has the core, or has none of the pool's cores.

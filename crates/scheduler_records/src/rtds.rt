@@ -80,10 +80,10 @@ pub fn fresh_units(period: Span, budget: Span, extra: bool, count: u8, t: Moment
 
 /// The record at this place of the domain's units.
 #[tactic(auto, using(sched_model::proofs::PlaceLemmas::past_the_end))]
-fn put_item(n: u8, unit: RtdsUnit, units: &mut RtdsUnits)
-    ensures { units.new ≡ change_item n (λ x. unit) units.old }
+fn put_item(index: u8, unit: RtdsUnit, units: &mut RtdsUnits)
+    ensures { units.new ≡ change_item index (λ x. unit) units.old }
 {
-    if let Some(there) = units.get_mut(n as usize) {
+    if let Some(there) = units.get_mut(index as usize) {
         *there = unit;
     }
 }

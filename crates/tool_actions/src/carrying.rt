@@ -135,13 +135,13 @@ fn carry(slot: &mut PoolSlot, trail: &Trail, plan: Plan, t: Moment)
     }
 }
 
-/// The same, where the place is the part i of the machine and that is the pool of the plan, which neither makes nor destroys a pool.
-fn carry_kept(slot: &mut PoolSlot, trail: &Trail, i: u8, plan: Plan, t: Moment)
+/// The same, where the place is this part of the machine and that is the pool of the plan, which neither makes nor destroys a pool.
+fn carry_kept(slot: &mut PoolSlot, trail: &Trail, place: u8, plan: Plan, t: Moment)
     requires goes { GoesOn trail.now }
     requires now { t.0 ≡ (state_of trail.now).now }
-    requires stands { StandsAt trail.now i slot.old }
+    requires stands { StandsAt trail.now place slot.old }
     requires accepted { IsAccepted trail.now plan }
-    requires home { plan_pool (state_of trail.now) plan ≡ Some i }
+    requires home { plan_pool (state_of trail.now) plan ≡ Some place }
     requires keeps { KeepsPools plan }
     ensures { slot.new ≡ carried_slot trail.now.input t.0 plan slot.old }
 {

@@ -51,15 +51,15 @@ fn home_of_plan(tool: &ToolState, trail: &Trail, plan: &Plan) -> Option<PoolId>
     }
 }
 
-/// The scheduler of the pool i, as the command that lists it tells.
-fn kind_of(slots: &[PoolSlot], tool: &ToolState, trail: &Trail, i: PoolId) -> SchedKind
+/// The scheduler of this pool, as the command that lists it tells.
+fn kind_of(slots: &[PoolSlot], tool: &ToolState, trail: &Trail, place: PoolId) -> SchedKind
     requires parts { AreParts trail.now slots.now tool.now }
-    requires there { IsSome (at_place (state_of trail.now).pools i.0) }
-    ensures { ForSome (at_place (state_of trail.now).pools i.0)
+    requires there { IsSome (at_place (state_of trail.now).pools place.0) }
+    ensures { ForSome (at_place (state_of trail.now).pools place.0)
         (λ pool. result ≡ records_kind pool.scheduler.records) }
 {
     let list = Command::PoolList {
-        pool: Some(Which::Number(u64::from(i.0))),
+        pool: Some(Which::Number(u64::from(place.0))),
     };
     match judged(slots, tool, trail, &list) {
         Ok(
@@ -72,49 +72,49 @@ fn kind_of(slots: &[PoolSlot], tool: &ToolState, trail: &Trail, i: PoolId) -> Sc
     }
 }
 
-/// The next command is accepted, and makes a pool of this scheduler at the place i.
+/// The next command is accepted, and makes a pool of this scheduler at this place.
 fn accept_new(
     slots: &mut [PoolSlot],
     tool: &mut ToolState,
     spares: &mut Spares,
     trail: &Trail,
     plan: &Plan,
-    i: PoolId,
+    pool: PoolId,
     kind: SchedKind,
 )
     requires parts { AreParts trail.now slots.old tool.old }
     requires enabled { is_action_enabled trail.now.input (state_of trail.now)
         (state_of trail.now).now Xl ≡ true }
     requires accepted { IsAccepted trail.now plan.now }
-    requires makes { MakesPool plan.now i kind }
+    requires makes { MakesPool plan.now pool kind }
     requires spares { AreSpares trail.now.input (state_of trail.now).now tool.old.part spares.old }
     ensures parts { AreParts (xl_told trail.now) slots.new tool.new }
     ensures spares { AreSpares trail.now.input (state_of trail.now).now tool.new.part spares.new }
 {
-    create(&mut slots[i.0 as usize], spares, trail, kind);
+    create(&mut slots[pool.0 as usize], spares, trail, kind);
     tool.advance(plan);
 }
 
-/// The next command is accepted, and destroys the pool of the place i.
+/// The next command is accepted, and destroys the pool of this place.
 fn accept_end(
     slots: &mut [PoolSlot],
     tool: &mut ToolState,
     spares: &mut Spares,
     trail: &Trail,
     plan: &Plan,
-    i: PoolId,
+    pool: PoolId,
 )
     requires parts { AreParts trail.now slots.old tool.old }
     requires enabled { is_action_enabled trail.now.input (state_of trail.now)
         (state_of trail.now).now Xl ≡ true }
     requires accepted { IsAccepted trail.now plan.now }
-    requires destroys { DestroysPool plan.now i }
+    requires destroys { DestroysPool plan.now pool }
     requires spares { AreSpares trail.now.input (state_of trail.now).now tool.old.part spares.old }
     ensures parts { AreParts (xl_told trail.now) slots.new tool.new }
     ensures spares { AreSpares trail.now.input (state_of trail.now).now tool.new.part spares.new }
 {
-    let kind = kind_of(slots, tool, trail, i);
-    destroy(&mut slots[i.0 as usize], spares, trail, i.0, kind);
+    let kind = kind_of(slots, tool, trail, pool);
+    destroy(&mut slots[pool.0 as usize], spares, trail, pool.0, kind);
     tool.advance(plan);
 }
 
@@ -169,25 +169,25 @@ pub fn command_at(
     tool: &mut ToolState,
     spares: &mut Spares,
     trail: &Trail,
-    k: u32,
+    line: u32,
     t: Moment,
 ) -> Event
     requires parts { AreParts trail.now slots.old tool.old }
     requires now { t.0 ≡ (state_of trail.now).now }
     requires enabled { is_action_enabled trail.now.input (state_of trail.now)
         (state_of trail.now).now Xl ≡ true }
-    requires number { k ≡ (state_of trail.now).next_command }
+    requires number { line ≡ (state_of trail.now).next_command }
     requires spares { AreSpares trail.now.input t.0 tool.old.part spares.old }
     ensures event { result ≡ event_of trail.now.input (state_of trail.now) (state_of trail.now).now
         Xl }
     ensures parts { AreParts (told_event trail.now t.0 result) slots.new tool.new }
     ensures spares { AreSpares trail.now.input t.0 tool.new.part spares.new }
 {
-    match verdict_of(slots, tool, trail, tool.command(k)) {
+    match verdict_of(slots, tool, trail, tool.command(line)) {
         Err(fault) => {
             tool.refuse();
             Event::Xl {
-                k: k + 1,
+                k: line + 1,
                 reply: Err(fault),
             }
         }
@@ -195,7 +195,7 @@ pub fn command_at(
             let reply = reply_of(&plan);
             accept(slots, tool, spares, trail, plan, t);
             Event::Xl {
-                k: k + 1,
+                k: line + 1,
                 reply: Ok(reply),
             }
         }

@@ -21,41 +21,41 @@ fn join_core(
     tool: &mut ToolState,
     trail: &Trail,
     r: ResId,
-    i: PoolId,
+    pool: PoolId,
     t: Moment,
 ) -> Event
     requires begins { Begins trail.now tool.old t.0 (Moved r) }
-    requires way { tool.old.part.under_way ≡ Some (core_to r.0 (Some i.0)) }
-    requires stands { StandsAt trail.now i.0 slot.old }
+    requires way { tool.old.part.under_way ≡ Some (core_to r.0 (Some pool.0)) }
+    requires stands { StandsAt trail.now pool.0 slot.old }
     ensures event { result ≡ event_of trail.now.input (state_of trail.now) (state_of trail.now).now
         (Moved r) }
-    ensures stands { StandsAt (told_event trail.now t.0 result) i.0 slot.new }
-    ensures acted { HasActedOn trail.now i.0 (told_event trail.now t.0 result) tool.new }
+    ensures stands { StandsAt (told_event trail.now t.0 result) pool.0 slot.new }
+    ensures acted { HasActedOn trail.now pool.0 (told_event trail.now t.0 result) tool.new }
     ensures counts { KeepsCounts tool.old.part tool.new.part }
 {
     let core = tool.take_free(r);
     slot.attach(&core, t);
     tool.move_done();
-    Event::Moved { r, to: Some(i) }
+    Event::Moved { r, to: Some(pool) }
 }
 
-/// A core leaves the pool i, whose place this is, and is one of no pool then. Every other part but the tool's is as before.
+/// A core leaves this pool, whose place this is, and is one of no pool then. Every other part but the tool's is as before.
 fn leave_core(
     slot: &mut PoolSlot,
     tool: &mut ToolState,
     trail: &Trail,
     r: ResId,
-    i: PoolId,
+    pool: PoolId,
     t: Moment,
 ) -> Event
     requires begins { Begins trail.now tool.old t.0 (Moved r) }
     requires way { tool.old.part.under_way ≡ Some (core_to r.0 None) }
-    requires home { home_pool_of_core (state_of trail.now) r.0 ≡ Some i.0 }
-    requires stands { StandsAt trail.now i.0 slot.old }
+    requires home { home_pool_of_core (state_of trail.now) r.0 ≡ Some pool.0 }
+    requires stands { StandsAt trail.now pool.0 slot.old }
     ensures event { result ≡ event_of trail.now.input (state_of trail.now) (state_of trail.now).now
         (Moved r) }
-    ensures stands { StandsAt (told_event trail.now t.0 result) i.0 slot.new }
-    ensures acted { HasActedOn trail.now i.0 (told_event trail.now t.0 result) tool.new }
+    ensures stands { StandsAt (told_event trail.now t.0 result) pool.0 slot.new }
+    ensures acted { HasActedOn trail.now pool.0 (told_event trail.now t.0 result) tool.new }
     ensures counts { KeepsCounts tool.old.part tool.new.part }
 {
     let core = slot.detach(r, t);

@@ -23,20 +23,20 @@ pub(crate) fn create(slot: &mut PoolSlot, spares: &mut Spares, trail: &Trail, ki
     slot.open_with(trail, spare, &default_pool_params(kind));
 }
 
-/// The pool of the place i, which has this scheduler and neither a domain nor a core, becomes a spare one.
+/// The pool of this place, which has this scheduler and neither a domain nor a core, becomes a spare one.
 pub(crate) fn destroy(
     slot: &mut PoolSlot,
     spares: &mut Spares,
     trail: &Trail,
-    i: u8,
+    place: u8,
     kind: SchedKind,
 )
     requires goes { GoesOn trail.now }
-    requires stands { StandsAt trail.now i slot.old }
+    requires stands { StandsAt trail.now place slot.old }
     requires some { IsSome slot.old }
     requires goes_out { ForSome slot.old (MayGo kind spares.old) }
     ensures { HasGone trail.now.input (state_of trail.now).now kind spares.old spares.new slot.new }
 {
-    let pool = slot.shut(trail, i);
+    let pool = slot.shut(trail, place);
     spares.give(kind, pool);
 }

@@ -16,15 +16,15 @@ use sched_base::{Moment, ResId};
 use sched_model::event::Event;
 use sched_model::work::StallLine;
 
-/// The next stall of the workload, on a processor of the pool i, whose place this is. The tool has one stall more to its count, which is the
+/// The next stall of the workload, on a processor of this pool, whose place this is. The tool has one stall more to its count, which is the
 /// caller's to take; every other part is as before.
-fn stall_in(slot: &mut PoolSlot, trail: &Trail, i: u8, line: StallLine, t: Moment) -> Event
-    requires next { IsNextStall trail.now t.0 line (Some i) }
-    requires stands { StandsAt trail.now i slot.old }
+fn stall_in(slot: &mut PoolSlot, trail: &Trail, place: u8, line: StallLine, t: Moment) -> Event
+    requires next { IsNextStall trail.now t.0 line (Some place) }
+    requires stands { StandsAt trail.now place slot.old }
     ensures event { result ≡ event_of trail.now.input (state_of trail.now) (state_of trail.now).now
         Stall }
-    ensures stands { StandsAt (told_event trail.now t.0 result) i slot.new }
-    ensures acted { HasActedOn trail.now i (told_event trail.now t.0 result)
+    ensures stands { StandsAt (told_event trail.now t.0 result) place slot.new }
+    ensures acted { HasActedOn trail.now place (told_event trail.now t.0 result)
         (one_stall_more (tool_of trail.now.input (state_of trail.now))) }
 {
     let until = slot.stall(line.cpu, Moment(t.0 + line.span.0));
@@ -44,11 +44,17 @@ fn stall_in_none(tool: &mut ToolState, trail: &Trail, line: StallLine, t: Moment
     Event::Stall { p: line.cpu, until }
 }
 
-/// The next stall of the workload, whose moment has come, where g is the number of a core's processors: the machine's own event, after
+/// The next stall of the workload, whose moment has come, where `granularity` is the number of a core's processors: the machine's own event, after
 /// which the parts are those of the state that the trail leads to with the event's entry added.
-pub fn stall(slots: &mut [PoolSlot], tool: &mut ToolState, trail: &Trail, g: u8, t: Moment) -> Event
+pub fn stall(
+    slots: &mut [PoolSlot],
+    tool: &mut ToolState,
+    trail: &Trail,
+    granularity: u8,
+    t: Moment,
+) -> Event
     requires parts { AreParts trail.now slots.old tool.old }
-    requires granularity { g ≡ trail.now.input.config.granularity }
+    requires g { granularity ≡ trail.now.input.config.granularity }
     requires now { t.0 ≡ (state_of trail.now).now }
     requires enabled { is_action_enabled trail.now.input (state_of trail.now)
         (state_of trail.now).now Stall ≡ true }
@@ -58,7 +64,7 @@ pub fn stall(slots: &mut [PoolSlot], tool: &mut ToolState, trail: &Trail, g: u8,
     ensures counts { KeepsCounts tool.old.part tool.new.part }
 {
     let line = tool.take_stall();
-    match tool.home_of_core(ResId(line.cpu.0 / g)) {
+    match tool.home_of_core(ResId(line.cpu.0 / granularity)) {
         None => stall_in_none(tool, trail, line, t),
         Some(i) => stall_in(&mut slots[i.0 as usize], trail, i.0, line, t),
     }

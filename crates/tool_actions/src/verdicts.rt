@@ -52,14 +52,14 @@ pub(crate) fn judged(
     slots: &[PoolSlot],
     tool: &ToolState,
     trail: &Trail,
-    c: &Command,
+    command: &Command,
 ) -> Result<Plan, Refusal>
     requires parts { AreParts trail.now slots.now tool.now }
-    requires command { IsCheckedCommand c.now }
-    ensures { result ≡ judged_command trail.now.input (state_of trail.now) c.now }
+    requires c { IsCheckedCommand command.now }
+    ensures { result ≡ judged_command trail.now.input (state_of trail.now) command.now }
 {
-    let facts = facts_of(slots, trail, tool.subject(c));
-    tool.judge(c, &facts)
+    let facts = facts_of(slots, trail, tool.subject(command));
+    tool.judge(command, &facts)
 }
 
 /// What is answered to the next line with a command.

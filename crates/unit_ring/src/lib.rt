@@ -50,10 +50,14 @@ impl Model for Ring {
 }
 
 /// The node of a number of the chain, where it is no fence.
-fn node_at(n: u32) -> Option<Node>
-    ensures { result ≡ as_node n }
+fn node_at(number: u32) -> Option<Node>
+    ensures { result ≡ as_node number }
 {
-    if n < FENCES { None } else { Some(Node(n)) }
+    if number < FENCES {
+        None
+    } else {
+        Some(Node(number))
+    }
 }
 
 impl Ring {
@@ -159,13 +163,13 @@ impl Ring {
     }
 
     /// The node before a live one in its list, or `None` where it is the first.
-    pub fn prev<L: Ledger>(&self, n: Node, steps: &mut Steps<L>) -> Option<Node>
-        requires live { is_live self.now n.0 ≡ true }
-        ensures node { result ≡ prev_of self.now n.0 }
+    pub fn prev<L: Ledger>(&self, node: Node, steps: &mut Steps<L>) -> Option<Node>
+        requires live { is_live self.now node.0 ≡ true }
+        ensures n { result ≡ prev_of self.now node.0 }
         ensures step { steps.new ≡ steps.old + 1 }
     {
         steps.tick();
-        node_at(self.nodes.prev(n.0))
+        node_at(self.nodes.prev(node.0))
     }
 
     /// The unit of a live node.

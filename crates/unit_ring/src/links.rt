@@ -132,62 +132,62 @@ impl Nodes {
     }
 
     /// The number after one.
-    pub fn next(&self, n: u32) -> u32
-        requires below { n < length self.now.after }
-        requires next { link self.now.after n < length self.now.after }
-        ensures { result ≡ link self.now.after n }
+    pub fn next(&self, node: u32) -> u32
+        requires below { node < length self.now.after }
+        requires next { link self.now.after node < length self.now.after }
+        ensures { result ≡ link self.now.after node }
     {
-        nodes::number(&self.row, self.row.get(n as usize).after)
+        nodes::number(&self.row, self.row.get(node as usize).after)
     }
 
     /// The number before one.
-    pub fn prev(&self, n: u32) -> u32
-        requires below { n < length self.now.after }
-        requires last { link self.now.before n < length self.now.after }
-        ensures { result ≡ link self.now.before n }
+    pub fn prev(&self, node: u32) -> u32
+        requires below { node < length self.now.after }
+        requires last { link self.now.before node < length self.now.after }
+        ensures { result ≡ link self.now.before node }
     {
-        nodes::number(&self.row, self.row.get(n as usize).before)
+        nodes::number(&self.row, self.row.get(node as usize).before)
     }
 
     /// Takes a number out of its place.
-    pub fn unlink(&mut self, n: u32)
-        requires below { n < length self.old.after }
-        requires next { link self.old.after n < length self.old.after }
-        requires last { link self.old.before n < length self.old.after }
-        ensures after { self.new.after ≡ after_without self.old.after self.old.before n }
-        ensures before { self.new.before ≡ before_without self.old.after self.old.before n }
+    pub fn unlink(&mut self, number: u32)
+        requires below { number < length self.old.after }
+        requires next { link self.old.after number < length self.old.after }
+        requires last { link self.old.before number < length self.old.after }
+        ensures after { self.new.after ≡ after_without self.old.after self.old.before number }
+        ensures before { self.new.before ≡ before_without self.old.after self.old.before number }
         ensures units { self.new.units ≡ self.old.units }
     {
-        nodes::unlink(&mut self.row, self.base, n);
+        nodes::unlink(&mut self.row, self.base, number);
     }
 
     /// Puts a number that has no place before another.
-    pub fn insert_before(&mut self, at: u32, n: u32)
-        requires below { n < length self.old.after }
+    pub fn insert_before(&mut self, at: u32, number: u32)
+        requires below { number < length self.old.after }
         requires at { at < length self.old.after }
         requires last { link self.old.before at < length self.old.after }
-        ensures after { self.new.after ≡ after_with self.old.after self.old.before at n }
-        ensures before { self.new.before ≡ before_with self.old.after self.old.before at n }
+        ensures after { self.new.after ≡ after_with self.old.after self.old.before at number }
+        ensures before { self.new.before ≡ before_with self.old.after self.old.before at number }
         ensures units { self.new.units ≡ self.old.units }
     {
-        nodes::insert_before(&mut self.row, self.base, at, n);
+        nodes::insert_before(&mut self.row, self.base, at, number);
     }
 
     /// Moves a number of the chain before another.
-    pub fn shift(&mut self, n: u32, at: u32)
+    pub fn shift(&mut self, number: u32, at: u32)
         requires whole { IsChain self.old.after self.old.before (chain self.old.after) }
-        requires number { Has n (chain self.old.after) }
-        requires inner { n ≢ 3 }
+        requires n { Has number (chain self.old.after) }
+        requires inner { number ≢ 3 }
         requires place { Has at (chain self.old.after) }
-        requires apart { at ≢ n }
+        requires apart { at ≢ number }
         ensures whole { IsChain self.new.after self.new.before (chain self.new.after) }
         ensures moved { chain self.new.after
-            ≡ put_before at n (numbers_without n (chain self.old.after)) }
+            ≡ put_before at number (numbers_without number (chain self.old.after)) }
         ensures size { length self.new.after ≡ length self.old.after }
         ensures units { self.new.units ≡ self.old.units }
     {
-        self.unlink(n);
-        self.insert_before(at, n);
+        self.unlink(number);
+        self.insert_before(at, number);
     }
 
     /// Links along the fences alone.
@@ -221,15 +221,15 @@ impl Nodes {
     }
 
     /// Writes the unit of a number.
-    pub fn set_unit(&mut self, n: u32, u: UnitId)
-        requires { n < length self.old.units }
+    pub fn set_unit(&mut self, number: u32, u: UnitId)
+        requires { number < length self.old.units }
         ensures after { self.new.after ≡ self.old.after }
         ensures before { self.new.before ≡ self.old.before }
-        ensures units { self.new.units ≡ slice_set self.old.units n u }
+        ensures units { self.new.units ≡ slice_set self.old.units number u }
     {
-        let node = *self.row.get(n as usize);
+        let node = *self.row.get(number as usize);
         self.row.put(
-            n as usize,
+            number as usize,
             NodeRecord {
                 after: node.after,
                 before: node.before,
@@ -240,10 +240,10 @@ impl Nodes {
     }
 
     /// The unit of a number.
-    pub fn unit(&self, n: u32) -> UnitId
-        requires { n < length self.now.units }
-        ensures { result ≡ unit_at self.now.units n }
+    pub fn unit(&self, number: u32) -> UnitId
+        requires { number < length self.now.units }
+        ensures { result ≡ unit_at self.now.units number }
     {
-        self.row.get(n as usize).unit
+        self.row.get(number as usize).unit
     }
 }

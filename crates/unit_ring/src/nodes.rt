@@ -57,13 +57,13 @@ pub fn number(nodes: &Slots<NodeRecord>, at: Address) -> u32
 }
 
 /// Takes a node out of its place.
-pub fn unlink(nodes: &mut Slots<NodeRecord>, base: Address, n: u32)
+pub fn unlink(nodes: &mut Slots<NodeRecord>, base: Address, number: u32)
     ghost beside: { ℕ × ℕ }
     requires base { slots_ptr nodes.old ≡ base.ptr }
     requires full { IsFull nodes.old }
-    requires below { n < slots_len nodes.old }
-    requires before { (numbered_node (slots_items nodes.old) n).before ≡ place base beside.0 }
-    requires after { (numbered_node (slots_items nodes.old) n).after ≡ place base beside.1 }
+    requires below { number < slots_len nodes.old }
+    requires before { (numbered_node (slots_items nodes.old) number).before ≡ place base beside.0 }
+    requires after { (numbered_node (slots_items nodes.old) number).after ≡ place base beside.1 }
     requires last { beside.0 < slots_len nodes.old }
     requires next { beside.1 < slots_len nodes.old }
     ensures items { slots_items nodes.new
@@ -73,7 +73,7 @@ pub fn unlink(nodes: &mut Slots<NodeRecord>, base: Address, n: u32)
     ensures full { IsFull nodes.new }
 {
     unsafe {
-        let node = base.ptr.add(n as usize);
+        let node = base.ptr.add(number as usize);
         let after = (*node).after;
         let before = (*node).before;
         (*before.ptr).after = after;
@@ -82,23 +82,23 @@ pub fn unlink(nodes: &mut Slots<NodeRecord>, base: Address, n: u32)
 }
 
 /// Puts a node that has no place before another.
-pub fn insert_before(nodes: &mut Slots<NodeRecord>, base: Address, at: u32, n: u32)
+pub fn insert_before(nodes: &mut Slots<NodeRecord>, base: Address, at: u32, number: u32)
     ghost last: { ℕ }
     requires base { slots_ptr nodes.old ≡ base.ptr }
     requires full { IsFull nodes.old }
-    requires below { n < slots_len nodes.old }
+    requires below { number < slots_len nodes.old }
     requires at { at < slots_len nodes.old }
     requires before { (numbered_node (slots_items nodes.old) at).before ≡ place base last }
     requires last { last < slots_len nodes.old }
     ensures items { slots_items nodes.new
         ≡ with_before (with_before (with_after
-        (with_after (slots_items nodes.old) last (place base n)) n (place base at)) n
-        (place base last)) at (place base n) }
+        (with_after (slots_items nodes.old) last (place base number)) number (place base at)) number
+        (place base last)) at (place base number) }
     ensures places { SamePlaces nodes.old nodes.new }
     ensures full { IsFull nodes.new }
 {
     unsafe {
-        let node = base.ptr.add(n as usize);
+        let node = base.ptr.add(number as usize);
         let next = base.ptr.add(at as usize);
         let last = (*next).before;
         (*last.ptr).after = Address { ptr: node };

@@ -14,18 +14,18 @@ pub(crate) struct Draws {
 }
 
 impl Draws {
-    /// The next draw, below k.
-    pub(crate) fn draw(&mut self, k: u32) -> u64
-        requires positive { 0 < k }
+    /// The next draw, below this bound.
+    pub(crate) fn draw(&mut self, bound: u32) -> u64
+        requires positive { 0 < bound }
         requires state { self.old.state < 2 ^ 31 }
         ensures state { self.new.state ≡ after_draw self.old.state }
         ensures small { self.new.state < 2 ^ 31 }
-        ensures value { result ≡ drawn_value k self.new.state }
-        ensures below { result < k }
+        ensures value { result ≡ drawn_value bound self.new.state }
+        ensures below { result < bound }
     {
         let next = (u64::from(self.state) * 1_103_515_245 + 12_345) % 0x8000_0000;
         self.state = next as u32;
-        u64::from(self.state / 65_536 % k)
+        u64::from(self.state / 65_536 % bound)
     }
 }
 
@@ -96,18 +96,18 @@ fn put_params(
 }
 
 /// Whether a domain has its home in the second pool.
-fn is_rt(processors: u8, i: u8) -> bool
-    ensures { result ≡ is_rtds_home processors i }
+fn is_rt(processors: u8, domain: u8) -> bool
+    ensures { result ≡ is_rtds_home processors domain }
 {
-    processors > 1 && i % 4 == 3
+    processors > 1 && domain % 4 == 3
 }
 
 /// Appends the name of a domain.
 #[tactic(auto, unfolding(crate::specs::Load::name_text))]
-fn put_name(alloc: Global, out: &mut Vec<u8>, i: u8) -> Result<(), NoMemory>
-    ensures { OnOk result (out.new.items ≡ out.old.items ++ name_text i) }
+fn put_name(alloc: Global, out: &mut Vec<u8>, number: u8) -> Result<(), NoMemory>
+    ensures { OnOk result (out.new.items ≡ out.old.items ++ name_text number) }
 {
-    let text = format!(in alloc; "[[domain]]\nname = \"g{i}\"\n")?;
+    let text = format!(in alloc; "[[domain]]\nname = \"g{number}\"\n")?;
     put(out, text.as_bytes())
 }
 
@@ -129,16 +129,16 @@ fn put_domain(
     out: &mut Vec<u8>,
     draws: &mut Draws,
     processors: u8,
-    i: u8,
+    domain: u8,
 ) -> Result<(), NoMemory>
     requires { draws.old.state < 2 ^ 31 }
     ensures text { OnOk result (out.new.items ≡ out.old.items
-        ++ domain_text processors i draws.old.state) }
+        ++ domain_text processors domain draws.old.state) }
     ensures state { OnOk result (draws.new.state ≡ after_domain draws.old.state) }
     ensures small { draws.new.state < 2 ^ 31 }
 {
-    let in_rt = is_rt(processors, i);
-    put_name(alloc, out, i)?;
+    let in_rt = is_rt(processors, domain);
+    put_name(alloc, out, domain)?;
     put_home(out, in_rt)?;
     put_params(alloc, out, draws, in_rt)?;
     put_guests(alloc, out, draws)
@@ -167,10 +167,10 @@ fn put_domains(
 
 /// Appends one number more.
 #[tactic(auto, unfolding(crate::specs::Load::next_number_text))]
-fn put_next_number(alloc: Global, out: &mut Vec<u8>, n: u8) -> Result<(), NoMemory>
-    ensures { OnOk result (out.new.items ≡ out.old.items ++ next_number_text n) }
+fn put_next_number(alloc: Global, out: &mut Vec<u8>, number: u8) -> Result<(), NoMemory>
+    ensures { OnOk result (out.new.items ≡ out.old.items ++ next_number_text number) }
 {
-    let text = format!(in alloc; ", {n}")?;
+    let text = format!(in alloc; ", {number}")?;
     put(out, text.as_bytes())
 }
 
@@ -221,23 +221,23 @@ fn put_pools(alloc: Global, out: &mut Vec<u8>, processors: u8) -> Result<(), NoM
     put_second_pool(alloc, out, processors)
 }
 
-/// Appends a stall at 9 milliseconds times k.
+/// Appends a stall at 9 milliseconds times this.
 #[tactic(auto, unfolding(crate::specs::Load::stall_text))]
 fn put_stall(
     alloc: Global,
     out: &mut Vec<u8>,
     draws: &mut Draws,
     processors: u8,
-    k: u8,
+    times: u8,
 ) -> Result<(), NoMemory>
     requires processors { 1 ≤ processors }
     requires state { draws.old.state < 2 ^ 31 }
     ensures text { OnOk result (out.new.items ≡ out.old.items
-        ++ stall_text processors k draws.old.state) }
+        ++ stall_text processors times draws.old.state) }
     ensures state { draws.new.state ≡ after_script draws.old.state }
     ensures small { draws.new.state < 2 ^ 31 }
 {
-    let at = 9_000_000 * u64::from(k);
+    let at = 9_000_000 * u64::from(times);
     let cpu = draws.draw(u32::from(processors));
     let span = 100_000 * (1 + draws.draw(30));
     let text = format!(in alloc; "{at} stall {cpu} {span}\n")?;

@@ -7,5 +7,5 @@ pub returns : goal.returns
 returns c =
     c.sooner.ensures
     ∙ ap (λ w. sooner_id c.args.moments.now c.args.first w) c.winner.ensures
-    ∙ ap (λ w. sooner_id c.args.moments.now w (node_winner c.args.winners.now (4 * (c.args.k / 2) + 1 - c.args.k))) c.requires.first
-    ∙ beside c.args.moments.now (node_winner c.args.winners.now) c.args.k
+    ∙ ap (λ w. sooner_id c.args.moments.now w (node_winner c.args.winners.now (4 * (c.args.node / 2) + 1 - c.args.node))) c.requires.first
+    ∙ beside c.args.moments.now (node_winner c.args.winners.now) c.args.node

@@ -3,4 +3,4 @@ use Rattle.core_state.specs.CoreState.{AreArmedBut}
 use Rattle.core_state.proofs.dues.rearm.Given as goal
 
 abbrev pub invariant-loop-i : goal.invariant-loop-i
-invariant-loop-i l = AreArmedBut (l.r.0 + 1) (l.r.0 + 1) (l.r.0 * l.g + l.i) (l.r.0 * l.g + l.g) (record { resources = l.cores; works = l.works; granularity = l.g }) l.dues
+invariant-loop-i l = AreArmedBut (l.r.0 + 1) (l.r.0 + 1) (l.r.0 * l.granularity + l.i) (l.r.0 * l.granularity + l.granularity) (record { resources = l.cores; works = l.works; granularity = l.granularity }) l.dues

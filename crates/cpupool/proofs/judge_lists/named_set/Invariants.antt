@@ -6,6 +6,6 @@ use Rattle.cpupool.proofs.judge_lists.named_set.Given as goal
 abbrev pub invariant-loop-r : goal.invariant-loop-r
 invariant-loop-r l =
     record {
-      so_far : l.set + named_among l.g l.ranges (numbers_from l.r (l.cores - l.r)) ≡ named_among l.g l.ranges (numbers_from 0 l.cores);
+      so_far : l.set + named_among l.granularity l.ranges (numbers_from l.r (l.cores - l.r)) ≡ named_among l.granularity l.ranges (numbers_from 0 l.cores);
       below : l.set < 2 ^ l.r;
     }

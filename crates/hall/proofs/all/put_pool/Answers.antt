@@ -6,8 +6,8 @@ use Rattle.hall.proofs.all.put_pool.Goals as goal
 
 pub returns-clause-below : goal.returns-clause-below
 returns-clause-below c = let old = c.args.seat.now in let new = c.unlock.new.seat in
-    gave_below c.args.i old new (subst (λ (k : ℕ). new ≡ sitting_with old (after_give k old.view)) c.new.ensures.lock c.unlock.ensures) c.requires.below
+    gave_below c.args.place old new (subst (λ (k : ℕ). new ≡ sitting_with old (after_give k old.view)) c.new.ensures.lock c.unlock.ensures) c.requires.below
 
 pub returns-clause-still : goal.returns-clause-still
 returns-clause-still c = let old = c.args.seat.now in let new = c.unlock.new.seat in
-    gave_still c.args.i old new (subst (λ (k : ℕ). new ≡ sitting_with old (after_give k old.view)) c.new.ensures.lock c.unlock.ensures)
+    gave_still c.args.place old new (subst (λ (k : ℕ). new ≡ sitting_with old (after_give k old.view)) c.new.ensures.lock c.unlock.ensures)

@@ -8,15 +8,15 @@ use Rattle.machine_opening.proofs.Pinning.{still_joined, still_units}
 use Rattle.machine_opening.proofs.domains.pin.Goals as goal
 
 pub returns-clause-after : goal.returns-clause-after
-returns-clause-after g c = c.set_params.ensures ∙ pinned_still c.args.d.0 c.args.n c.args.cores c.args.pool.now c.requires.still
+returns-clause-after g c = c.set_params.ensures ∙ pinned_still c.args.d.0 c.args.index c.args.cores c.args.pool.now c.requires.still
 
 pub returns-clause-still : goal.returns-clause-still
 returns-clause-still g c = subst IsStill (sym (returns-clause-after g c)) (record { used = c.requires.still.used; early = c.requires.still.early; pending = c.requires.still.pending })
 
 pub returns-clause-joined : goal.returns-clause-joined
 returns-clause-joined g c =
-    subst (λ (s : Seen). has_joined_domain s.pool.scheduler c.args.d.0 ≡ true) (sym (returns-clause-after g c)) (still_joined c.args.d.0 c.args.n c.args.cores c.args.pool.now.pool ∙ c.requires.joined)
+    subst (λ (s : Seen). has_joined_domain s.pool.scheduler c.args.d.0 ≡ true) (sym (returns-clause-after g c)) (still_joined c.args.d.0 c.args.index c.args.cores c.args.pool.now.pool ∙ c.requires.joined)
 
 pub returns-clause-units : goal.returns-clause-units
 returns-clause-units g c =
-    subst (λ (s : Seen). units_of s.pool.scheduler c.args.d.0 ≡ units_of c.args.pool.now.pool.scheduler c.args.d.0) (sym (returns-clause-after g c)) (still_units c.args.d.0 c.args.n c.args.cores c.args.pool.now.pool)
+    subst (λ (s : Seen). units_of s.pool.scheduler c.args.d.0 ≡ units_of c.args.pool.now.pool.scheduler c.args.d.0) (sym (returns-clause-after g c)) (still_units c.args.d.0 c.args.index c.args.cores c.args.pool.now.pool)

@@ -7,24 +7,24 @@ use Rattle.sched_laws.proofs.Lists.{same_read}
 
 pub bounds-slots-i : goal.bounds-slots-i
 bounds-slots-i c =
-    let few = few-pools c.args.trail.now c.requires.goes c.args.t.0 c.requires.now c.args.action c.requires.own c.requires.enabled c.args.i c.requires.home in
+    let few = few-pools c.args.trail.now c.requires.goes c.args.t.0 c.requires.now c.args.action c.requires.own c.requires.enabled c.args.place c.requires.home in
     let count = c.requires.stand.count in
     omega (arith, few, count)
 
 pub perform-requires-clause-stands : goal.perform-requires-clause-stands
 perform-requires-clause-stands c =
-    let few = few-pools c.args.trail.now c.requires.goes c.args.t.0 c.requires.now c.args.action c.requires.own c.requires.enabled c.args.i c.requires.home in
-    let low : c.args.i < length c.args.slots.now = (let count = c.requires.stand.count in omega (arith, few, count)) in
-    subst (StandsAt c.args.trail.now c.args.i) (same_read c.args.slots.now c.args.i None c.index-slots-i.result low) (c.requires.stand.each c.args.i few)
+    let few = few-pools c.args.trail.now c.requires.goes c.args.t.0 c.requires.now c.args.action c.requires.own c.requires.enabled c.args.place c.requires.home in
+    let low : c.args.place < length c.args.slots.now = (let count = c.requires.stand.count in omega (arith, few, count)) in
+    subst (StandsAt c.args.trail.now c.args.place) (same_read c.args.slots.now c.args.place None c.index-slots-i.result low) (c.requires.stand.each c.args.place few)
 
 pub returns-clause-state : goal.returns-clause-state
-returns-clause-state c = state-done c.args.trail.now c.requires.goes c.args.t.0 c.requires.now c.args.action c.requires.own c.requires.enabled c.args.i c.requires.home c.perform.result c.perform.ensures.event
+returns-clause-state c = state-done c.args.trail.now c.requires.goes c.args.t.0 c.requires.now c.args.action c.requires.own c.requires.enabled c.args.place c.requires.home c.perform.result c.perform.ensures.event
 
 pub returns-clause-step : goal.returns-clause-step
-returns-clause-step c = step-done c.args.trail.now c.requires.goes c.args.t.0 c.requires.now c.args.action c.requires.own c.requires.enabled c.args.i c.requires.home c.perform.result c.perform.ensures.event
+returns-clause-step c = step-done c.args.trail.now c.requires.goes c.args.t.0 c.requires.now c.args.action c.requires.own c.requires.enabled c.args.place c.requires.home c.perform.result c.perform.ensures.event
 
 pub returns-clause-stand : goal.returns-clause-stand
-returns-clause-stand c = stand-done c.args.trail.now c.requires.goes c.args.t.0 c.requires.now c.args.action c.requires.own c.requires.enabled c.args.i c.requires.home c.perform.result c.perform.ensures.event c.args.slots.now c.perform.new.self c.requires.stand c.perform.ensures.stands
+returns-clause-stand c = stand-done c.args.trail.now c.requires.goes c.args.t.0 c.requires.now c.args.action c.requires.own c.requires.enabled c.args.place c.requires.home c.perform.result c.perform.ensures.event c.args.slots.now c.perform.new.self c.requires.stand c.perform.ensures.stands
 
 pub returns-clause-others : goal.returns-clause-others
-returns-clause-others c k other = get_or-set_other c.args.slots.now c.args.i k c.perform.new.self None other
+returns-clause-others c k other = get_or-set_other c.args.slots.now c.args.place k c.perform.new.self None other

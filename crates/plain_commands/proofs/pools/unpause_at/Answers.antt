@@ -7,8 +7,8 @@ use Rattle.sched_laws.proofs.EachPlace.{place_fits}
 use Rattle.plain_commands.proofs.pools.unpause_at.Goals as goal
 
 pub unpause-requires-clause-fits : goal.unpause-requires-clause-fits
-unpause-requires-clause-fits c = place_fits PoolFits c.args.pools.now c.args.i c.in-Some.place.now c.in-Some-place.pool c.requires.fits (c.in-Some.ensures.some.0 refl) c.in-Some.ensures.value c.in-Some-place.is
+unpause-requires-clause-fits c = place_fits PoolFits c.args.pools.now c.args.index c.in-Some.place.now c.in-Some-place.pool c.requires.fits (c.in-Some.ensures.some.0 refl) c.in-Some.ensures.value c.in-Some-place.is
 
 pub unpause-requires-clause-room : goal.unpause-requires-clause-room
 unpause-requires-clause-room c =
-    changed-item FewWait (unpaused_pool c.args.g c.args.d.0) c.args.pools.now c.args.i c.in-Some.place.now c.in-Some-place.pool c.requires.room (c.in-Some.ensures.some.0 refl) c.in-Some.ensures.value c.in-Some-place.is
+    changed-item FewWait (unpaused_pool c.args.granularity c.args.d.0) c.args.pools.now c.args.index c.in-Some.place.now c.in-Some-place.pool c.requires.room (c.in-Some.ensures.some.0 refl) c.in-Some.ensures.value c.in-Some-place.is

@@ -6,6 +6,6 @@ use Rattle.plain_pool.proofs.domains.queue_units.Given as goal
 abbrev pub invariant-loop-n : goal.invariant-loop-n
 invariant-loop-n l =
     record {
-      so_far : pool_with_queued_units l.g l.d.0 (numbers_from l.n (l.count - l.n)) l.pool ≡ pool_with_queued_units l.g l.d.0 (numbers_from 0 l.count) l.initial.pool;
+      so_far : pool_with_queued_units l.granularity l.d.0 (numbers_from l.n (l.count - l.n)) l.pool ≡ pool_with_queued_units l.granularity l.d.0 (numbers_from 0 l.count) l.initial.pool;
       cores : length l.pool.resources ≤ 64;
     }

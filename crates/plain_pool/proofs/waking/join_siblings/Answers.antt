@@ -14,7 +14,7 @@ overflow_mul-p c =
     let inside : c.in-Some.r < length c.as_slice.result.now = core_of-inside c.as_slice.result.now c.unit_of.result c.in-Some.r (sym c.core_of.ensures ∙ c.in-Some.is) in
     let few : length c.as_slice.result.now ≤ 64 = rw c.as_slice.ensures c.requires.cores in
     let low : c.in-Some.r ≤ 63 = omega arith in
-    let most : c.in-Some.r * c.args.g ≤ 63 * 4 = mul-le-mul {n₂ = 63} low c.requires.few in
+    let most : c.in-Some.r * c.args.granularity ≤ 63 * 4 = mul-le-mul {n₂ = 63} low c.requires.few in
     omega arith
 
 pub overflow_add-p : goal.overflow_add-p
@@ -22,6 +22,6 @@ overflow_add-p c =
     let inside : c.in-Some.r < length c.as_slice.result.now = core_of-inside c.as_slice.result.now c.unit_of.result c.in-Some.r (sym c.core_of.ensures ∙ c.in-Some.is) in
     let few : length c.as_slice.result.now ≤ 64 = rw c.as_slice.ensures c.requires.cores in
     let low : c.in-Some.r ≤ 63 = omega arith in
-    let most : c.in-Some.r * c.args.g ≤ 63 * 4 = mul-le-mul {n₂ = 63} low c.requires.few in
-    let rest : c.args.v.n % c.args.g < c.args.g = mod-lt c.args.v.n c.requires.some in
+    let most : c.in-Some.r * c.args.granularity ≤ 63 * 4 = mul-le-mul {n₂ = 63} low c.requires.few in
+    let rest : c.args.v.n % c.args.granularity < c.args.granularity = mod-lt c.args.v.n c.requires.some in
     omega arith

@@ -9,16 +9,16 @@ use Rattle.sched_plain.proofs.Judging.{stands-recorded, stands-small}
 use Rattle.sched_plain.proofs.command.judged.Goals as goal
 
 pub read-requires : goal.read-requires
-read-requires c = stands-small c.args.m.now c.args.s.now c.requires.stands
+read-requires c = stands-small c.args.machine.now c.args.state.now c.requires.stands
 
 pub facts_at-facts-requires-clause-fits : goal.facts_at-facts-requires-clause-fits
-facts_at-facts-requires-clause-fits c = λ i pool at. (stands-pool c.args.m.now c.args.s.now c.requires.stands i pool at).fits
+facts_at-facts-requires-clause-fits c = λ i pool at. (stands-pool c.args.machine.now c.args.state.now c.requires.stands i pool at).fits
 
 pub returns-clause-verdict : goal.returns-clause-verdict
 returns-clause-verdict c =
-    let m = c.args.m.now in
-    let s = c.args.s.now in
+    let m = c.args.machine.now in
+    let s = c.args.state.now in
     let read : tool_of m s ≡ c.read.new.self = sym (c.requires.tool s) ∙ sym c.read.ensures in
     let by : Subject → Facts = λ x. record { rate = subject_rate s x; units = subject_stored m.config.granularity s x } in
-    let facts : command_facts m s c.args.c.now ≡ c.facts_at-facts.result = sym (c.facts_at-facts.ensures ∙ ap by (c.subject-subject.ensures m s read)) in
-    c.judge.ensures m s read facts (facts-kept m s c.args.c.now (stands-recorded m s c.requires.stands))
+    let facts : command_facts m s c.args.command.now ≡ c.facts_at-facts.result = sym (c.facts_at-facts.ensures ∙ ap by (c.subject-subject.ensures m s read)) in
+    c.judge.ensures m s read facts (facts-kept m s c.args.command.now (stands-recorded m s c.requires.stands))

@@ -7,12 +7,12 @@ use Rattle.sched_plain.proofs.soonest.next_turn.Goals as goal
 
 pub returns-then-at-m : goal.returns-then-at-m
 returns-then-at-m c =
-    let m : Machine = c.args.m.now in
-    let s : State = c.args.s.now in
+    let m : Machine = c.args.machine.now in
+    let s : State = c.args.state.now in
     turn_within m s c.requires c.soonest-at.result c.soonest-at.ensures (λ (t later : ℕ) (action : Action). c.law_enabled_stays.ensures m s t later action) (c.law_next_moment.ensures m s s.now) c.if-at-m.true
 
 pub returns-else-at-m : goal.returns-else-at-m
 returns-else-at-m c =
-    let m : Machine = c.args.m.now in
-    let s : State = c.args.s.now in
+    let m : Machine = c.args.machine.now in
+    let s : State = c.args.state.now in
     turn_past m s c.requires c.soonest-at.result c.soonest-at.ensures (λ (t later : ℕ) (action : Action). c.law_enabled_stays.ensures m s t later action) (c.law_next_moment.ensures m s s.now) c.if-at-m.false

@@ -13,15 +13,15 @@ use Rattle.sched_plain.proofs.Turns.{are_whole, scans_fit, soonest_is}
 use Rattle.sched_plain.proofs.soonest.soonest.Goals as goal
 
 pub of_command-lines-requires : goal.of_command-lines-requires
-of_command-lines-requires c = stands-state c.args.m.now c.args.s.now c.requires
+of_command-lines-requires c = stands-state c.args.machine.now c.args.state.now c.requires
 
 pub of_pools-requires : goal.of_pools-requires
-of_pools-requires c = subst (λ (pools : List (Option Pool)). EachPlace ScanFits pools) (sym c.as_slice-2.ensures) (scans_fit c.args.m.now c.args.s.now c.requires)
+of_pools-requires c = subst (λ (pools : List (Option Pool)). EachPlace ScanFits pools) (sym c.as_slice-2.ensures) (scans_fit c.args.machine.now c.args.state.now c.requires)
 
 pub returns : goal.returns
 returns c =
-    let m : Machine = c.args.m.now in
-    let s : State = c.args.s.now in
+    let m : Machine = c.args.machine.now in
+    let s : State = c.args.state.now in
     let g : ℕ = m.config.granularity in
     let stall : c.lesser.result ≡ lesser_moment last_moment (next_stall_moment m s) = c.lesser.ensures ∙ ap (lesser_moment last_moment) c.stall_ready.ensures in
     let lines : c.of_command-lines.result ≡ lesser_moment (lesser_moment last_moment (next_stall_moment m s)) (command_ready m s) = c.of_command-lines.ensures ∙ ap (λ (n : ℕ). lesser_moment n (command_ready m s)) stall in

@@ -9,12 +9,12 @@ use Rattle.scheduler_records.proofs.credit2_domain.burn_at.Goals as goal
 pub returns-in-Some : goal.returns-in-Some
 returns-in-Some c =
     let d : Credit2Domain = c.args.d.now in
-    let is : slice_get d.units c.args.n ≡ Some c.in-Some.u = rw c.as_slice.ensures.items at (sym c.in-Some.ensures) in
-    let set : c.set_unit.new.units ≡ slice_set d.units c.args.n c.burn_unit-burned.result = c.set_unit.ensures in
-    let put = change_item-put c.args.n (burned_unit c.args.most c.args.t.0 d) d.units c.in-Some.u is in
-    ap (λ (units : List Credit2Unit). record d { units = units }) (set ∙ ap (slice_set d.units c.args.n) c.burn_unit-burned.ensures ∙ put)
+    let is : slice_get d.units c.args.index ≡ Some c.in-Some.u = rw c.as_slice.ensures.items at (sym c.in-Some.ensures) in
+    let set : c.set_unit.new.units ≡ slice_set d.units c.args.index c.burn_unit-burned.result = c.set_unit.ensures in
+    let put = change_item-put c.args.index (burned_unit c.args.most c.args.t.0 d) d.units c.in-Some.u is in
+    ap (λ (units : List Credit2Unit). record d { units = units }) (set ∙ ap (slice_set d.units c.args.index) c.burn_unit-burned.ensures ∙ put)
 
 pub returns-in_default : goal.returns-in_default
 returns-in_default c =
     let d : Credit2Domain = c.args.d.now in
-    ap (λ (units : List Credit2Unit). record d { units = units }) (sym (change_item-none c.args.n _ d.units (rw c.as_slice.ensures.items at (sym c.in_default.ensures))))
+    ap (λ (units : List Credit2Unit). record d { units = units }) (sym (change_item-none c.args.index _ d.units (rw c.as_slice.ensures.items at (sym c.in_default.ensures))))

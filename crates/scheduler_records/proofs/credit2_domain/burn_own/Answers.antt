@@ -12,9 +12,9 @@ pub give_back-requires : goal.give_back-requires
 give_back-requires c = record {
   room = λ u is.
       let d : Credit2Domain = c.args.d.now in
-      let here : slice_get (change_item c.args.n (burned_unit c.args.most c.args.t.0 d) d.units) c.args.n ≡ Some u = ap (λ (e : Credit2Domain). slice_get e.units c.args.n) (sym c.burn_at.ensures) ∙ is in
+      let here : slice_get (change_item c.args.index (burned_unit c.args.most c.args.t.0 d) d.units) c.args.index ≡ Some u = ap (λ (e : Credit2Domain). slice_get e.units c.args.index) (sym c.burn_at.ensures) ∙ is in
       let fits : UnitFits c.args.t.0 u =
-      get-change_item_fits (UnitFits c.args.t.0) c.args.n (burned_unit c.args.most c.args.t.0 d) d.units u (λ k x h. unit_burned c.args.most c.args.t.0 d _ c.requires.early c.requires.fits.params (c.requires.range.units k x h)) here
+      get-change_item_fits (UnitFits c.args.t.0) c.args.index (burned_unit c.args.most c.args.t.0 d) d.units u (λ k x h. unit_burned c.args.most c.args.t.0 d _ c.requires.early c.requires.fits.params (c.requires.range.units k x h)) here
       in
       let sum : FitsSigned w64 (d.budget +ℤ u.held) = budget_fits c.args.most c.args.t.0 d u c.requires.early c.requires.range fits in
       subst (λ (e : Credit2Domain). FitsSigned w64 (e.budget +ℤ u.held)) (sym c.burn_at.ensures) sum;

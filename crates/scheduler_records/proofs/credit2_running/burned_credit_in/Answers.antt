@@ -15,15 +15,15 @@ pub returns-in-None : goal.returns-in-None
 unfolding credit_there
 returns-in-None c =
     let d : Credit2Domain = c.args.d.now in
-    let is : slice_get d.units c.args.n ≡ None = rw c.as_slice.ensures.items at (sym c.in-None.ensures) in
+    let is : slice_get d.units c.args.index ≡ None = rw c.as_slice.ensures.items at (sym c.in-None.ensures) in
     let f : Credit2Unit → Credit2Unit = burned_unit c.args.most c.args.t.0 d in
-    ap credit_there (sym (slice_get-change_item c.args.n f d.units ∙ ap (option_map f) is))
+    ap credit_there (sym (slice_get-change_item c.args.index f d.units ∙ ap (option_map f) is))
 
 pub returns-in-Some : goal.returns-in-Some
 unfolding credit_there
 returns-in-Some c =
     let d : Credit2Domain = c.args.d.now in
-    let is : slice_get d.units c.args.n ≡ Some c.in-Some.x = rw c.as_slice.ensures.items at (sym c.in-Some.ensures) in
+    let is : slice_get d.units c.args.index ≡ Some c.in-Some.x = rw c.as_slice.ensures.items at (sym c.in-Some.ensures) in
     let f : Credit2Unit → Credit2Unit = burned_unit c.args.most c.args.t.0 d in
     let fits : FitsSigned w64 c.burn_unit.result.credit = search rules in
-    to_z-of_z w64 c.burn_unit.result.credit fits ∙ ap (λ (x : Credit2Unit). x.credit) c.burn_unit.ensures ∙ ap credit_there (sym (slice_get-change_item c.args.n f d.units ∙ ap (option_map f) is))
+    to_z-of_z w64 c.burn_unit.result.credit fits ∙ ap (λ (x : Credit2Unit). x.credit) c.burn_unit.ensures ∙ ap credit_there (sym (slice_get-change_item c.args.index f d.units ∙ ap (option_map f) is))

@@ -11,5 +11,5 @@ pub returns : goal.returns
 returns c =
     let records : Credit2Records = c.args.records.now in
     ap (λ (domains : List (Option Credit2Domain)). record records { last_reset = Some c.args.t.0; domains = domains })
-    (c.reset_all.ensures ∙ ap (λ w. change_each 0 (λ (n : ℕ). reset_by w c.args.t.0 c.args.m) records.domains) c.max_weight-most.ensures)
-    ∙ sym (reset-each c.args.t.0 c.args.m records (omega arith))
+    (c.reset_all.ensures ∙ ap (λ w. change_each 0 (λ (n : ℕ). reset_by w c.args.t.0 c.args.resets) records.domains) c.max_weight-most.ensures)
+    ∙ sym (reset-each c.args.t.0 c.args.resets records (omega arith))

@@ -7,4 +7,4 @@ use Rattle.scheduler_records.proofs.credit2_units.set_held.Goals as goal
 pub returns-in-Some : goal.returns-in-Some
 returns-in-Some c =
     let same = to_z-of_z w64 c.args.held c.ranges.held in
-    rw same (slice_set-changed c.args.n (λ (x : Credit2Unit). record x { held = c.args.held }) c.args.units.now c.in-Some.u.now c.in-Some.ensures.value)
+    rw same (slice_set-changed c.args.index (λ (x : Credit2Unit). record x { held = c.args.held }) c.args.units.now c.in-Some.u.now c.in-Some.ensures.value)

@@ -16,40 +16,40 @@ use Rattle.tool_actions.proofs.cores.join_core.Goals as goal
 use Rattle.tool_actions.proofs.cores.join_core.Goals.{After-move_done}
 
 pub take_free-core-requires : goal.take_free-core-requires
-take_free-core-requires c = free-there c.args.trail.now c.args.tool.now c.args.t.0 c.args.r.0 c.requires.begins c.args.i.0 c.requires.way
+take_free-core-requires c = free-there c.args.trail.now c.args.tool.now c.args.t.0 c.args.r.0 c.requires.begins c.args.pool.0 c.requires.way
 
 pub attach-requires-clause-now : goal.attach-requires-clause-now
 attach-requires-clause-now c =
     let core = c.take_free-core in
-    joins-now c.args.trail.now c.args.tool.now c.args.t.0 c.args.r.0 c.requires.begins c.args.i.0 c.requires.way core.result.stall_ends core.ensures.ends c.args.slot.now c.requires.stands
+    joins-now c.args.trail.now c.args.tool.now c.args.t.0 c.args.r.0 c.requires.begins c.args.pool.0 c.requires.way core.result.stall_ends core.ensures.ends c.args.slot.now c.requires.stands
 
 pub attach-requires-clause-place : goal.attach-requires-clause-place
 attach-requires-clause-place c =
     let core = c.take_free-core in
     subst (λ (r : ResId). ForSome c.args.slot.now (λ seen. r.0 < length seen.pool.resources)) (sym core.ensures.core)
-    (joins-place c.args.trail.now c.args.tool.now c.args.t.0 c.args.r.0 c.requires.begins c.args.i.0 c.requires.way core.result.stall_ends core.ensures.ends c.args.slot.now c.requires.stands)
+    (joins-place c.args.trail.now c.args.tool.now c.args.t.0 c.args.r.0 c.requires.begins c.args.pool.0 c.requires.way core.result.stall_ends core.ensures.ends c.args.slot.now c.requires.stands)
 
 pub attach-requires-clause-absent : goal.attach-requires-clause-absent
 attach-requires-clause-absent c =
     let core = c.take_free-core in
     subst (λ (r : ResId). ForSome c.args.slot.now (λ seen. at_place seen.pool.resources r.0 ≡ None)) (sym core.ensures.core)
-    (joins-absent c.args.trail.now c.args.tool.now c.args.t.0 c.args.r.0 c.requires.begins c.args.i.0 c.requires.way core.result.stall_ends core.ensures.ends c.args.slot.now c.requires.stands)
+    (joins-absent c.args.trail.now c.args.tool.now c.args.t.0 c.args.r.0 c.requires.begins c.args.pool.0 c.requires.way core.result.stall_ends core.ensures.ends c.args.slot.now c.requires.stands)
 
 pub attach-requires-clause-siblings : goal.attach-requires-clause-siblings
 attach-requires-clause-siblings c =
     let core = c.take_free-core in
-    joins-siblings c.args.trail.now c.args.tool.now c.args.t.0 c.args.r.0 c.requires.begins c.args.i.0 c.requires.way core.result.stall_ends core.ensures.ends c.args.slot.now c.requires.stands
+    joins-siblings c.args.trail.now c.args.tool.now c.args.t.0 c.args.r.0 c.requires.begins c.args.pool.0 c.requires.way core.result.stall_ends core.ensures.ends c.args.slot.now c.requires.stands
 
 pub returns-clause-event : goal.returns-clause-event
-returns-clause-event c = event-joins c.args.trail.now c.args.tool.now c.args.t.0 c.args.r.0 c.requires.begins c.args.i.0 c.requires.way
+returns-clause-event c = event-joins c.args.trail.now c.args.tool.now c.args.t.0 c.args.r.0 c.requires.begins c.args.pool.0 c.requires.way
 
 pub returns-clause-stands : goal.returns-clause-stands
 returns-clause-stands c =
     let core = c.take_free-core in
     let t = c.args.t.0 in
     let begins = c.requires.begins in
-    stands-joined c.args.trail.now c.args.tool.now t c.args.r.0 begins c.args.i.0 c.requires.way core.result.stall_ends core.ensures.ends c.args.slot.now c.requires.stands
-    _ (event-joins c.args.trail.now c.args.tool.now t c.args.r.0 begins c.args.i.0 c.requires.way) c.attach.new.self
+    stands-joined c.args.trail.now c.args.tool.now t c.args.r.0 begins c.args.pool.0 c.requires.way core.result.stall_ends core.ensures.ends c.args.slot.now c.requires.stands
+    _ (event-joins c.args.trail.now c.args.tool.now t c.args.r.0 begins c.args.pool.0 c.requires.way) c.attach.new.self
     (subst (λ (r : ResId). c.attach.new.self ≡ option_map (λ (seen : Seen). seen_at t (settled_pool t (with_core r.0 core.result.stall_ends seen.pool)) seen) c.args.slot.now) core.ensures.core c.attach.ensures)
 
 -- what the tool knows in the end
@@ -60,13 +60,13 @@ done c =
     let begins = c.requires.begins in
     let free = clear_at c.args.r.0 c.args.tool.now.part.free in
     let rest = c.take_free-core.ensures.rest in
-    c.move_done.ensures.state w.input s s.now (core_to c.args.r.0 (Some c.args.i.0)) free (ap (but_for_free free) begins.known ∙ sym rest) (ap (λ (x : Tool). x.part.under_way) rest ∙ c.requires.way)
+    c.move_done.ensures.state w.input s s.now (core_to c.args.r.0 (Some c.args.pool.0)) free (ap (but_for_free free) begins.known ∙ sym rest) (ap (λ (x : Tool). x.part.under_way) rest ∙ c.requires.way)
     (ends-it w c.args.tool.now c.args.t.0 c.args.r.0 begins)
 
 pub returns-clause-acted : goal.returns-clause-acted
 returns-clause-acted c =
     let begins = c.requires.begins in
-    acted-joins c.args.trail.now c.args.tool.now c.args.t.0 c.args.r.0 begins c.args.i.0 c.requires.way c.move_done.new.self (done c) _ (event-joins c.args.trail.now c.args.tool.now c.args.t.0 c.args.r.0 begins c.args.i.0 c.requires.way)
+    acted-joins c.args.trail.now c.args.tool.now c.args.t.0 c.args.r.0 begins c.args.pool.0 c.requires.way c.move_done.new.self (done c) _ (event-joins c.args.trail.now c.args.tool.now c.args.t.0 c.args.r.0 begins c.args.pool.0 c.requires.way)
 
 pub returns-clause-counts : goal.returns-clause-counts
-returns-clause-counts c = counts-joins c.args.trail.now c.args.tool.now c.args.t.0 c.args.r.0 c.requires.begins c.args.i.0 c.requires.way c.move_done.new.self (done c)
+returns-clause-counts c = counts-joins c.args.trail.now c.args.tool.now c.args.t.0 c.args.r.0 c.requires.begins c.args.pool.0 c.requires.way c.move_done.new.self (done c)

@@ -13,31 +13,31 @@ use Rattle.tool_actions.proofs.cores.leave_core.Goals as goal
 use Rattle.tool_actions.proofs.cores.leave_core.Goals.{After-move_done}
 
 pub detach-core-requires-clause-some : goal.detach-core-requires-clause-some
-detach-core-requires-clause-some c = has-pool c.args.trail.now c.args.tool.now c.args.t.0 c.args.r.0 c.requires.begins c.args.i.0 c.requires.way c.requires.home c.args.slot.now c.requires.stands
+detach-core-requires-clause-some c = has-pool c.args.trail.now c.args.tool.now c.args.t.0 c.args.r.0 c.requires.begins c.args.pool.0 c.requires.way c.requires.home c.args.slot.now c.requires.stands
 
 pub detach-core-requires-clause-now : goal.detach-core-requires-clause-now
-detach-core-requires-clause-now c = leaves-now c.args.trail.now c.args.tool.now c.args.t.0 c.args.r.0 c.requires.begins c.args.i.0 c.requires.way c.requires.home c.args.slot.now c.requires.stands
+detach-core-requires-clause-now c = leaves-now c.args.trail.now c.args.tool.now c.args.t.0 c.args.r.0 c.requires.begins c.args.pool.0 c.requires.way c.requires.home c.args.slot.now c.requires.stands
 
 pub detach-core-requires-clause-ready : goal.detach-core-requires-clause-ready
-detach-core-requires-clause-ready c = leaves-ready c.args.trail.now c.args.tool.now c.args.t.0 c.args.r.0 c.requires.begins c.args.i.0 c.requires.way c.requires.home c.args.slot.now c.requires.stands
+detach-core-requires-clause-ready c = leaves-ready c.args.trail.now c.args.tool.now c.args.t.0 c.args.r.0 c.requires.begins c.args.pool.0 c.requires.way c.requires.home c.args.slot.now c.requires.stands
 
 pub give_free-requires-clause-core : goal.give_free-requires-clause-core
 give_free-requires-clause-core c =
     subst (λ (r : ResId). r.0 < length c.args.tool.now.part.free) (sym c.detach-core.ensures.number)
-    (place-free c.args.trail.now c.args.tool.now c.args.t.0 c.args.r.0 c.requires.begins c.args.i.0 c.requires.way c.requires.home c.args.slot.now c.requires.stands)
+    (place-free c.args.trail.now c.args.tool.now c.args.t.0 c.args.r.0 c.requires.begins c.args.pool.0 c.requires.way c.requires.home c.args.slot.now c.requires.stands)
 
 pub give_free-requires-clause-new : goal.give_free-requires-clause-new
 give_free-requires-clause-new c =
     subst (λ (r : ResId). at_place c.args.tool.now.part.free r.0 ≡ None) (sym c.detach-core.ensures.number)
-    (none-free c.args.trail.now c.args.tool.now c.args.t.0 c.args.r.0 c.requires.begins c.args.i.0 c.requires.way c.requires.home c.args.slot.now c.requires.stands)
+    (none-free c.args.trail.now c.args.tool.now c.args.t.0 c.args.r.0 c.requires.begins c.args.pool.0 c.requires.way c.requires.home c.args.slot.now c.requires.stands)
 
 pub returns-clause-event : goal.returns-clause-event
-returns-clause-event c = event-leaves c.args.trail.now c.args.tool.now c.args.t.0 c.args.r.0 c.requires.begins c.args.i.0 c.requires.way c.requires.home c.args.slot.now c.requires.stands
+returns-clause-event c = event-leaves c.args.trail.now c.args.tool.now c.args.t.0 c.args.r.0 c.requires.begins c.args.pool.0 c.requires.way c.requires.home c.args.slot.now c.requires.stands
 
 pub returns-clause-stands : goal.returns-clause-stands
 returns-clause-stands c =
-    stands-left c.args.trail.now c.args.tool.now c.args.t.0 c.args.r.0 c.requires.begins c.args.i.0 c.requires.way c.requires.home c.args.slot.now c.requires.stands
-    _ (event-leaves c.args.trail.now c.args.tool.now c.args.t.0 c.args.r.0 c.requires.begins c.args.i.0 c.requires.way c.requires.home c.args.slot.now c.requires.stands) c.detach-core.new.self c.detach-core.ensures.after
+    stands-left c.args.trail.now c.args.tool.now c.args.t.0 c.args.r.0 c.requires.begins c.args.pool.0 c.requires.way c.requires.home c.args.slot.now c.requires.stands
+    _ (event-leaves c.args.trail.now c.args.tool.now c.args.t.0 c.args.r.0 c.requires.begins c.args.pool.0 c.requires.way c.requires.home c.args.slot.now c.requires.stands) c.detach-core.new.self c.detach-core.ensures.after
 
 -- what the tool knows in the end
 done : (c : After-move_done)
@@ -54,9 +54,9 @@ done c =
 
 pub returns-clause-acted : goal.returns-clause-acted
 returns-clause-acted c =
-    acted-leaves c.args.trail.now c.args.tool.now c.args.t.0 c.args.r.0 c.requires.begins c.args.i.0 c.requires.way c.requires.home c.args.slot.now c.requires.stands c.detach-core.result.stall_ends c.detach-core.ensures.ends c.move_done.new.self (done c)
-    _ (event-leaves c.args.trail.now c.args.tool.now c.args.t.0 c.args.r.0 c.requires.begins c.args.i.0 c.requires.way c.requires.home c.args.slot.now c.requires.stands)
+    acted-leaves c.args.trail.now c.args.tool.now c.args.t.0 c.args.r.0 c.requires.begins c.args.pool.0 c.requires.way c.requires.home c.args.slot.now c.requires.stands c.detach-core.result.stall_ends c.detach-core.ensures.ends c.move_done.new.self (done c)
+    _ (event-leaves c.args.trail.now c.args.tool.now c.args.t.0 c.args.r.0 c.requires.begins c.args.pool.0 c.requires.way c.requires.home c.args.slot.now c.requires.stands)
 
 pub returns-clause-counts : goal.returns-clause-counts
 returns-clause-counts c =
-    counts-leaves c.args.trail.now c.args.tool.now c.args.t.0 c.args.r.0 c.requires.begins c.args.i.0 c.requires.way c.requires.home c.args.slot.now c.requires.stands c.detach-core.result.stall_ends c.detach-core.ensures.ends c.move_done.new.self (done c)
+    counts-leaves c.args.trail.now c.args.tool.now c.args.t.0 c.args.r.0 c.requires.begins c.args.pool.0 c.requires.way c.requires.home c.args.slot.now c.requires.stands c.detach-core.result.stall_ends c.detach-core.ensures.ends c.move_done.new.self (done c)

@@ -10,18 +10,18 @@ use Rattle.tool_actions.proofs.stalls.stall.Goals as goal
 use Rattle.tool_actions.proofs.stalls.stall.Goals.{In-Some}
 
 -- the pool that has the processor, told in the state that the trail leads to
-told : (c : In-Some) → c.home_of_core.result ≡ option_map pool_number (home_pool_of_core (state_of c.args.trail.now) (c.take_stall-line.result.cpu.0 / c.args.g))
+told : (c : In-Some) → c.home_of_core.result ≡ option_map pool_number (home_pool_of_core (state_of c.args.trail.now) (c.take_stall-line.result.cpu.0 / c.args.granularity))
 told c =
     let w = c.args.trail.now in
     let line = c.take_stall-line in
     c.home_of_core.ensures w.input (counted_state w)
-    (taken-known w c.args.slots.now c.args.tool.now c.requires.parts c.requires.enabled c.args.t.0 c.args.g c.requires.now c.requires.granularity line.result line.ensures.line line.new.self line.ensures.next)
+    (taken-known w c.args.slots.now c.args.tool.now c.requires.parts c.requires.enabled c.args.t.0 c.args.granularity c.requires.now c.requires.granularity line.result line.ensures.line line.new.self line.ensures.next)
 
 -- that pool is one of the places
 below : (c : In-Some) → c.in-Some.i.0 < length c.args.slots.now
 below c =
     let line = c.take_stall-line in
-    next-below c.args.trail.now c.args.slots.now c.args.tool.now c.requires.parts c.requires.enabled c.args.t.0 c.args.g c.requires.now c.requires.granularity line.result line.ensures.line line.new.self line.ensures.next
+    next-below c.args.trail.now c.args.slots.now c.args.tool.now c.requires.parts c.requires.enabled c.args.t.0 c.args.granularity c.requires.now c.requires.granularity line.result line.ensures.line line.new.self line.ensures.next
     c.home_of_core.result (told c) c.in-Some.i c.in-Some.is
 
 pub take_stall-line-requires : goal.take_stall-line-requires
@@ -37,14 +37,14 @@ pub stall_in_none-requires-clause-next : goal.stall_in_none-requires-clause-next
 stall_in_none-requires-clause-next c =
     let w = c.args.trail.now in
     let line = c.take_stall-line in
-    let known = taken-known w c.args.slots.now c.args.tool.now c.requires.parts c.requires.enabled c.args.t.0 c.args.g c.requires.now c.requires.granularity line.result line.ensures.line line.new.self line.ensures.next in
-    next-none c.args.trail.now c.args.slots.now c.args.tool.now c.requires.parts c.requires.enabled c.args.t.0 c.args.g c.requires.now c.requires.granularity line.result line.ensures.line line.new.self line.ensures.next
+    let known = taken-known w c.args.slots.now c.args.tool.now c.requires.parts c.requires.enabled c.args.t.0 c.args.granularity c.requires.now c.requires.granularity line.result line.ensures.line line.new.self line.ensures.next in
+    next-none c.args.trail.now c.args.slots.now c.args.tool.now c.requires.parts c.requires.enabled c.args.t.0 c.args.granularity c.requires.now c.requires.granularity line.result line.ensures.line line.new.self line.ensures.next
     c.home_of_core.result (c.home_of_core.ensures w.input (counted_state w) known) c.in-None.is
 
 pub stall_in_none-requires-clause-counted : goal.stall_in_none-requires-clause-counted
 stall_in_none-requires-clause-counted c =
     let line = c.take_stall-line in
-    taken-is c.args.trail.now c.args.slots.now c.args.tool.now c.requires.parts c.requires.enabled c.args.t.0 c.args.g c.requires.now c.requires.granularity line.result line.ensures.line line.new.self line.ensures.next
+    taken-is c.args.trail.now c.args.slots.now c.args.tool.now c.requires.parts c.requires.enabled c.args.t.0 c.args.granularity c.requires.now c.requires.granularity line.result line.ensures.line line.new.self line.ensures.next
 
 pub bounds-slots-i : goal.bounds-slots-i
 bounds-slots-i c = below (goal.at.bounds-slots-i c).In-Some
@@ -52,7 +52,7 @@ bounds-slots-i c = below (goal.at.bounds-slots-i c).In-Some
 pub stall_in-requires-clause-next : goal.stall_in-requires-clause-next
 stall_in-requires-clause-next c =
     let line = c.take_stall-line in
-    next-in c.args.trail.now c.args.slots.now c.args.tool.now c.requires.parts c.requires.enabled c.args.t.0 c.args.g c.requires.now c.requires.granularity line.result line.ensures.line line.new.self line.ensures.next
+    next-in c.args.trail.now c.args.slots.now c.args.tool.now c.requires.parts c.requires.enabled c.args.t.0 c.args.granularity c.requires.now c.requires.granularity line.result line.ensures.line line.new.self line.ensures.next
     c.home_of_core.result (told (goal.at.stall_in-requires-clause-next c).In-Some) c.in-Some.i c.in-Some.is
 
 pub stall_in-requires-clause-stands : goal.stall_in-requires-clause-stands
@@ -65,15 +65,15 @@ returns-in-None-clause-parts c = parts-alone c.args.trail.now c.args.slots.now c
 pub returns-in-None-clause-counts : goal.returns-in-None-clause-counts
 returns-in-None-clause-counts c =
     let line = c.take_stall-line in
-    stall-counts-none c.args.trail.now c.args.slots.now c.args.tool.now c.requires.parts c.requires.enabled c.args.t.0 c.args.g c.requires.now c.requires.granularity line.result line.ensures.line line.new.self line.ensures.next c.stall_in_none.new.tool c.stall_in_none.ensures.counts
+    stall-counts-none c.args.trail.now c.args.slots.now c.args.tool.now c.requires.parts c.requires.enabled c.args.t.0 c.args.granularity c.requires.now c.requires.granularity line.result line.ensures.line line.new.self line.ensures.next c.stall_in_none.new.tool c.stall_in_none.ensures.counts
 
 pub returns-in-Some-clause-parts : goal.returns-in-Some-clause-parts
 returns-in-Some-clause-parts c =
     let line = c.take_stall-line in
-    stall-parts-in c.args.trail.now c.args.slots.now c.args.tool.now c.requires.parts c.requires.enabled c.args.t.0 c.args.g c.requires.now c.requires.granularity line.result line.ensures.line line.new.self line.ensures.next
+    stall-parts-in c.args.trail.now c.args.slots.now c.args.tool.now c.requires.parts c.requires.enabled c.args.t.0 c.args.granularity c.requires.now c.requires.granularity line.result line.ensures.line line.new.self line.ensures.next
     c.in-Some.i.0 c.stall_in.result c.stall_in.new.slot c.stall_in.ensures.acted c.stall_in.ensures.stands
 
 pub returns-in-Some-clause-counts : goal.returns-in-Some-clause-counts
 returns-in-Some-clause-counts c =
     let line = c.take_stall-line in
-    stall-counts-in c.args.trail.now c.args.slots.now c.args.tool.now c.requires.parts c.requires.enabled c.args.t.0 c.args.g c.requires.now c.requires.granularity line.result line.ensures.line line.new.self line.ensures.next
+    stall-counts-in c.args.trail.now c.args.slots.now c.args.tool.now c.requires.parts c.requires.enabled c.args.t.0 c.args.granularity c.requires.now c.requires.granularity line.result line.ensures.line line.new.self line.ensures.next

@@ -14,5 +14,5 @@ returns c =
     let s = state_of w in
     let known = c.requires.parts.known in
     let by : Subject → Facts = λ x. record { rate = subject_rate s x; units = subject_stored m.config.granularity s x } in
-    let facts : command_facts m s c.args.c.now ≡ c.facts_of-facts.result = sym (ap₂ (λ r u. let x : Facts = record { rate = r; units = u } in x) c.facts_of-facts.ensures.rate c.facts_of-facts.ensures.units ∙ ap by (c.subject.ensures m s known)) in
-    c.judge.ensures m s known facts (facts-kept w.input (state_of w) c.args.c.now (recorded w c.requires.parts.goes))
+    let facts : command_facts m s c.args.command.now ≡ c.facts_of-facts.result = sym (ap₂ (λ r u. let x : Facts = record { rate = r; units = u } in x) c.facts_of-facts.ensures.rate c.facts_of-facts.ensures.units ∙ ap by (c.subject.ensures m s known)) in
+    c.judge.ensures m s known facts (facts-kept w.input (state_of w) c.args.command.now (recorded w c.requires.parts.goes))

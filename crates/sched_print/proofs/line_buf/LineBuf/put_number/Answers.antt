@@ -5,11 +5,11 @@ use Rattle.sched_print.proofs.line_buf.LineBuf.put_number.Goals as goal
 
 pub returns-then-n-lt10-clause-bytes : goal.returns-then-n-lt10-clause-bytes
 returns-then-n-lt10-clause-bytes c =
-    c.put.ensures.bytes ∙ ap (λ (bs : List ℕ). c.args.self.now ++ bs) (ap (λ (d : ℕ). d ∷ []) c.digit.ensures ∙ sym (decimal_digit c.args.n c.if-n-lt10.true))
+    c.put.ensures.bytes ∙ ap (λ (bs : List ℕ). c.args.self.now ++ bs) (ap (λ (d : ℕ). d ∷ []) c.digit.ensures ∙ sym (decimal_digit c.args.number c.if-n-lt10.true))
 
 pub returns-then-n-lt100-clause-bytes : goal.returns-then-n-lt100-clause-bytes
 returns-then-n-lt100-clause-bytes c =
     c.put-then-n-lt100.ensures.bytes
     ∙ ap (λ (bs : List ℕ). c.args.self.now ++ bs)
-    (ap (λ (d : ℕ). d ∷ c.digit-then-n-lt100-2.result ∷ []) c.digit-then-n-lt100.ensures ∙ ap (λ (d : ℕ). (48 + c.args.n / 10) ∷ d ∷ []) c.digit-then-n-lt100-2.ensures
-    ∙ sym (decimal_two c.args.n c.if-n-lt10.false c.if-n-lt100.true))
+    (ap (λ (d : ℕ). d ∷ c.digit-then-n-lt100-2.result ∷ []) c.digit-then-n-lt100.ensures ∙ ap (λ (d : ℕ). (48 + c.args.number / 10) ∷ d ∷ []) c.digit-then-n-lt100-2.ensures
+    ∙ sym (decimal_two c.args.number c.if-n-lt10.false c.if-n-lt100.true))
