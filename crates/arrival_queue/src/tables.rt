@@ -126,7 +126,8 @@ fn enter(tables: &mut Tables, node: Node, u: UnitId, key: Key, arrival: u64)
     ensures nodes { tables.new.nodes.items ≡ slice_set tables.old.nodes.items (unit_index u)
         (Some node) }
     ensures keys { tables.new.keys.items ≡ slice_set tables.old.keys.items node.0 key }
-    ensures arrivals { tables.new.arrivals.items ≡ slice_set tables.old.arrivals.items node.0 arrival }
+    ensures arrivals { tables.new.arrivals.items
+        ≡ slice_set tables.old.arrivals.items node.0 arrival }
     ensures fresh { tables.new.fresh.items ≡ tables.old.fresh.items }
     ensures next { tables.new.next ≡ tables.old.next }
 {

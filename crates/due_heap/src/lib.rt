@@ -116,8 +116,8 @@ fn settle(moments: &[Option<Moment>], winners: &mut [u16], id: u16)
 fn below(moments: &[Option<Moment>], winners: &[u16], node: usize, t: Moment) -> usize
     requires few { length winners.now ≤ 2 ^ 16 }
     requires inner { node < length winners.now }
-    ensures { result ≡ (if tree.is_armed_due moments.now t.0 (tree.node_winner winners.now (2 * node))
-        then 2 * node else 2 * node + 1) }
+    ensures { result ≡ (if tree.is_armed_due moments.now t.0
+        (tree.node_winner winners.now (2 * node)) then 2 * node else 2 * node + 1) }
 {
     if is_due(moments, winner(winners, 2 * node), t) {
         2 * node

@@ -40,7 +40,8 @@ pub fn attach_all<P: Policy>(cores: u64, granularity: u8, count: u8, pool: &mut 
     requires used { pool.old.in_use ≡ true }
     requires early { pool.old.latest ≡ 0 }
     requires none { pool.old.pool.resources ≡ replicate count None }
-    ensures { pool.new ≡ with_cores (map (opening_core granularity cores) (numbers_from 0 count)) pool.old }
+    ensures { pool.new ≡ with_cores (map (opening_core granularity cores) (numbers_from 0 count))
+        pool.old }
 {
     for r in 0..count {
         attach(cores, granularity, ResId(r), pool);

@@ -130,8 +130,8 @@ fn join_at_home<P: Policy>(
     requires i { d.0 < length config.now.domains }
     requires opening { IsOpening config.now home.now d.0 pool.old }
     requires room { units_if_home config.now.granularity place joining.now ≤ pool.old.spare }
-    ensures after { OnOk result (pool.new ≡ configured_if config.now.granularity place d.0 joining.now
-        pool.old) }
+    ensures after { OnOk result (pool.new ≡ configured_if config.now.granularity place d.0
+        joining.now pool.old) }
     ensures opening { OnOk result (IsOpening config.now home.now (d.0 + 1) pool.new) }
 {
     if joining.home.0 == place {
@@ -152,8 +152,8 @@ pub fn join_all<P: Policy>(
     requires home { slice_get config.now.pools place ≡ Some home.now }
     requires opening { IsOpening config.now home.now 0 pool.old }
     requires room { units_at_home config.now.granularity place config.now.domains ≤ pool.old.spare }
-    ensures after { OnOk result (pool.new ≡ with_all config.now.granularity place 0 config.now.domains
-        pool.old) }
+    ensures after { OnOk result (pool.new ≡ with_all config.now.granularity place 0
+        config.now.domains pool.old) }
     ensures opening { OnOk result (IsOpening config.now home.now (length config.now.domains)
         pool.new) }
 {

@@ -67,8 +67,8 @@ fn set_target(core: ResId, index: u8, free: &mut Row<Option<FreeCore>>)
 
 /// The domain is moving from this pool to the pool j, where that is another one.
 fn migrate(d: DomId, place: u8, j: u8, state: &mut State)
-    ensures { state.new ≡ (if place == j then state.old else change_pool place (one_pool.pool_with_moving d.0 j)
-        state.old) }
+    ensures { state.new ≡ (if place == j then state.old else change_pool place
+        (one_pool.pool_with_moving d.0 j) state.old) }
 {
     if place != j {
         set_moving_at(place as usize, d, j, &mut state.pools);
@@ -143,7 +143,8 @@ fn unpause(granularity: u8, d: DomId, home: Option<usize>, state: &mut State)
     requires few { granularity ≤ 4 }
     requires home { home ≡ home_pool_of_domain state.old d.0 }
     requires fits { EachPlace PoolFits state.old.pools }
-    requires room { EachPlace FewWait (change_home d.0 (one_pool.unpaused_pool granularity d.0) state.old).pools }
+    requires room { EachPlace FewWait (change_home d.0 (one_pool.unpaused_pool granularity d.0)
+        state.old).pools }
     ensures { state.new ≡ change_home d.0 (one_pool.unpaused_pool granularity d.0) state.old }
 {
     if let Some(i) = home {

@@ -59,7 +59,8 @@ pub fn unpause_at(granularity: u8, index: usize, d: DomId, pools: &mut Row<Optio
     requires some { 0 < granularity }
     requires few { granularity ≤ 4 }
     requires fits { EachPlace PoolFits pools.old }
-    requires room { EachPlace FewWait (change_at index (one_pool.unpaused_pool granularity d.0) pools.old) }
+    requires room { EachPlace FewWait (change_at index (one_pool.unpaused_pool granularity d.0)
+        pools.old) }
     ensures { pools.new ≡ change_at index (one_pool.unpaused_pool granularity d.0) pools.old }
 {
     if let Some(place) = pools.get_mut(index)

@@ -39,7 +39,8 @@ pub fn fresh_cores(
 ) -> Result<Row<Option<Resource>>, NoMemory>
     requires few { granularity ≤ 4 }
     requires count { count ≤ 64 }
-    ensures cores { IfOk result (λ row. row ≡ map (opening_core granularity cores) (numbers_from 0 count)) }
+    ensures cores { IfOk result (λ row. row ≡ map (opening_core granularity cores)
+        (numbers_from 0 count)) }
     ensures few { IfOk result (λ row. length row ≤ 64) }
 {
     let mut places = Vec::new(alloc);

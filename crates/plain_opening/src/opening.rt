@@ -51,7 +51,8 @@ fn with_configured(
     requires guests { length joining.now.guests ≤ 32 }
     requires params { ParamsFit joining.now.params }
     requires room { FewWait (pool_with_configured granularity d.0 joining.now pool.old) }
-    ensures pool { OnOk result (pool.new ≡ pool_with_configured granularity d.0 joining.now pool.old) }
+    ensures pool { OnOk result (pool.new ≡ pool_with_configured granularity d.0 joining.now
+        pool.old) }
     ensures cores { OnOk result (pool.new.resources ≡ pool.old.resources) }
 {
     let fresh = Domain {
@@ -78,7 +79,8 @@ fn configured_if(
     requires cores { length pool.old.resources ≤ 64 }
     requires fits { JoinFits joining.now }
     requires room { FewWait (pool_after_domain granularity place d.0 joining.now pool.old) }
-    ensures pool { OnOk result (pool.new ≡ pool_after_domain granularity place d.0 joining.now pool.old) }
+    ensures pool { OnOk result (pool.new ≡ pool_after_domain granularity place d.0 joining.now
+        pool.old) }
     ensures cores { OnOk result (pool.new.resources ≡ pool.old.resources) }
 {
     if joining.home.0 == place {
@@ -104,7 +106,8 @@ fn with_domains(
     requires domains { All JoinFits domains.now }
     requires count { d.0 + length domains.now ≤ 64 }
     requires room { FewWait (pool_with_domains granularity place d.0 domains.now pool.old) }
-    ensures { OnOk result (pool.new ≡ pool_with_domains granularity place d.0 domains.now pool.old) }
+    ensures { OnOk result (pool.new ≡ pool_with_domains granularity place d.0 domains.now
+        pool.old) }
 {
     match domains {
         [] => Ok(()),

@@ -55,8 +55,8 @@ pub fn with_domain(
     requires cores { length pool.old.resources ≤ 64 }
     requires vcpus { length joining.vcpus ≤ 32 }
     requires params { ParamsFit params.now }
-    requires room { length (pool_with_domain granularity t.0 d.0 joining params.now pool.old).scheduler.queue
-        ≤ 256 }
+    requires room { length (pool_with_domain granularity t.0 d.0 joining params.now
+        pool.old).scheduler.queue ≤ 256 }
     ensures { pool.new ≡ pool_with_domain granularity t.0 d.0 joining params.now pool.old }
 {
     let count = unit_count(granularity, &joining);

@@ -16,7 +16,8 @@ use sched_model::state::{Doing, Pool, Resource};
 #[tactic(auto, using(sched_model::proofs::PlaceLemmas::past_the_end))]
 fn set_doing(core: &mut Resource, sibling: usize, doing: Doing)
     ensures { core.new
-        ≡ record core.old { processors = change_item sibling (with_doing doing) core.old.processors } }
+        ≡ record core.old { processors = change_item sibling (with_doing doing) core.old.processors
+        } }
 {
     if let Some(p) = core.processors.get_mut(sibling) {
         p.doing = doing;
@@ -27,7 +28,8 @@ fn set_doing(core: &mut Resource, sibling: usize, doing: Doing)
 pub fn change_doing(granularity: u8, p: ProcId, doing: Doing, cores: &mut Row<Option<Resource>>)
     requires { 0 < granularity }
     ensures { cores.new ≡ change_at (p.0 / granularity) (λ (c : ResourceRecord).
-        record c { processors = change_item (p.0 % granularity) (with_doing doing) c.processors }) cores.old }
+        record c { processors = change_item (p.0 % granularity) (with_doing doing) c.processors })
+        cores.old }
 {
     if let Some(place) = cores.get_mut((p.0 / granularity) as usize)
         && let Some(c) = place

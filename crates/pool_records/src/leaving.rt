@@ -106,7 +106,8 @@ fn set_end(processors: &mut Processors, sibling: usize, end: Moment)
 /// The stall of the processor of one of the cores ends then.
 pub fn end_stall(granularity: u8, p: ProcId, end: Moment, cores: &mut Row<Option<Resource>>)
     requires { 0 < granularity }
-    ensures { cores.new ≡ change_at (p.0 / granularity) (with_sibling (p.0 % granularity) (stalled_to end)) cores.old }
+    ensures { cores.new ≡ change_at (p.0 / granularity)
+        (with_sibling (p.0 % granularity) (stalled_to end)) cores.old }
 {
     let r = (p.0 / granularity) as usize;
     if r < cores.len() {

@@ -109,7 +109,8 @@ fn join_at(
 /// The domain leaves its pool and joins the one to which it is moving.
 pub fn move_domain(machine: &Machine, d: DomId, state: &mut State) -> Event
     requires stands { Stands machine.now state.old }
-    requires enabled { is_action_enabled machine.now state.old state.old.now (actions.DomMoved d) ≡ true }
+    requires enabled { is_action_enabled machine.now state.old state.old.now (actions.DomMoved d)
+        ≡ true }
     ensures event { result ≡ event_of machine.now state.old state.old.now (actions.DomMoved d) }
     ensures s { state.new ≡ after machine.now state.old state.old.now (actions.DomMoved d) }
 {

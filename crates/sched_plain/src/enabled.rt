@@ -82,7 +82,8 @@ fn is_enabled_at_home(machine: &Machine, state: &State, t: Moment, action: Actio
 fn is_enabled_at(granularity: u8, state: &State, t: Moment, action: Action, place: usize) -> bool
     requires some { 0 < granularity }
     requires s { StateFits state.now }
-    ensures { result ≡ test_at state.entry.now.pools place (λ pool. enabled_in granularity t.0 pool action) }
+    ensures { result ≡ test_at state.entry.now.pools place
+        (λ pool. enabled_in granularity t.0 pool action) }
 {
     match pool_at(state, place) {
         None => false,

@@ -22,8 +22,8 @@ use sched_model::state::{Domain, FreeCore, Pool, Resource, State};
 /// The pool that has the core, where the first of these has this number.
 fn core_home(first: usize, pools: &[Option<Pool>], r: ResId) -> Option<usize>
     requires { first + length pools.now < 2 ^ 64 }
-    ensures { result ≡ first_place first (λ (pool : PoolRecord). is_some (at_place pool.resources r.0))
-        pools.now }
+    ensures { result ≡ first_place first (λ (pool : PoolRecord). is_some
+        (at_place pool.resources r.0)) pools.now }
 {
     match pools {
         [] => None,
@@ -41,8 +41,8 @@ fn core_home(first: usize, pools: &[Option<Pool>], r: ResId) -> Option<usize>
 /// The pool that has the domain, where the first of these has this number.
 fn domain_home(first: usize, pools: &[Option<Pool>], d: DomId) -> Option<usize>
     requires { first + length pools.now < 2 ^ 64 }
-    ensures { result ≡ first_place first (λ (pool : PoolRecord). is_some (at_place pool.domains d.0))
-        pools.now }
+    ensures { result ≡ first_place first (λ (pool : PoolRecord). is_some
+        (at_place pool.domains d.0)) pools.now }
 {
     match pools {
         [] => None,

@@ -54,7 +54,8 @@ fn perform_at(
     requires now { t.0 ≡ state.old.now }
     requires own { IsOfPool action }
     requires enabled { is_action_enabled machine.now state.old state.old.now action ≡ true }
-    requires home { home_pool_of_action machine.now.config.granularity state.old action ≡ Some place }
+    requires home { home_pool_of_action machine.now.config.granularity state.old action
+        ≡ Some place }
     ensures event { result ≡ event_of machine.now state.old state.old.now action }
     ensures s { state.new ≡ after machine.now state.old state.old.now action }
 {

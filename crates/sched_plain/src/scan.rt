@@ -198,7 +198,8 @@ fn core_count(config: &Config) -> u8
 fn first_up_to_moved(machine: &Machine, state: &State, t: Moment) -> Option<Action>
     requires m { MachineFits machine.now }
     requires s { StateFits state.now }
-    ensures { result ≡ find (is_action_enabled machine.now state.entry.now t.0) (moved_actions machine.now.config) }
+    ensures { result ≡ find (is_action_enabled machine.now state.entry.now t.0)
+        (moved_actions machine.now.config) }
 {
     if is_enabled(machine, state, t, Action::Stall) {
         return Some(Action::Stall);
@@ -242,7 +243,8 @@ fn first_up_to_dom_moved(machine: &Machine, state: &State, t: Moment) -> Option<
 fn first_up_to_wake(machine: &Machine, state: &State, t: Moment) -> Option<Action>
     requires m { MachineFits machine.now }
     requires s { StateFits state.now }
-    ensures { result ≡ find (is_action_enabled machine.now state.entry.now t.0) (wake_actions machine.now.config) }
+    ensures { result ≡ find (is_action_enabled machine.now state.entry.now t.0)
+        (wake_actions machine.now.config) }
 {
     match first_up_to_dom_moved(machine, state, t) {
         Some(action) => Some(action),
@@ -261,7 +263,8 @@ fn first_up_to_wake(machine: &Machine, state: &State, t: Moment) -> Option<Actio
 fn first_up_to_block(machine: &Machine, state: &State, t: Moment) -> Option<Action>
     requires m { MachineFits machine.now }
     requires s { StateFits state.now }
-    ensures { result ≡ find (is_action_enabled machine.now state.entry.now t.0) (block_actions machine.now.config) }
+    ensures { result ≡ find (is_action_enabled machine.now state.entry.now t.0)
+        (block_actions machine.now.config) }
 {
     match first_up_to_wake(machine, state, t) {
         Some(action) => Some(action),
@@ -281,7 +284,8 @@ fn first_up_to_block(machine: &Machine, state: &State, t: Moment) -> Option<Acti
 fn first_up_to_slice(machine: &Machine, state: &State, t: Moment) -> Option<Action>
     requires m { MachineFits machine.now }
     requires s { StateFits state.now }
-    ensures { result ≡ find (is_action_enabled machine.now state.entry.now t.0) (slice_actions machine.now.config) }
+    ensures { result ≡ find (is_action_enabled machine.now state.entry.now t.0)
+        (slice_actions machine.now.config) }
 {
     match first_up_to_block(machine, state, t) {
         Some(action) => Some(action),
@@ -301,7 +305,8 @@ fn first_up_to_slice(machine: &Machine, state: &State, t: Moment) -> Option<Acti
 fn first_up_to_repl(machine: &Machine, state: &State, t: Moment) -> Option<Action>
     requires m { MachineFits machine.now }
     requires s { StateFits state.now }
-    ensures { result ≡ find (is_action_enabled machine.now state.entry.now t.0) (repl_actions machine.now.config) }
+    ensures { result ≡ find (is_action_enabled machine.now state.entry.now t.0)
+        (repl_actions machine.now.config) }
 {
     match first_up_to_slice(machine, state, t) {
         Some(action) => Some(action),
@@ -383,7 +388,8 @@ fn first_up_to_decide(machine: &Machine, state: &State, t: Moment) -> Option<Act
 fn first_up_to_leave(machine: &Machine, state: &State, t: Moment) -> Option<Action>
     requires m { MachineFits machine.now }
     requires s { StateFits state.now }
-    ensures { result ≡ find (is_action_enabled machine.now state.entry.now t.0) (leave_actions machine.now.config) }
+    ensures { result ≡ find (is_action_enabled machine.now state.entry.now t.0)
+        (leave_actions machine.now.config) }
 {
     match first_up_to_decide(machine, state, t) {
         Some(action) => Some(action),
@@ -403,7 +409,8 @@ fn first_up_to_leave(machine: &Machine, state: &State, t: Moment) -> Option<Acti
 fn first_up_to_save(machine: &Machine, state: &State, t: Moment) -> Option<Action>
     requires m { MachineFits machine.now }
     requires s { StateFits state.now }
-    ensures { result ≡ find (is_action_enabled machine.now state.entry.now t.0) (save_actions machine.now.config) }
+    ensures { result ≡ find (is_action_enabled machine.now state.entry.now t.0)
+        (save_actions machine.now.config) }
 {
     match first_up_to_leave(machine, state, t) {
         Some(action) => Some(action),

@@ -34,7 +34,8 @@ fn end_in_pool(granularity: u8, pool: &Pool, p: ProcId, end: u64) -> u64
 /// The same of the pool with this number.
 fn end_at_home(granularity: u8, state: &State, place: usize, p: ProcId, end: u64) -> u64
     requires { 0 < granularity }
-    ensures { result ≡ later_end_at_home granularity (at_place state.entry.now.pools place) p.0 end }
+    ensures { result ≡ later_end_at_home granularity (at_place state.entry.now.pools place) p.0
+        end }
 {
     match pool_at(state, place) {
         None => end,
@@ -106,7 +107,8 @@ fn set_end_at_home(
     pools: &mut Row<Option<Pool>>,
 )
     requires { 0 < granularity }
-    ensures { pools.new ≡ change_at index (change_processor granularity p.0 (stalled_to (moment end))) pools.old }
+    ensures { pools.new ≡ change_at index (change_processor granularity p.0
+        (stalled_to (moment end))) pools.old }
 {
     if let Some(place) = pools.get_mut(index)
         && let Some(pool) = place

@@ -98,7 +98,8 @@ impl LineBuf {
     /// Adds these bytes and a number, and then other bytes and another number.
     pub fn put_two_fields(&mut self, before: &[u8], first: u64, between: &[u8], resets: u64)
         requires { length self.old + length before.now + length between.now + 40 ≤ 192 }
-        ensures bytes { self.new ≡ self.old ++ before.now ++ decimal first ++ between.now ++ decimal resets }
+        ensures bytes { self.new ≡ self.old ++ before.now ++ decimal first ++ between.now
+            ++ decimal resets }
         ensures length { length self.new ≤ length self.old + length before.now + length between.now
             + 40 }
     {

@@ -32,7 +32,8 @@ pub fn set_unit(units: &mut Credit2Units, index: u8, unit: Credit2Unit)
 /// The unit with this index holds so much of its domain's budget.
 #[tactic(auto, using(sched_model::proofs::PlaceLemmas::past_the_end))]
 pub fn set_held(units: &mut Credit2Units, index: u8, held: i64)
-    ensures { units.new ≡ change_item index (λ (x : UnitRecord). record x { held = held }) units.old }
+    ensures { units.new ≡ change_item index (λ (x : UnitRecord). record x { held = held })
+        units.old }
 {
     if let Some(u) = units.get_mut(index as usize) {
         u.held = held;
