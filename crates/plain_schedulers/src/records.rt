@@ -5,6 +5,7 @@ ghost use Rattle.std.specs.Option.{option_copied};
 ghost use Rattle.sched_model.specs.Policy.{pool_rate_limit, is_replenish_due, next_refill_moment, unit_rtds_record, domain_credit2_record};
 ghost use Rattle.sched_model.specs.Machine.{is_null_pool};
 
+use rtds_replenish::due;
 use sched_base::{DomId, Moment, UnitId};
 use sched_model::places::item_at;
 use sched_model::state::{Credit2Domain, Records, RtdsUnit};
@@ -56,7 +57,7 @@ pub fn replenish_due(records: &Records, t: Moment, u: UnitId) -> bool
 {
     match rtds_record(records, u) {
         None => false,
-        Some(unit) => unit.deadline <= t.0,
+        Some(unit) => due(unit, t),
     }
 }
 

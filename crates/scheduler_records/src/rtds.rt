@@ -8,13 +8,14 @@ ghost use Rattle.sched_model.specs.declared.state.RtdsUnit.{RtdsUnit as RtdsReco
 ghost use Rattle.sched_model.specs.declared.state.Records.TheVariants.{RtdsPool};
 ghost use Rattle.sched_model.specs.Places.{change_item};
 ghost use Rattle.sched_model.specs.EligibleUnits.{rtds_unit_at};
-ghost use Rattle.sched_model.specs.Rtds.{unit_after_span, unit_burned_to, unit_after_replenish, change_unit, is_record_before, is_unit_before, unit_left_budget, rtds_candidate, own_burned_domains, running_domains, fresh_rtds_units};
+ghost use Rattle.sched_model.specs.Rtds.{unit_burned_to, unit_after_replenish, change_unit, is_record_before, is_unit_before, unit_left_budget, rtds_candidate, own_burned_domains, running_domains, fresh_rtds_units};
 ghost use Rattle.sched_laws.specs.RecordRanges.{RtdsInRange};
 ghost use Rattle.scheduler_records.specs.Fits.{RtdsFits};
 ghost use Rattle.scheduler_records.specs.Parts.{scheduler_of};
 ghost use Rattle.scheduler_records.specs.Replenishments.{printed_event};
 
 use crate::eligible::is_allowed;
+use rtds_replenish::burn;
 use sched_base::{Moment, Span, UnitId};
 use sched_model::ask::Ask;
 use sched_model::config::Pins;
@@ -125,23 +126,6 @@ pub fn set_next(
     }
 }
 
-/// The unit after a charge for a span.
-fn burn(elapsed: u64, x: RtdsUnit) -> RtdsUnit
-    requires { x.level + 1 < 2 ^ 32 }
-    ensures { result ≡ unit_after_span elapsed x }
-{
-    let mut unit = x;
-    if elapsed < x.left {
-        unit.left = x.left - elapsed;
-    } else if x.extra {
-        unit.left = x.budget;
-        unit.level = x.level + 1;
-    } else {
-        unit.left = 0;
-    }
-    unit
-}
-
 /// A running unit after a charge up to t.
 pub fn burn_to(t: Moment, x: RtdsUnit) -> RtdsUnit
     requires { x.level + 1 < 2 ^ 32 }
@@ -150,11 +134,12 @@ pub fn burn_to(t: Moment, x: RtdsUnit) -> RtdsUnit
     match x.burned {
         None => x,
         Some(from) => {
-            let running = RtdsUnit {
+            let mut running = RtdsUnit {
                 burned: Some(t.0),
                 ..x
             };
-            burn(t.0.saturating_sub(from), running)
+            burn(&mut running, Span(t.0.saturating_sub(from)));
+            running
         }
     }
 }
@@ -166,17 +151,9 @@ fn replenish_unit(t: Moment, x: RtdsUnit) -> RtdsUnit
     requires early { t.0 ≤ most_span }
     ensures { result ≡ unit_after_replenish t.0 x }
 {
-    let charged = burn_to(t, x);
-    let periods = t.0.saturating_sub(charged.deadline) / charged.next_period + 1;
-    RtdsUnit {
-        period: charged.next_period,
-        budget: charged.next_budget,
-        extra: charged.next_extra,
-        deadline: charged.deadline + charged.next_period * periods,
-        left: charged.next_budget,
-        level: 0,
-        ..charged
-    }
+    let mut unit = burn_to(t, x);
+    rtds_replenish::replenish(&mut unit, t);
+    unit
 }
 
 /// The unit is replenished at t.

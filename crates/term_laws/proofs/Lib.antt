@@ -1,4 +1,3 @@
-pub mod Grid
 pub mod RtdsSteps
 pub mod SamePool
 pub mod AtHome

@@ -1,4 +1,3 @@
-pub mod Grid
 pub mod RtdsTerm
 pub mod RtdsExamples
 pub mod CapTerm

@@ -9,7 +9,7 @@ ghost use Rattle.sched_model.specs.declared.machine.Machine.{Machine};
 ghost use Rattle.sched_model.specs.CheckedMachine.{IsChecked};
 ghost use Rattle.sched_model.specs.Runs.{IsRun};
 ghost use Rattle.sched_laws.specs.StateLaws.{state_after};
-ghost use Rattle.term_laws.specs.Grid.{IsTermAround};
+ghost use Rattle.rtds_replenish.specs.Grid.{IsTermAround};
 ghost use Rattle.term_laws.specs.RtdsTerm.{legs, terms, KeepsTerm};
 
 /// In each term of an RTDS unit without extra time, of every run and of every beginning of one, the unit is on a core for its

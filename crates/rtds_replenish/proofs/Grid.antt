@@ -2,7 +2,7 @@
 use Rattle.std.proofs.Common.{◌≡◌, ◌≤◌, ◌+◌, ◌-◌, ◌*◌, ◌/◌, ℕ, arith}
 use Rattle.std.proofs.Math.Nat.{mul-div-le, lt-mul-div-succ}
 use Rattle.sched_base.specs.RtdsNumbers.{next_deadline}
-use Rattle.term_laws.specs.Grid.{IsTermAround}
+use Rattle.rtds_replenish.specs.Grid.{IsTermAround}
 
 pub term_around : (deadline period t : ℕ) → 1 ≤ period → deadline ≤ t → IsTermAround deadline period t (next_deadline deadline period t)
 term_around deadline period t some late =
