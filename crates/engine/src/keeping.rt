@@ -56,7 +56,7 @@ pub(crate) fn read_one(
     firsts: &mut [Option<Action>],
     nexts: &mut [Option<Moment>],
 )
-    requires i { place < length slots.now }
+    requires place { place < length slots.now }
     requires firsts { length firsts.old ≡ length slots.now }
     requires nexts { length nexts.old ≡ length slots.now }
     ensures first { IsFirstOfPlace t.0 (at_place slots.now place) (at_place firsts.new place) }

@@ -16,7 +16,7 @@ use sched_ops::Policy;
 fn attach<P: Policy>(cores: u64, granularity: u8, r: ResId, pool: &mut PoolState<P>)
     requires few { granularity ≤ 4 }
     requires core { r.0 < 64 }
-    requires g { pool.old.granularity ≡ granularity }
+    requires granularity { pool.old.granularity ≡ granularity }
     requires still { IsStill pool.old }
     requires place { r.0 < length pool.old.pool.resources }
     requires absent { at_place pool.old.pool.resources r.0 ≡ None }
@@ -36,7 +36,7 @@ fn attach<P: Policy>(cores: u64, granularity: u8, r: ResId, pool: &mut PoolState
 pub fn attach_all<P: Policy>(cores: u64, granularity: u8, count: u8, pool: &mut PoolState<P>)
     requires few { granularity ≤ 4 }
     requires count { count ≤ 64 }
-    requires g { pool.old.granularity ≡ granularity }
+    requires granularity { pool.old.granularity ≡ granularity }
     requires used { pool.old.in_use ≡ true }
     requires early { pool.old.latest ≡ 0 }
     requires none { pool.old.pool.resources ≡ replicate count None }

@@ -127,7 +127,7 @@ fn join_at_home<P: Policy>(
     requires checked { IsCheckedConfig config.now }
     requires home { slice_get config.now.pools place ≡ Some home.now }
     requires domain { IsCheckedDomain config.now joining.now }
-    requires i { d.0 < length config.now.domains }
+    requires place { d.0 < length config.now.domains }
     requires opening { IsOpening config.now home.now d.0 pool.old }
     requires room { units_if_home config.now.granularity place joining.now ≤ pool.old.spare }
     ensures after { OnOk result (pool.new ≡ configured_if config.now.granularity place d.0

@@ -35,7 +35,7 @@ fn open_pool(
 /// This place: the file's pool of that number, or none.
 fn open_slot(alloc: Global, config: &Config, place: u8) -> Result<PoolSlot, NoMemory>
     requires checked { IsCheckedConfig config.now }
-    requires i { place < 16 }
+    requires place { place < 16 }
     ensures { IfOk result (λ slot. (work : Work) → StandsAt (told_new config.now work) place slot) }
 {
     match config.pools.as_slice().get(usize::from(place)) {

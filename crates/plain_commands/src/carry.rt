@@ -29,7 +29,7 @@ use sched_model::state::{FreeCore, Pool, State};
 
 /// The spare at this place is this pool, with this name.
 fn create(place: u8, name: Name, spare: usize, state: &mut State, spares: &mut Row<Option<Pool>>)
-    ensures s { state.new ≡ record state.old {
+    ensures state { state.new ≡ record state.old {
       names = put_at place name state.old.names;
       pools = slice_set state.old.pools place
           (at_place spares.old spare);
@@ -167,11 +167,11 @@ pub fn carry_out(
     requires few { machine.now.config.granularity ≤ 4 }
     requires early { t.0 ≤ most_span }
     requires plan { PlanFits plan }
-    requires k { HasSpare machine.now spare plan spares.old }
+    requires spare { HasSpare machine.now spare plan spares.old }
     requires home { home ≡ plan_pool state.old plan }
     requires fits { EachPlace (FitsAt t.0) state.old.pools }
     requires room { EachPlace FewWait (carried_out machine.now t.0 plan state.old).pools }
-    ensures s { state.new ≡ carried_out machine.now t.0 plan state.old }
+    ensures state { state.new ≡ carried_out machine.now t.0 plan state.old }
     ensures spares { spares.new ≡ spares_after spare plan spares.old }
 {
     match plan {

@@ -60,7 +60,7 @@ fn judged(
     tool: &mut ToolState,
 ) -> Result<Plan, Refusal>
     requires stands { Stands machine.now state.now }
-    requires c { IsCheckedCommand command.now }
+    requires command { IsCheckedCommand command.now }
     requires tool { KnowsMachine machine.now tool.old }
     ensures verdict { result ≡ judged_command machine.now state.entry.now command.now }
     ensures tool { KnowsMachine machine.now tool.new }
@@ -122,7 +122,7 @@ fn accept(machine: &Machine, plan: Plan, state: &mut State, spares: &mut Row<Opt
     requires enabled { is_action_enabled machine.now state.old state.old.now actions.Xl ≡ true }
     requires accepted { IsAccepted machine.now state.old plan }
     requires spares { HasSpares machine.now state.old.next_command spares.old }
-    ensures s { state.new ≡ after machine.now state.old state.old.now actions.Xl }
+    ensures state { state.new ≡ after machine.now state.old state.old.now actions.Xl }
     ensures spares { HasSpares machine.now state.new.next_command spares.new }
 {
     let t = state.now;
@@ -145,7 +145,7 @@ pub fn command(
     requires tool { KnowsMachine machine.now tool.old }
     requires spares { HasSpares machine.now state.old.next_command spares.old }
     ensures event { result ≡ event_of machine.now state.old state.old.now actions.Xl }
-    ensures s { state.new ≡ after machine.now state.old state.old.now actions.Xl }
+    ensures state { state.new ≡ after machine.now state.old state.old.now actions.Xl }
     ensures tool { KnowsMachine machine.now tool.new }
     ensures spares { HasSpares machine.now state.new.next_command spares.new }
 {

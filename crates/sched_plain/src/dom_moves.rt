@@ -112,7 +112,7 @@ pub fn move_domain(machine: &Machine, d: DomId, state: &mut State) -> Event
     requires enabled { is_action_enabled machine.now state.old state.old.now (actions.DomMoved d)
         ≡ true }
     ensures event { result ≡ event_of machine.now state.old state.old.now (actions.DomMoved d) }
-    ensures s { state.new ≡ after machine.now state.old state.old.now (actions.DomMoved d) }
+    ensures state { state.new ≡ after machine.now state.old state.old.now (actions.DomMoved d) }
 {
     let g = machine.config.granularity;
     let t = state.now;

@@ -68,8 +68,8 @@ fn is_free_ready(state: &State, t: Moment, r: ResId) -> bool
 
 /// Whether the action may come at t, by the pool of its subject.
 fn is_enabled_at_home(machine: &Machine, state: &State, t: Moment, action: Action) -> bool
-    requires m { MachineFits machine.now }
-    requires s { StateFits state.now }
+    requires machine { MachineFits machine.now }
+    requires state { StateFits state.now }
     ensures { result ≡ enabled_at_home machine.now state.entry.now t.0 action }
 {
     match home_of(machine.config.granularity, state, action) {
@@ -81,7 +81,7 @@ fn is_enabled_at_home(machine: &Machine, state: &State, t: Moment, action: Actio
 /// Whether the action may come at t in the pool with this number.
 fn is_enabled_at(granularity: u8, state: &State, t: Moment, action: Action, place: usize) -> bool
     requires some { 0 < granularity }
-    requires s { StateFits state.now }
+    requires state { StateFits state.now }
     ensures { result ≡ test_at state.entry.now.pools place
         (λ pool. enabled_in granularity t.0 pool action) }
 {
@@ -93,8 +93,8 @@ fn is_enabled_at(granularity: u8, state: &State, t: Moment, action: Action, plac
 
 /// Whether the action may come at t.
 pub fn is_enabled(machine: &Machine, state: &State, t: Moment, action: Action) -> bool
-    requires m { MachineFits machine.now }
-    requires s { StateFits state.now }
+    requires machine { MachineFits machine.now }
+    requires state { StateFits state.now }
     ensures { result ≡ is_action_enabled machine.now state.entry.now t.0 action }
 {
     match action {

@@ -128,7 +128,7 @@ fn detach(t: Moment, r: ResId, state: &mut State)
 pub fn move_core(machine: &Machine, r: ResId, state: &mut State) -> Event
     requires { Stands machine.now state.old }
     ensures event { result ≡ event_of machine.now state.old state.old.now (actions.Moved r) }
-    ensures s { state.new ≡ after machine.now state.old state.old.now (actions.Moved r) }
+    ensures state { state.new ≡ after machine.now state.old state.old.now (actions.Moved r) }
 {
     let t = state.now;
     let to = target_at(state.free.as_slice(), r);

@@ -57,7 +57,7 @@ fn perform_at(
     requires home { home_pool_of_action machine.now.config.granularity state.old action
         ≡ Some place }
     ensures event { result ≡ event_of machine.now state.old state.old.now action }
-    ensures s { state.new ≡ after machine.now state.old state.old.now action }
+    ensures state { state.new ≡ after machine.now state.old state.old.now action }
 {
     if place >= state.pools.len() {
         unreachable!();
@@ -74,7 +74,7 @@ fn perform_at_home(machine: &Machine, state: &mut State, action: Action) -> Even
     requires own { IsOfPool action }
     requires enabled { is_action_enabled machine.now state.old state.old.now action ≡ true }
     ensures event { result ≡ event_of machine.now state.old state.old.now action }
-    ensures s { state.new ≡ after machine.now state.old state.old.now action }
+    ensures state { state.new ≡ after machine.now state.old state.old.now action }
 {
     let t = state.now;
     match home_of(machine.config.granularity, state, action) {
@@ -96,7 +96,7 @@ pub fn perform(
     requires tool { KnowsMachine machine.now tool.old }
     requires spares { HasSpares machine.now state.old.next_command spares.old }
     ensures event { result ≡ event_of machine.now state.old state.old.now action }
-    ensures s { state.new ≡ after machine.now state.old state.old.now action }
+    ensures state { state.new ≡ after machine.now state.old state.old.now action }
     ensures tool { KnowsMachine machine.now tool.new }
     ensures spares { HasSpares machine.now state.new.next_command spares.new }
 {

@@ -61,8 +61,8 @@ fn first_numbered(
     first: u8,
     count: u8,
 ) -> Option<Action>
-    requires m { MachineFits machine.now }
-    requires s { StateFits state.now }
+    requires machine { MachineFits machine.now }
+    requires state { StateFits state.now }
     requires few { first + count < 2 ^ 8 }
     ensures { result ≡ find (is_action_enabled machine.now state.entry.now t.0)
         (map (action_at kind) (numbers_from first count)) }
@@ -86,8 +86,8 @@ fn first_wake_in(
     first: u8,
     count: u8,
 ) -> Option<Action>
-    requires m { MachineFits machine.now }
-    requires s { StateFits state.now }
+    requires machine { MachineFits machine.now }
+    requires state { StateFits state.now }
     requires few { first + count < 2 ^ 8 }
     ensures { result ≡ find (is_action_enabled machine.now state.entry.now t.0)
         (map action_of.Wake (map (λ k. let v : VcpuRecord = record { dom = d; n = k } in v)
@@ -112,8 +112,8 @@ fn first_repl_in(
     first: u8,
     count: u8,
 ) -> Option<Action>
-    requires m { MachineFits machine.now }
-    requires s { StateFits state.now }
+    requires machine { MachineFits machine.now }
+    requires state { StateFits state.now }
     requires few { first + count < 2 ^ 8 }
     ensures { result ≡ find (is_action_enabled machine.now state.entry.now t.0)
         (map action_of.Repl (map (λ k. let u : UnitRecord = record { dom = d; n = k } in u)
@@ -138,8 +138,8 @@ fn first_wake(
     d: DomId,
     domains: &[DomConfig],
 ) -> Option<Action>
-    requires m { MachineFits machine.now }
-    requires s { StateFits state.now }
+    requires machine { MachineFits machine.now }
+    requires state { StateFits state.now }
     requires guests { FewGuests domains.now }
     requires few { d.0 + length domains.now ≤ 64 }
     ensures { result ≡ find (is_action_enabled machine.now state.entry.now t.0)
@@ -165,8 +165,8 @@ fn first_repl(
     d: DomId,
     domains: &[DomConfig],
 ) -> Option<Action>
-    requires m { MachineFits machine.now }
-    requires s { StateFits state.now }
+    requires machine { MachineFits machine.now }
+    requires state { StateFits state.now }
     requires guests { FewGuests domains.now }
     requires few { d.0 + length domains.now ≤ 64 }
     ensures { result ≡ find (is_action_enabled machine.now state.entry.now t.0)
@@ -196,8 +196,8 @@ fn core_count(config: &Config) -> u8
 /// The first stall, command or move of a core that may come at t.
 #[tactic(auto, unfolding(crate::specs::Search::moved_actions))]
 fn first_up_to_moved(machine: &Machine, state: &State, t: Moment) -> Option<Action>
-    requires m { MachineFits machine.now }
-    requires s { StateFits state.now }
+    requires machine { MachineFits machine.now }
+    requires state { StateFits state.now }
     ensures { result ≡ find (is_action_enabled machine.now state.entry.now t.0)
         (moved_actions machine.now.config) }
 {
@@ -220,8 +220,8 @@ fn first_up_to_moved(machine: &Machine, state: &State, t: Moment) -> Option<Acti
 /// The first up to the moves of domains.
 #[tactic(auto, using(crate::proofs::Searching::found_in_both), unfolding(crate::specs::Search::dom_moved_actions))]
 fn first_up_to_dom_moved(machine: &Machine, state: &State, t: Moment) -> Option<Action>
-    requires m { MachineFits machine.now }
-    requires s { StateFits state.now }
+    requires machine { MachineFits machine.now }
+    requires state { StateFits state.now }
     ensures { result ≡ find (is_action_enabled machine.now state.entry.now t.0)
         (dom_moved_actions machine.now.config) }
 {
@@ -241,8 +241,8 @@ fn first_up_to_dom_moved(machine: &Machine, state: &State, t: Moment) -> Option<
 /// The first up to the wakes.
 #[tactic(auto, using(crate::proofs::Searching::found_in_both), unfolding(crate::specs::Search::wake_actions))]
 fn first_up_to_wake(machine: &Machine, state: &State, t: Moment) -> Option<Action>
-    requires m { MachineFits machine.now }
-    requires s { StateFits state.now }
+    requires machine { MachineFits machine.now }
+    requires state { StateFits state.now }
     ensures { result ≡ find (is_action_enabled machine.now state.entry.now t.0)
         (wake_actions machine.now.config) }
 {
@@ -261,8 +261,8 @@ fn first_up_to_wake(machine: &Machine, state: &State, t: Moment) -> Option<Actio
 /// The first up to the blocks.
 #[tactic(auto, using(crate::proofs::Searching::found_in_both), unfolding(crate::specs::Search::block_actions))]
 fn first_up_to_block(machine: &Machine, state: &State, t: Moment) -> Option<Action>
-    requires m { MachineFits machine.now }
-    requires s { StateFits state.now }
+    requires machine { MachineFits machine.now }
+    requires state { StateFits state.now }
     ensures { result ≡ find (is_action_enabled machine.now state.entry.now t.0)
         (block_actions machine.now.config) }
 {
@@ -282,8 +282,8 @@ fn first_up_to_block(machine: &Machine, state: &State, t: Moment) -> Option<Acti
 /// The first up to the slices.
 #[tactic(auto, using(crate::proofs::Searching::found_in_both), unfolding(crate::specs::Search::slice_actions))]
 fn first_up_to_slice(machine: &Machine, state: &State, t: Moment) -> Option<Action>
-    requires m { MachineFits machine.now }
-    requires s { StateFits state.now }
+    requires machine { MachineFits machine.now }
+    requires state { StateFits state.now }
     ensures { result ≡ find (is_action_enabled machine.now state.entry.now t.0)
         (slice_actions machine.now.config) }
 {
@@ -303,8 +303,8 @@ fn first_up_to_slice(machine: &Machine, state: &State, t: Moment) -> Option<Acti
 /// The first up to the replenishments.
 #[tactic(auto, using(crate::proofs::Searching::found_in_both), unfolding(crate::specs::Search::repl_actions))]
 fn first_up_to_repl(machine: &Machine, state: &State, t: Moment) -> Option<Action>
-    requires m { MachineFits machine.now }
-    requires s { StateFits state.now }
+    requires machine { MachineFits machine.now }
+    requires state { StateFits state.now }
     ensures { result ≡ find (is_action_enabled machine.now state.entry.now t.0)
         (repl_actions machine.now.config) }
 {
@@ -323,8 +323,8 @@ fn first_up_to_repl(machine: &Machine, state: &State, t: Moment) -> Option<Actio
 /// The first up to the refills.
 #[tactic(auto, using(crate::proofs::Searching::found_in_both), unfolding(crate::specs::Search::refill_actions))]
 fn first_up_to_refill(machine: &Machine, state: &State, t: Moment) -> Option<Action>
-    requires m { MachineFits machine.now }
-    requires s { StateFits state.now }
+    requires machine { MachineFits machine.now }
+    requires state { StateFits state.now }
     ensures { result ≡ find (is_action_enabled machine.now state.entry.now t.0)
         (refill_actions machine.now.config) }
 {
@@ -344,8 +344,8 @@ fn first_up_to_refill(machine: &Machine, state: &State, t: Moment) -> Option<Act
 /// The first up to the arrivals.
 #[tactic(auto, using(crate::proofs::Searching::found_in_both), unfolding(crate::specs::Search::arrive_actions))]
 fn first_up_to_arrive(machine: &Machine, state: &State, t: Moment) -> Option<Action>
-    requires m { MachineFits machine.now }
-    requires s { StateFits state.now }
+    requires machine { MachineFits machine.now }
+    requires state { StateFits state.now }
     ensures { result ≡ find (is_action_enabled machine.now state.entry.now t.0)
         (arrive_actions machine.now.config) }
 {
@@ -365,8 +365,8 @@ fn first_up_to_arrive(machine: &Machine, state: &State, t: Moment) -> Option<Act
 /// The first up to the decisions.
 #[tactic(auto, using(crate::proofs::Searching::found_in_both), unfolding(crate::specs::Search::decide_actions))]
 fn first_up_to_decide(machine: &Machine, state: &State, t: Moment) -> Option<Action>
-    requires m { MachineFits machine.now }
-    requires s { StateFits state.now }
+    requires machine { MachineFits machine.now }
+    requires state { StateFits state.now }
     ensures { result ≡ find (is_action_enabled machine.now state.entry.now t.0)
         (decide_actions machine.now.config) }
 {
@@ -386,8 +386,8 @@ fn first_up_to_decide(machine: &Machine, state: &State, t: Moment) -> Option<Act
 /// The first up to the leaves.
 #[tactic(auto, using(crate::proofs::Searching::found_in_both), unfolding(crate::specs::Search::leave_actions))]
 fn first_up_to_leave(machine: &Machine, state: &State, t: Moment) -> Option<Action>
-    requires m { MachineFits machine.now }
-    requires s { StateFits state.now }
+    requires machine { MachineFits machine.now }
+    requires state { StateFits state.now }
     ensures { result ≡ find (is_action_enabled machine.now state.entry.now t.0)
         (leave_actions machine.now.config) }
 {
@@ -407,8 +407,8 @@ fn first_up_to_leave(machine: &Machine, state: &State, t: Moment) -> Option<Acti
 /// The first up to the saves.
 #[tactic(auto, using(crate::proofs::Searching::found_in_both), unfolding(crate::specs::Search::save_actions))]
 fn first_up_to_save(machine: &Machine, state: &State, t: Moment) -> Option<Action>
-    requires m { MachineFits machine.now }
-    requires s { StateFits state.now }
+    requires machine { MachineFits machine.now }
+    requires state { StateFits state.now }
     ensures { result ≡ find (is_action_enabled machine.now state.entry.now t.0)
         (save_actions machine.now.config) }
 {
@@ -427,8 +427,8 @@ fn first_up_to_save(machine: &Machine, state: &State, t: Moment) -> Option<Actio
 
 /// The first action that may come at t, or none exactly where none may.
 pub fn first_enabled(machine: &Machine, state: &State, t: Moment) -> Option<Action>
-    requires m { MachineFits machine.now }
-    requires s { StateFits state.now }
+    requires machine { MachineFits machine.now }
+    requires state { StateFits state.now }
     ensures { result ≡ first_enabled_action machine.now state.entry.now t.0 }
 {
     first_up_to_save(machine, state, t)

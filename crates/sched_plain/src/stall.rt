@@ -134,7 +134,7 @@ pub fn stall(machine: &Machine, state: &mut State) -> Event
     requires stands { Stands machine.now state.old }
     requires enabled { is_action_enabled machine.now state.old state.old.now actions.Stall ≡ true }
     ensures event { result ≡ event_of machine.now state.old state.old.now actions.Stall }
-    ensures s { state.new ≡ after machine.now state.old state.old.now actions.Stall }
+    ensures state { state.new ≡ after machine.now state.old state.old.now actions.Stall }
 {
     let g = machine.config.granularity;
     let Some(line) = machine

@@ -30,7 +30,7 @@ pub fn push_names(
     d: u8,
     domains: &[DomConfig],
 ) -> Result<(), NoMemory>
-    requires g { (1 ≤ granularity) × (granularity ≤ 4) }
+    requires granularity { (1 ≤ granularity) × (granularity ≤ 4) }
     requires guests { AllByRecursion (λ (x : DomRecord). length x.guests ≤ 32) domains.now }
     requires few { d + length domains.now ≤ 64 }
     ensures { IfOk result (λ done. names.new.items ≡ names.old.items

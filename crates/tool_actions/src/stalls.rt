@@ -54,7 +54,7 @@ pub fn stall(
     t: Moment,
 ) -> Event
     requires parts { AreParts trail.now slots.old tool.old }
-    requires g { granularity ≡ trail.now.input.config.granularity }
+    requires granularity { granularity ≡ trail.now.input.config.granularity }
     requires now { t.0 ≡ (state_of trail.now).now }
     requires enabled { is_action_enabled trail.now.input (state_of trail.now)
         (state_of trail.now).now Stall ≡ true }

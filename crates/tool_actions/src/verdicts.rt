@@ -55,7 +55,7 @@ pub(crate) fn judged(
     command: &Command,
 ) -> Result<Plan, Refusal>
     requires parts { AreParts trail.now slots.now tool.now }
-    requires c { IsCheckedCommand command.now }
+    requires command { IsCheckedCommand command.now }
     ensures { result ≡ judged_command trail.now.input (state_of trail.now) command.now }
 {
     let facts = facts_of(slots, trail, tool.subject(command));

@@ -165,7 +165,7 @@ impl Ring {
     /// The node before a live one in its list, or `None` where it is the first.
     pub fn prev<L: Ledger>(&self, node: Node, steps: &mut Steps<L>) -> Option<Node>
         requires live { is_live self.now node.0 ≡ true }
-        ensures n { result ≡ prev_of self.now node.0 }
+        ensures node { result ≡ prev_of self.now node.0 }
         ensures step { steps.new ≡ steps.old + 1 }
     {
         steps.tick();

@@ -176,7 +176,7 @@ impl Nodes {
     /// Moves a number of the chain before another.
     pub fn shift(&mut self, number: u32, at: u32)
         requires whole { IsChain self.old.after self.old.before (chain self.old.after) }
-        requires n { Has number (chain self.old.after) }
+        requires number { Has number (chain self.old.after) }
         requires inner { number ≢ 3 }
         requires place { Has at (chain self.old.after) }
         requires apart { at ≢ number }

@@ -4,4 +4,4 @@ use Rattle.unit_ring.specs.Nodes.{links_of}
 use Rattle.unit_ring.proofs.links.Nodes.unlink.Given as goal
 
 abbrev pub ghost-unlink : goal.ghost-unlink
-ghost-unlink a = (link (links_of a.base (slots_items a.nodes.now)).before a.n, link (links_of a.base (slots_items a.nodes.now)).after a.n)
+ghost-unlink a = (link (links_of a.base (slots_items a.nodes.now)).before a.number, link (links_of a.base (slots_items a.nodes.now)).after a.number)
