@@ -28,7 +28,7 @@ pub mod StayingNames
 pub mod Moving
 pub mod Judged
 pub mod Added
-pub mod Whole
+pub mod WholeLemmas
 pub mod WholeFirst
 pub mod WholeNext
 pub mod Actors

@@ -23,7 +23,7 @@ use Rattle.pool_laws.proofs.ActionOrder.{not_after_itself, later_kind}
 use Rattle.composition_laws.specs.Moves.{HasOneMove}
 use Rattle.composition_laws.proofs.MoveLaw.{has_one_move}
 use Rattle.composition_laws.specs.WholeFirst.{if_enabled, first_tool_move, first_tool_action, ArePoolsFirsts, IsEarliest, ComesEarliest}
-use Rattle.composition_laws.proofs.Whole.{in_pool, not_after_both, IsFirstNow, first_now, from_pool}
+use Rattle.composition_laws.proofs.WholeLemmas.{in_pool, not_after_both, IsFirstNow, first_now, from_pool}
 
 -- what a choice of an action tells
 pub chosen : (m : Machine) (s : State) (t : ℕ) (of found : Action) → if_enabled m s t of ≡ Some found → (is_action_enabled m s t of ≡ true) × (of ≡ found)

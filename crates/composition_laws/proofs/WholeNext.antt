@@ -33,7 +33,7 @@ use Rattle.composition_laws.proofs.Ending.{Joining, Leaving, core_found}
 use Rattle.composition_laws.proofs.Whose.{joining_answers, leaving_answers}
 use Rattle.composition_laws.proofs.MoveLaw.{has_one_move}
 use Rattle.composition_laws.specs.WholeNext.{ArePoolsNexts, IsSoonest, IsWholeNext, leaves_at, leaving_at, number_within}
-use Rattle.composition_laws.proofs.Whole.{in_pool, none_comes, none_if_none_comes, from_pool}
+use Rattle.composition_laws.proofs.WholeLemmas.{in_pool, none_comes, none_if_none_comes, from_pool}
 
 -- there is one next moment alone
 one_next : (m : Machine) (s : State) (t : ℕ) (a b : Option ℕ) → IsNext m s t a → IsNext m s t b → a ≡ b

@@ -19,7 +19,7 @@ use Rattle.sched_model.proofs.RunLemmas.{find_passes, action_of-event_of}
 use Rattle.sched_base.proofs.Bools.{and_right}
 use Rattle.composition_laws.proofs.Entries.{rest_when_over}
 use Rattle.composition_laws.specs.Actors.{first_by, is_by_actor}
-use Rattle.composition_laws.proofs.Whole.{none_comes}
+use Rattle.composition_laws.proofs.WholeLemmas.{none_comes}
 use Rattle.journal_core.specs.Books.{Chronicle}
 use Rattle.journal_core.specs.Histories.{reached_by, state_at}
 use Rattle.machine_parts.proofs.Performing.{first-comes}

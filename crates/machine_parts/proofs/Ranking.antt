@@ -9,7 +9,7 @@ use Rattle.sched_model.specs.Places.{at_place}
 use Rattle.pool_laws.specs.Order.{IsNotAfter}
 use Rattle.pool_laws.proofs.ActionOrder.{not_after_itself}
 use Rattle.composition_laws.specs.WholeFirst.{ComesEarliest, IsEarliest}
-use Rattle.composition_laws.proofs.Whole.{not_after_both}
+use Rattle.composition_laws.proofs.WholeLemmas.{not_after_both}
 use Rattle.machine_parts.specs.Ranks.{IsSmall, rank_of, earlier_action}
 
 -- a list that is not empty is its first and the rest

@@ -1,8 +1,11 @@
 //! `xensched`: runs a scheduler of simulated processors on a domain file and a workload, and prints the schedule, one line a step.
 #![tactic(auto)]
 
-ghost use Rattle.std.specs.Prelude.{◌≡◌};
+ghost use Rattle.std.specs.Prelude.{◌≡◌, ◌⊎◌, None, IfErr};
+ghost use Rattle.xensched_top.specs.declared.status.Status.TheVariants as status;
+ghost use Rattle.xensched_top.specs.Answers.{UnlessNoMemory};
 ghost use Rattle.xensched_top.specs.Files.{words_refused};
+ghost use Rattle.xensched_top.specs.Words.{task_of};
 
 use sched_io::{FileStore, OutSink};
 use std::alloc::Global;
@@ -33,7 +36,10 @@ fn answer<R: Files + Print + Threads + Wait + Sync>(
     rt: &R,
     alloc: Global,
     words: &[String],
-) -> Status {
+) -> Status
+    ensures usage { result ≡ status.Usage → task_of words.now ≡ None }
+    ensures no_command { task_of words.now ≡ None → UnlessNoMemory status.Usage result }
+{
     match OutSink::new(alloc, rt) {
         Ok(mut sink) => {
             let mut store = FileStore::new(rt);
@@ -43,8 +49,10 @@ fn answer<R: Files + Print + Threads + Wait + Sync>(
     }
 }
 
-/// The words behind the program's own name.
-fn words_of(rt: &HostRuntime, words: &mut Vec<String>) -> Result<(), Status> {
+/// The words behind the program's own name. Where they cannot be read, or not be kept, the status says so.
+fn words_of(rt: &HostRuntime, words: &mut Vec<String>) -> Result<(), Status>
+    ensures { IfErr result (λ e. (e ≡ status.Usage) ⊎ (e ≡ status.NoMemory)) }
+{
     let args = match std::env::args(rt) {
         Ok(args) => args,
         Err(e) => return Err(refused_words(e.kind())),
