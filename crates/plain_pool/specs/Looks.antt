@@ -1,5 +1,5 @@
 -- What a look at the cores of a pool finds once.
-use Rattle.std.specs.Prelude.{◌≡◌, ◌&&◌, ℕ, Bool, true, false, List, [], ◌∷◌, Option, Some, None, nat_lt, int_lt, ℤ, if◌then◌else◌, ⊤}
+use Rattle.std.specs.Prelude.{◌≡◌, ◌&&◌, ℕ, Bool, true, false, List, [], ◌∷◌, Option, Some, None, nat_lt, int_lt, if◌then◌else◌, ⊤}
 use Rattle.sched_base.specs.declared.UnitId.{UnitId}
 use Rattle.sched_model.specs.declared.state.Records.{Records}
 use Rattle.sched_model.specs.declared.state.Records.TheVariants.{Credit2Pool, RtdsPool, ArincPool, NullPool}
@@ -26,20 +26,6 @@ best_from passes before best (u ∷ units) = best_from passes before (better pas
 -- whether the unit has more credit than the other
 abbrev pub is_richer : Credit2Records → UnitId → UnitId → Bool
 is_richer records u w = int_lt (unit_credit records w) (unit_credit records u)
-
--- the unit's credit, where a condition holds
-abbrev pub credit_where : Credit2Records → Bool → UnitId → Option ℤ
-credit_where records condition u = if condition then Some (unit_credit records u) else None
-
--- whether a credit is more than that of the best so far, which is any where there is none
-abbrev pub is_more_than : Option UnitId → ℤ → ℤ → Bool
-is_more_than None most credit = true
-is_more_than (Some b) most credit = int_lt most credit
-
--- the best so far, where there is one, has this credit
-abbrev pub HasCredit : Credit2Records → Option UnitId → ℤ → Type 0
-HasCredit records None most = ⊤
-HasCredit records (Some b) most = most ≡ unit_credit records b
 
 -- whether budget is left to the unit
 abbrev pub has_left : List (Option (List RtdsUnit)) → UnitId → Bool

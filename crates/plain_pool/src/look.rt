@@ -8,8 +8,10 @@ ghost use Rattle.sched_model.specs.Credit2.{has_domain_budget};
 ghost use Rattle.sched_model.specs.Rtds.{is_unit_before};
 ghost use Rattle.sched_model.specs.Policy.{is_unit_better, has_better_waiting};
 ghost use Rattle.scheduler_records.specs.Fits.{IsFrame, RecordsFit};
-ghost use Rattle.plain_pool.specs.Looks.{Finds, HasCredit, IsOwnAllowed, best_from, best_waiting, better, credit_where, has_left, is_better_than, is_more_than, is_null, is_richer, most_of};
+ghost use Rattle.plain_pool.specs.Looks.{Finds, IsOwnAllowed, best_from, best_waiting, better, has_left, is_better_than, is_null, is_richer, most_of};
+ghost use Rattle.plain_schedulers.specs.WaitingUnits.{HasCredit};
 
+use plain_schedulers::credit2_choice::is_more;
 use plain_schedulers::policy;
 use plain_schedulers::queue::has_unit;
 use sched_base::{Cores, Moment, ResId, UnitId};
@@ -28,27 +30,6 @@ pub struct BestWaiting {
     pub most: u32,
 }
 
-/// The unit's credit, where its domain may run.
-fn credit_if(records: &Credit2Records, u: UnitId) -> Option<i64>
-    ensures { result ≡ credit_where records.now (has_domain_budget records.now u) u }
-{
-    if domain_has_budget(records, u) {
-        Some(credit_of(records, u))
-    } else {
-        None
-    }
-}
-
-/// Whether the credit is more than that of the best so far, which is any where there is none.
-fn is_more(best: Option<UnitId>, most: i64, credit: i64) -> bool
-    ensures { result ≡ is_more_than best most credit }
-{
-    match best {
-        None => true,
-        Some(_) => most < credit,
-    }
-}
-
 /// The one of greatest credit, of the best so far, which has this credit, and the units whose domains may run; the first where they have as much.
 fn richest(
     records: &Credit2Records,
@@ -62,12 +43,14 @@ fn richest(
 {
     match units {
         [] => best,
-        [u, rest @ ..] => match credit_if(records, *u) {
-            Some(credit) if is_more(best, most, credit) => {
+        [u, rest @ ..] => {
+            let credit = credit_of(records, *u);
+            if is_more(best, most, credit) && domain_has_budget(records, *u) {
                 richest(records, Some(*u), credit, rest)
+            } else {
+                richest(records, best, most, rest)
             }
-            _ => richest(records, best, most, rest),
-        },
+        }
     }
 }
 

@@ -4,7 +4,7 @@ ghost use Rattle.std.specs.Prelude.{◌≡◌, ◌<◌, ◌≤◌, [], filter};
 ghost use Rattle.sched_model.specs.Credit2.{richest_unit, credit2_candidate, credit2_choice, best_other_credit, chosen_slice};
 ghost use Rattle.scheduler_records.specs.Bounds.{PoolParamsFit};
 ghost use Rattle.scheduler_records.specs.Parts.{credit2_scheduler};
-ghost use Rattle.plain_schedulers.specs.WaitingUnits.{is_contender, richer_or_second};
+ghost use Rattle.plain_schedulers.specs.WaitingUnits.{HasCredit, is_contender, is_more_than};
 
 use sched_base::UnitId;
 use sched_model::ask::Ask;
@@ -16,19 +16,13 @@ use scheduler_records::credit2_running::{credit_of, max_weight};
 use scheduler_records::credit2_slice::{domain_has_budget, is_within_limit, slice_in};
 use scheduler_records::eligible::is_allowed;
 
-/// The one of greater credit; the first where they have as much.
-fn richer(records: &Credit2Records, best: Option<UnitId>, u: UnitId) -> UnitId
-    ensures { result ≡ richer_or_second records.now best u }
+/// Whether the credit is more than that of the best so far, which is any where there is none.
+pub fn is_more(best: Option<UnitId>, most: i64, credit: i64) -> bool
+    ensures { result ≡ is_more_than best most credit }
 {
     match best {
-        None => u,
-        Some(best) => {
-            if credit_of(records, best) < credit_of(records, u) {
-                u
-            } else {
-                best
-            }
-        }
+        None => true,
+        Some(_) => most < credit,
     }
 }
 
@@ -48,28 +42,31 @@ fn contends(
         && domain_has_budget(records, u)
 }
 
-/// The unit of greatest credit: the best so far, or one of those that wait and contend; among equals the earlier.
+/// The unit of greatest credit: the best so far, which has this credit, or one of those that wait and contend; among equals the
+/// earlier. Credits are compared first, since most units have no more.
 fn greatest(
     records: &Credit2Records,
     best: Option<UnitId>,
+    most: i64,
     waiting: &[UnitId],
     affinity: &[Option<Pins>],
     ask: &Ask,
     over: Option<UnitId>,
 ) -> Option<UnitId>
-    requires { ask.now.core.0 < 64 }
+    requires core { ask.now.core.0 < 64 }
+    requires most { HasCredit records.now best most }
     ensures { result ≡ richest_unit records.now best
         (filter (is_contender affinity.now ask.now records.now over) waiting.now) }
 {
     match waiting {
         [] => best,
         [u, rest @ ..] => {
-            let next = if contends(affinity, ask, records, over, *u) {
-                Some(richer(records, best, *u))
+            let credit = credit_of(records, *u);
+            if is_more(best, most, credit) && contends(affinity, ask, records, over, *u) {
+                greatest(records, Some(*u), credit, rest, affinity, ask, over)
             } else {
-                best
-            };
-            greatest(records, next, rest, affinity, ask, over)
+                greatest(records, best, most, rest, affinity, ask, over)
+            }
         }
     }
 }
@@ -109,7 +106,11 @@ pub fn choice(
     if own.is_some() && is_within_limit(records, ask.since, ask.at) {
         return own;
     }
-    greatest(records, own, queue, affinity, ask, None)
+    let most = match own {
+        None => 0,
+        Some(u) => credit_of(records, u),
+    };
+    greatest(records, own, most, queue, affinity, ask, None)
 }
 
 /// The greatest credit of the others that contend, or 0.
@@ -124,7 +125,7 @@ fn best_other(
     ensures { result ≡ best_other_credit ask.now
         (credit2_scheduler queue.now affinity.now records.now) records.now u }
 {
-    match greatest(records, None, queue, affinity, ask, Some(u)) {
+    match greatest(records, None, 0, queue, affinity, ask, Some(u)) {
         None => 0,
         Some(w) => credit_of(records, w),
     }

@@ -97,8 +97,8 @@ pub fn passes(
         (scheduler_of [] affinity.now (NullPool kept.now)) home.0 core.0 0 u }
 {
     is_placed(kept, affinity, home, core, u)
-        || (!has_place_from(ResId(0), kept, kept, affinity, home, u)
-            && !is_taken(kept, affinity, home, core))
+        || (!is_taken(kept, affinity, home, core)
+            && !has_place_from(ResId(0), kept, kept, affinity, home, u))
 }
 
 /// No core is kept for the unit any more.
