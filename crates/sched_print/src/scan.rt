@@ -38,6 +38,10 @@ fn with_digit(high: u64, number: u64, b: u8) -> Option<u64>
     if b < b'0' || b'9' < b {
         return None;
     }
+    if number < 1_000_000_000_000_000_000 {
+        let next = 10 * number + u64::from(b - b'0');
+        return if next < high { Some(next) } else { None };
+    }
     let next = 10 * u128::from(number) + u128::from(b - b'0');
     if next < u128::from(high) {
         Some(next as u64)

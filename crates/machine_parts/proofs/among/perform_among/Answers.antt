@@ -15,7 +15,7 @@ pub perform-requires-clause-stands : goal.perform-requires-clause-stands
 perform-requires-clause-stands c =
     let few = few-pools c.args.trail.now c.requires.goes c.args.t.0 c.requires.now c.args.action c.requires.own c.requires.enabled c.args.place c.requires.home in
     let low : c.args.place < length c.args.slots.now = (let count = c.requires.stand.count in omega (arith, few, count)) in
-    subst (StandsAt c.args.trail.now c.args.place) (same_read c.args.slots.now c.args.place None c.index-slots-i.result low) (c.requires.stand.each c.args.place few)
+    subst (StandsAt c.args.trail.now c.args.place) (same_read c.args.slots.now c.args.place None c.index-slots-place.result low) (c.requires.stand.each c.args.place few)
 
 pub returns-clause-state : goal.returns-clause-state
 returns-clause-state c = state-done c.args.trail.now c.requires.goes c.args.t.0 c.requires.now c.args.action c.requires.own c.requires.enabled c.args.place c.requires.home c.perform.result c.perform.ensures.event

@@ -13,16 +13,16 @@ bounds-slots-i c = gone-below c.args.trail.now c.args.slots.now c.args.tool.now 
 
 pub destroy-requires-clause-stands : goal.destroy-requires-clause-stands
 destroy-requires-clause-stands c =
-    stands-read c.args.trail.now c.args.slots.now c.requires.parts.stand c.args.pool.0 c.index-slots-i.result (gone-below c.args.trail.now c.args.slots.now c.args.tool.now c.requires.parts c.requires.enabled c.args.plan.now c.requires.accepted c.args.pool c.requires.destroys)
+    stands-read c.args.trail.now c.args.slots.now c.requires.parts.stand c.args.pool.0 c.index-slots-pool.result (gone-below c.args.trail.now c.args.slots.now c.args.tool.now c.requires.parts c.requires.enabled c.args.plan.now c.requires.accepted c.args.pool c.requires.destroys)
 
 pub destroy-requires-clause-some : goal.destroy-requires-clause-some
 destroy-requires-clause-some c =
-    subst (λ (o : Option Seen). IsSome o) (gone-read c.args.trail.now c.args.slots.now c.args.tool.now c.requires.parts c.requires.enabled c.args.plan.now c.requires.accepted c.args.pool c.requires.destroys c.index-slots-i.result)
+    subst (λ (o : Option Seen). IsSome o) (gone-read c.args.trail.now c.args.slots.now c.args.tool.now c.requires.parts c.requires.enabled c.args.plan.now c.requires.accepted c.args.pool c.requires.destroys c.index-slots-pool.result)
     (gone-slot c.args.trail.now c.args.slots.now c.args.tool.now c.requires.parts c.requires.enabled c.args.plan.now c.requires.accepted c.args.pool c.requires.destroys)
 
 pub destroy-requires-clause-goes_out : goal.destroy-requires-clause-goes_out
 destroy-requires-clause-goes_out c =
-    subst (λ (o : Option Seen). ForSome o (MayGo c.kind_of-kind.result c.args.spares.now)) (gone-read c.args.trail.now c.args.slots.now c.args.tool.now c.requires.parts c.requires.enabled c.args.plan.now c.requires.accepted c.args.pool c.requires.destroys c.index-slots-i.result)
+    subst (λ (o : Option Seen). ForSome o (MayGo c.kind_of-kind.result c.args.spares.now)) (gone-read c.args.trail.now c.args.slots.now c.args.tool.now c.requires.parts c.requires.enabled c.args.plan.now c.requires.accepted c.args.pool c.requires.destroys c.index-slots-pool.result)
     (gone-may c.args.trail.now c.args.slots.now c.args.tool.now c.requires.parts c.requires.enabled c.args.plan.now c.requires.accepted c.args.pool c.requires.destroys c.kind_of-kind.result c.kind_of-kind.ensures c.args.spares.now c.requires.spares)
 
 pub advance-requires-clause-left : goal.advance-requires-clause-left

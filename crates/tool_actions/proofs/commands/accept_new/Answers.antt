@@ -8,7 +8,7 @@ bounds-slots-i c = new-below c.args.trail.now c.args.slots.now c.args.tool.now c
 
 pub create-requires-clause-empty : goal.create-requires-clause-empty
 create-requires-clause-empty c =
-    sym (new-read c.args.trail.now c.args.slots.now c.args.tool.now c.requires.parts c.requires.enabled c.args.plan.now c.requires.accepted c.args.pool c.args.kind c.requires.makes c.index-slots-i.result)
+    sym (new-read c.args.trail.now c.args.slots.now c.args.tool.now c.requires.parts c.requires.enabled c.args.plan.now c.requires.accepted c.args.pool c.args.kind c.requires.makes c.index-slots-pool.result)
     ∙ new-empty c.args.trail.now c.args.slots.now c.args.tool.now c.requires.parts c.requires.enabled c.args.plan.now c.requires.accepted c.args.pool c.args.kind c.requires.makes
 
 pub create-requires-clause-some : goal.create-requires-clause-some

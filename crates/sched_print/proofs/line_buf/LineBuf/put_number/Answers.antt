@@ -3,13 +3,13 @@ use Rattle.std.proofs.lemmas.Fmt.{decimal_digit}
 use Rattle.itoa.proofs.Decimal.{decimal_two}
 use Rattle.sched_print.proofs.line_buf.LineBuf.put_number.Goals as goal
 
-pub returns-then-n-lt10-clause-bytes : goal.returns-then-n-lt10-clause-bytes
-returns-then-n-lt10-clause-bytes c =
-    c.put.ensures.bytes ∙ ap (λ (bs : List ℕ). c.args.self.now ++ bs) (ap (λ (d : ℕ). d ∷ []) c.digit.ensures ∙ sym (decimal_digit c.args.number c.if-n-lt10.true))
+pub returns-then-number-lt10-clause-bytes : goal.returns-then-number-lt10-clause-bytes
+returns-then-number-lt10-clause-bytes c =
+    c.put.ensures.bytes ∙ ap (λ (bs : List ℕ). c.args.self.now ++ bs) (ap (λ (d : ℕ). d ∷ []) c.digit.ensures ∙ sym (decimal_digit c.args.number c.if-number-lt10.true))
 
-pub returns-then-n-lt100-clause-bytes : goal.returns-then-n-lt100-clause-bytes
-returns-then-n-lt100-clause-bytes c =
-    c.put-then-n-lt100.ensures.bytes
+pub returns-then-number-lt100-clause-bytes : goal.returns-then-number-lt100-clause-bytes
+returns-then-number-lt100-clause-bytes c =
+    c.put-then-number-lt100.ensures.bytes
     ∙ ap (λ (bs : List ℕ). c.args.self.now ++ bs)
-    (ap (λ (d : ℕ). d ∷ c.digit-then-n-lt100-2.result ∷ []) c.digit-then-n-lt100.ensures ∙ ap (λ (d : ℕ). (48 + c.args.number / 10) ∷ d ∷ []) c.digit-then-n-lt100-2.ensures
-    ∙ sym (decimal_two c.args.number c.if-n-lt10.false c.if-n-lt100.true))
+    (ap (λ (d : ℕ). d ∷ c.digit-then-number-lt100-2.result ∷ []) c.digit-then-number-lt100.ensures ∙ ap (λ (d : ℕ). (48 + c.args.number / 10) ∷ d ∷ []) c.digit-then-number-lt100-2.ensures
+    ∙ sym (decimal_two c.args.number c.if-number-lt10.false c.if-number-lt100.true))
