@@ -42,8 +42,8 @@ fn refresh(masks: &mut Masks, affinity: &[Option<Pins>], d: DomId)
 /// What is kept follows the domain, whose record was written; its weight may be another.
 fn reweigh(state: &Credit2State, ready: &mut Ready, d: DomId)
     requires few { length state.now.records.domains ≤ 64 }
-    requires domains { AreRunnableBut d.0 state.now.records.domains ready.old.domains }
-    requires first { ready.old.first ≡ first_that (λ u. has_core_bit ready.old.domains u.dom.0)
+    requires domains { AreRunnableBut d.0 state.now.records.domains ready.old.domains.0 }
+    requires first { ready.old.first ≡ first_that (λ u. has_core_bit ready.old.domains.0 u.dom.0)
         state.now.queue.units }
     ensures { IsReadyIn state.now ready.new }
 {
