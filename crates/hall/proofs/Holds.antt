@@ -27,8 +27,11 @@ use Rattle.hall.specs.declared.turns.Done.{Done}
 use Rattle.hall.specs.declared.turns.Done.TheVariants as done
 use Rattle.hall.specs.declared.turns.Full.{Full}
 use Rattle.hall.specs.BookTurns.{DoneIn, HoldsOnly, IsNamed}
-use Rattle.hall.specs.Holds.{Acts, HasActedAll, HasActedOnce, HasFilled, InHold, IsAsBefore}
+use Rattle.hall.specs.Holds.{Acts, HasActedAll, HasActedOnce, HasFilled, InHold, IsArrivalOf, IsAsBefore, seated}
+use Rattle.hall.specs.SeatKnowledge.{KnowsPool}
 use Rattle.hall.specs.Seats.{IsSeatOf, Seated, SeatStays, Stays}
+use Rattle.hall.specs.declared.seat.Arrival.{Arrival}
+use Rattle.hall.proofs.Counting.{counted-later}
 use Rattle.hall.specs.Steps.{KeepsOthers, KeepsSight, KnowsAfter}
 use Rattle.hall.specs.Turns.{ActsFull, Added, HasNothing, Looked}
 use Rattle.hall.proofs.Calls.{kept-stays}
@@ -206,3 +209,19 @@ module _ (hall : LockTable) (k t : ℕ) (slot : Option PoolSeen) (s : Seated) (a
   pub hold-actor : ForSome slot (λ seen. has_actor seen.granularity seen.pool actor ≡ true)
   hold-actor = actor-there hall.opened.input s.sitting.view.now actor name named slot
       (subst (λ (m : Machine). ForSome slot (SlotSuits m s.sitting.view.now)) hold.of.input hold.knows.suits) listed
+
+-- an arrival that is kept stays one of the hall's, where the front goes on
+pub arrival-on : (hall : LockTable) (old new : Sitting) (kept : Option Arrival) → IsPrefix old.view.front new.view.front → IsArrivalOf hall (seated old kept) → IsArrivalOf hall (seated new kept)
+arrival-on hall old new kept begins had = record { processor = had.processor; counted = counted-later hall.opened.input.config.granularity old.view.front new.view.front kept begins had.counted }
+
+-- the seat has looked, and goes on holding the pool
+pub hold-on : (hall : LockTable) (k n t : ℕ) (slot after : Option PoolSeen) (old new : Sitting) (kept : Option Arrival) → InHold hall k n t slot (seated old kept) → SeatStays old new
+    → HoldsOnly k new.view → KnowsPool k after new.view → HasName k n new.view → new.view.now ≡ old.view.now → IsPrefix old.view.front new.view.front → InHold hall k n t after (seated new kept)
+hold-on hall k n t slot after old new kept hold stays only knows has now begins = record {
+  of = of-hall hall old new hold.of stays;
+  only = only;
+  knows = knows;
+  has = has;
+  now = hold.now ∙ sym now;
+  inside = arrival-on hall old new kept begins hold.inside;
+}

@@ -1,6 +1,7 @@
 pub mod Arriving
 pub mod AtPool
 pub mod Calls
+pub mod Counting
 pub mod Crossing
 pub mod Entering
 pub mod Handing

@@ -15,7 +15,7 @@ use Rattle.hall.specs.declared.turns.Done.TheVariants as done
 use Rattle.hall.specs.declared.turns.Full.{Full}
 use Rattle.hall.specs.BookTurns.{HoldsOnly, IsNamed}
 use Rattle.hall.specs.SeatKnowledge.{KnowsPool}
-use Rattle.hall.specs.Seats.{IsOf, Seated, Stays}
+use Rattle.hall.specs.Seats.{IsCounted, IsOf, Seated, Stays}
 use Rattle.hall.specs.Steps.{KeepsSight}
 use Rattle.hall.specs.Turns.{ActsFull, HasNothing, IsDone, is_actor}
 
@@ -76,9 +76,10 @@ pub record HasFilled (actor : Actor) (full : Full) (old new : Seated) : Type 0 w
 abbrev pub seated : Sitting → Option Arrival → Seated
 seated s arrived = record { sitting = s; arrived = arrived }
 
--- the arrival, if one is kept, is that of a processor of the hall's input
-abbrev pub IsArrivalOf : LockTable → Option Arrival → Type 0
-IsArrivalOf hall arrived = ForSome arrived (λ a. a.p.0 < hall.opened.input.config.processors)
+-- the arrival, if one is kept, is that of a processor of the hall's input, with no more decisions before it than the front has
+pub record IsArrivalOf (hall : LockTable) (s : Seated) : Type 0 where
+  pub processor : ForSome s.arrived (λ a. a.p.0 < hall.opened.input.config.processors)
+  pub counted : ForSome s.arrived (IsCounted hall.opened.input.config.granularity s.sitting.view.front)
 
 -- the seat of the hall holds the lock k of a pool alone, whose place this is and which has the name n, at the moment t
 pub record InHold (hall : LockTable) (k n t : ℕ) (slot : Option PoolSeen) (s : Seated) : Type 0 where
@@ -87,7 +88,7 @@ pub record InHold (hall : LockTable) (k n t : ℕ) (slot : Option PoolSeen) (s :
   pub knows : KnowsPool k slot s.sitting.view
   pub has : HasName k n s.sitting.view
   pub now : t ≡ s.sitting.view.now
-  pub inside : IsArrivalOf hall s.arrived
+  pub inside : IsArrivalOf hall s
 
 -- an act of the actor at the place that is answered, or a look that found nothing of it
 abbrev pub ActsOrLooks : Actor → Option ℕ → Seated → Seated → Type 0

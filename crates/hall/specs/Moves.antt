@@ -7,7 +7,7 @@ use Rattle.journal_core.specs.Parts.{tool_lock}
 use Rattle.composition_laws.specs.ListedNames.{HandsOver, ListsAsBefore}
 use Rattle.lock_moves.specs.Sets.{HasName}
 use Rattle.lock_moves.specs.SeatSight.{Holds, Seen, moved_name}
-use Rattle.lock_moves.specs.Words.{has_name, name_number, tool_lock, book_lock}
+use Rattle.lock_moves.specs.Words.{has_name, name_number, book_lock}
 use Rattle.machine_parts.specs.Places.{state_of}
 use Rattle.machine_parts.specs.Told.{Told}
 use Rattle.hall.specs.declared.whole.NameMove.{NameMove}

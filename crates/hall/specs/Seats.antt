@@ -1,5 +1,5 @@
 -- How contracts see the seat of a hall, and what a call asks of it.
-use Rattle.std.specs.Prelude.{ℕ, ◌≡◌, ◌<◌, ◌/◌, ◌==◌, List, [], Option, Some, None, if◌then◌else◌}
+use Rattle.std.specs.Prelude.{ℕ, ◌≡◌, ◌<◌, ◌≤◌, ◌/◌, ◌==◌, List, [], Option, Some, None, if◌then◌else◌}
 use Rattle.std.specs.Option.{ForSome}
 use Rattle.sched_model.specs.declared.event.Entry.{Entry}
 use Rattle.sched_model.specs.declared.event.Event.{Event}
@@ -20,10 +20,15 @@ pub record Seated : Type 0 where
 abbrev pub shares_in : Seated → ℕ
 shares_in s = s.sitting.view.shares
 
--- between two calls a seat holds no lock, and an arrival that it keeps is one of a processor of the input
+-- the arrival's number of decisions is at most that of its core in the front. g is the number of a core's processors
+abbrev pub IsCounted : ℕ → List Entry → Arrival → Type 0
+IsCounted g front a = a.decides ≤ decides_at front (a.p.0 / g)
+
+-- between two calls a seat holds no lock, and an arrival that it keeps is one of a processor of the input, with no more decisions before it than the front has
 pub record SitsFree (s : Sitting) (arrived : Option Arrival) : Type 0 where
   pub nothing : s.view.held ≡ []
   pub processor : ForSome arrived (λ a. a.p.0 < s.view.input.config.processors)
+  pub counted : ForSome arrived (IsCounted s.view.input.config.granularity s.view.front)
 
 -- the seat is one of the hall
 pub record IsSeatOf (hall : LockTable) (s : Sitting) : Type 0 where

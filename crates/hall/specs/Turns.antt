@@ -138,8 +138,8 @@ pub record HasLoaded (r n : ℕ) (old new : Seated) : Type 0 where
   pub begins : IsPrefix old.sitting.view.front history
   pub counts : decides_at history r ≤ n
 
--- what an answer of `still_waits` says
+-- what an answer of `still_waits` says: the number that was loaded is the kept one, or greater, or nothing was loaded
 abbrev pub IsWaiting : ℕ → ProcId → Waits → Seated → Seated → Type 0
-IsWaiting g p waits.Still old new = (a : Arrival) × Awaits g p old a × (n : ℕ) × HasLoaded (p.0 / g) n old new × (n ≤ a.decides)
+IsWaiting g p waits.Still old new = (a : Arrival) × Awaits g p old a × HasLoaded (p.0 / g) a.decides old new
 IsWaiting g p (waits.Gone n) old new = (a : Arrival) × Awaits g p old a × HasLoaded (p.0 / g) n old new × (a.decides < n)
 IsWaiting g p waits.NotWaiting old new = (new ≡ old) × ((a : Arrival) → Awaits g p old a → ⊥)

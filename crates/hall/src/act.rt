@@ -18,7 +18,8 @@ ghost use Rattle.hall.specs.Seats.{IsCountBefore, IsOf, IsSeatOf, SeatStays, Sta
 ghost use Rattle.hall.specs.BookTurns.{DoneIn, HoldsOnly, IsNamed, Settles, SettlesFull};
 ghost use Rattle.hall.specs.Steps.{HasBook, KeepsOthers};
 ghost use Rattle.hall.specs.Turns.{ActsFull, IsDone, is_actor};
-ghost use Rattle.lock_moves.specs.Words.{tool_lock, book_lock};
+ghost use Rattle.journal_core.specs.Parts.{tool_lock};
+ghost use Rattle.lock_moves.specs.Words.{book_lock};
 
 use crate::all::{AllParts, put_all, take_all};
 use crate::book::{put_book, take_book};

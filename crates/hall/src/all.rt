@@ -4,7 +4,8 @@ ghost use Rattle.std.specs.Prelude.{◌≡◌, ◌+◌, ◌<◌, None, []};
 ghost use Rattle.lock_moves.specs.SeatSight.{HoldsBelow, find_lock};
 ghost use Rattle.hall.specs.SeatKnowledge.{KnowsAll, KnowsPool, KnowsStill, KnowsTool};
 ghost use Rattle.hall.specs.Steps.{KeepsSight};
-ghost use Rattle.lock_moves.specs.Words.{tool_lock, book_lock};
+ghost use Rattle.journal_core.specs.Parts.{tool_lock};
+ghost use Rattle.lock_moves.specs.Words.{book_lock};
 
 use crate::value::{PartState, ToolKept};
 use arrayvec::ArrayVec;

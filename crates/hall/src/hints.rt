@@ -2,7 +2,7 @@
 
 ghost use Rattle.hall.specs.Seats.{IsOf};
 ghost use Rattle.hall.specs.Holds.{IsAsBefore};
-ghost use Rattle.lock_moves.specs.Words.{tool_lock};
+ghost use Rattle.journal_core.specs.Parts.{tool_lock};
 
 use crate::all::{put_all, take_all};
 use crate::hall::Hall;

@@ -4,7 +4,8 @@ ghost use Rattle.std.specs.Prelude.{◌≡◌, ◌<◌, [], true, IfOk, IfErr, �
 ghost use Rattle.hall.specs.Holds.{ActsOrLooks, HasActedAll, HasFilled, InHold, IsArrivalOf, IsHolder, IsOfSomePool, last_of, seated};
 ghost use Rattle.hall.specs.Seats.{IsOf, IsSeatOf, SeatStays, Stays};
 ghost use Rattle.hall.specs.Turns.{ActsFull, is_actor};
-ghost use Rattle.lock_moves.specs.Words.{name_number, tool_lock};
+ghost use Rattle.lock_moves.specs.Words.{name_number};
+ghost use Rattle.journal_core.specs.Parts.{tool_lock};
 
 use crate::book::{put_book, take_book};
 use crate::hall::Hall;
@@ -124,11 +125,11 @@ impl Hall {
     ) -> Result<Acted, Full>
         requires of { IsSeatOf self.now seat.old }
         requires nothing { seat.old.view.held ≡ [] }
-        requires inside { IsArrivalOf self.now arrived.old }
+        requires inside { IsArrivalOf self.now (seated seat.old arrived.old) }
         requires holder { IsHolder self.now.opened.input holder }
         ensures stays { SeatStays seat.old seat.new }
         ensures nothing { seat.new.view.held ≡ [] }
-        ensures inside { IsArrivalOf self.now arrived.new }
+        ensures inside { IsArrivalOf self.now (seated seat.new arrived.new) }
         ensures all { IfOk result (λ acted. HasActedAll holder.actor acted
             (seated seat.old arrived.old) (seated seat.new arrived.new)) }
         ensures full { IfErr result (λ full. HasFilled holder.actor full

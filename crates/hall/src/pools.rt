@@ -9,7 +9,7 @@ ghost use Rattle.lock_moves.specs.Plays.{Current};
 ghost use Rattle.lock_moves.specs.Sets.{HasName};
 ghost use Rattle.hall.specs.SeatKnowledge.{KnowsPool};
 ghost use Rattle.hall.specs.Steps.{HasBook, HasEntered, KeepsOthers};
-ghost use Rattle.lock_moves.specs.Words.{tool_lock};
+ghost use Rattle.journal_core.specs.Parts.{tool_lock};
 
 use crate::book::enter;
 use crate::value::PartState;

@@ -15,6 +15,8 @@ use Rattle.lock_moves.specs.Agreement.{shares_of, Has, Agrees}
 use Rattle.lock_moves.proofs.Finding.{never, set_there, set_all, set_some}
 use Rattle.lock_moves.proofs.Moving.{Begins, shares-set, fronts_same, has_moved, Names_of, names_of, names_none, names_viewed, Stages_of, stages_of, stages_viewed}
 use Rattle.lock_moves.proofs.Prefix.{prefix_length}
+use Rattle.std.proofs.Math.ListN.{drop_of_length-le}
+use Rattle.std.proofs.lemmas.List.{append-nil}
 use Rattle.lock_moves.proofs.Places.{case, both-rising, both-either, both-left, both-right}
 
 module _ {A : Type 0} where
@@ -42,9 +44,31 @@ prefix_whole (x ∷ xs) (y ∷ ys) p l = let t = prefix_whole xs ys (p.0, ap tai
     tail [] = []
     tail (x ∷ xs) = xs
 
--- what is true of both is true of the longer
-pub longer_case : (P : List Entry → Type 0) (xs ys : List Entry) → (length ys ≤ length xs → P xs) → (length xs ≤ length ys → P ys) → P (longer_history xs ys)
-longer_case P xs ys left right = case (λ b. P (cond b ys xs)) (leb (length xs) (length ys)) (λ e. right (leb-true (length xs) (length ys) e)) (λ e. left (le_of_lt (leb-false (length xs) (length ys) e)))
+longer-first : (xs ys : List Entry) → length ys ≤ length xs → longer_history xs ys ≡ xs
+longer-first xs ys l = ap (λ (z : List Entry). xs ++ z) (drop_of_length-le ys l) ∙ append-nil xs
+
+longer-second : (h xs ys : List Entry) → IsPrefix xs h → IsPrefix ys h → length xs ≤ length ys → longer_history xs ys ≡ ys
+longer-second h [] ys p q l = refl
+longer-second h (x ∷ xs) [] p q l = absurd (omega (arith, l))
+longer-second [] (x ∷ xs) (y ∷ ys) p q l = absurd (omega (arith, ap length p.1))
+longer-second (z ∷ h) (x ∷ xs) (y ∷ ys) p q l =
+    let t = longer-second h xs ys (p.0, ap tail p.1) (q.0, ap tail q.1) (omega (arith, l)) in
+    let same : x ≡ y = ap (first z) p.1 ∙ sym (ap (first z) q.1) in
+    λ i. same i ∷ t i
+  where
+    first : Entry → List Entry → Entry
+    first d [] = d
+    first d (x ∷ xs) = x
+
+    tail : List Entry → List Entry
+    tail [] = []
+    tail (x ∷ xs) = xs
+
+-- what is true of two beginnings of one history is true of the longer
+pub longer_case : (P : List Entry → Type 0) (h xs ys : List Entry) → IsPrefix xs h → IsPrefix ys h → (length ys ≤ length xs → P xs) → (length xs ≤ length ys → P ys) → P (longer_history xs ys)
+longer_case P h xs ys p q left right = case (λ b. P (longer_history xs ys)) (leb (length xs) (length ys))
+    (λ e. let l = leb-true (length xs) (length ys) e in subst P (sym (longer-second h xs ys p q l)) (right l))
+    (λ e. let l = le_of_lt (leb-false (length xs) (length ys) e) in subst P (sym (longer-first xs ys l)) (left l))
 
 abbrev passed : (ℕ → ℕ) → ℕ → ℕ → ℕ → ℕ
 passed keeper other id p = cond (eqb (keeper p) other) id (keeper p)
@@ -102,10 +126,10 @@ module _ {V : Type 0} (part : V → StatePart) (suits : Machine → ℕ → V �
       let pv = f.begins id v at in let pw = f.begins other w there in let lv = prefix_length v.seen.front h pv in let lw = prefix_length w.seen.front h pw in
       let more : 0 < both.seen.shares = omega (arith, left) in
       let at_both : get_elem? l2 id ≡ some both = set_else l1 other id spent_view (λ e. ne (sym e)) ∙ set_there s.views id both v at in
-      let whole_left : v.seen.front ≡ h → both.seen.front ≡ h = λ e. longer_case (λ z. z ≡ h) v.seen.front w.seen.front (λ _. e) (λ l. prefix_whole w.seen.front h pw (omega (arith, l, ap length e))) in
-      let whole_right : w.seen.front ≡ h → both.seen.front ≡ h = λ e. longer_case (λ z. z ≡ h) v.seen.front w.seen.front (λ l. prefix_whole v.seen.front h pv (omega (arith, l, ap length e))) (λ _. e) in
-      let long_left : length v.seen.front ≤ length both.seen.front = longer_case (λ z. length v.seen.front ≤ length z) v.seen.front w.seen.front (λ _. omega arith) (λ l. l) in
-      let long_right : length w.seen.front ≤ length both.seen.front = longer_case (λ z. length w.seen.front ≤ length z) v.seen.front w.seen.front (λ l. l) (λ _. omega arith) in record {
+      let whole_left : v.seen.front ≡ h → both.seen.front ≡ h = λ e. longer_case (λ z. z ≡ h) h v.seen.front w.seen.front pv pw (λ _. e) (λ l. prefix_whole w.seen.front h pw (omega (arith, l, ap length e))) in
+      let whole_right : w.seen.front ≡ h → both.seen.front ≡ h = λ e. longer_case (λ z. z ≡ h) h v.seen.front w.seen.front pv pw (λ l. prefix_whole v.seen.front h pv (omega (arith, l, ap length e))) (λ _. e) in
+      let long_left : length v.seen.front ≤ length both.seen.front = longer_case (λ z. length v.seen.front ≤ length z) h v.seen.front w.seen.front pv pw (λ _. omega arith) (λ l. l) in
+      let long_right : length w.seen.front ≤ length both.seen.front = longer_case (λ z. length w.seen.front ≤ length z) h v.seen.front w.seen.front pv pw (λ l. l) (λ _. omega arith) in record {
         history = h;
         owner = r.owner;
         keeper = passed r.keeper other id;
@@ -133,7 +157,7 @@ module _ {V : Type 0} (part : V → StatePart) (suits : Machine → ℕ → V �
         fronts = record {
           same = set_all (λ _ u. 0 < u.seen.shares → u.seen.input ≡ m) l1 other spent_view (λ z. absurd (lt_irrefl 0 z)) (λ j u _ e. set_all (λ _ u. 0 < u.seen.shares → u.seen.input ≡ m) s.views id both (λ _. f.same id v at left) (λ j u _ e. f.same j u e) j u e);
           limits = set_all (λ _ u. 0 < u.seen.shares → u.seen.limit ≡ limit) l1 other spent_view (λ z. absurd (lt_irrefl 0 z)) (λ j u _ e. set_all (λ _ u. 0 < u.seen.shares → u.seen.limit ≡ limit) s.views id both (λ _. f.limits id v at left) (λ j u _ e. f.limits j u e) j u e);
-          begins = set_all (λ _ u. Begins h u) l1 other spent_view (h, refl) (λ j u _ e. set_all (λ _ u. Begins h u) s.views id both (longer_case (λ z. IsPrefix z h) v.seen.front w.seen.front (λ _. pv) (λ _. pw)) (λ j u _ e. f.begins j u e) j u e);
+          begins = set_all (λ _ u. Begins h u) l1 other spent_view (h, refl) (λ j u _ e. set_all (λ _ u. Begins h u) s.views id both (longer_case (λ z. IsPrefix z h) h v.seen.front w.seen.front pv pw (λ _. pv) (λ _. pw)) (λ j u _ e. f.begins j u e) j u e);
           own = λ j u p e q. set_all (λ j u. (p : ℕ) → has_place p u.seen.own ≡ true → (passed r.keeper other id p ≡ j) × (p < length u.seen.front)) l1 other spent_view
               (λ p q. absurd (true≢false (sym q)))
               (λ j u away e. set_all (λ j u. j ≢ other → (p : ℕ) → has_place p u.seen.own ≡ true → (passed r.keeper other id p ≡ j) × (p < length u.seen.front)) s.views id both

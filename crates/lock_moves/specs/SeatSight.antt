@@ -1,5 +1,5 @@
 -- What a seat knows, and how a step changes it.
-use Rattle.std.specs.Prelude.{◌≡◌, ℕ, zero, suc, ◌+◌, ◌-◌, ◌<◌, ◌≤◌, Bool, false, cond, ◌||◌, eqb, leb, List, [], ◌∷◌, ◌++◌, length, replicate, Option, Some, None, ⊤}
+use Rattle.std.specs.Prelude.{◌≡◌, ℕ, zero, suc, ◌+◌, ◌-◌, ◌<◌, ◌≤◌, Bool, false, cond, ◌||◌, eqb, List, [], ◌∷◌, ◌++◌, drop, length, replicate, Option, Some, None, ⊤}
 use Rattle.atomic_table.specs.Seated.{TableId}
 use Rattle.sched_base.specs.Numbers.{moment}
 use Rattle.sched_model.specs.declared.event.Entry.{Entry}
@@ -99,9 +99,9 @@ abbrev pub Rising : List ℕ → Type 0
 Rising [] = ⊤
 Rising (q ∷ qs) = AllAbove q qs × Rising qs
 
--- the longer of two histories
+-- the longer of two beginnings of one history: the first, and what the second has behind it
 abbrev pub longer_history : List Entry → List Entry → List Entry
-longer_history xs ys = cond (leb (length xs) (length ys)) ys xs
+longer_history xs ys = xs ++ drop (length xs) ys
 
 -- the numbers below n that stand in one of the lists, in order
 abbrev pub both_places : List ℕ → List ℕ → ℕ → List ℕ

@@ -21,10 +21,7 @@ abbrev pub has_name : Machine → NameId → Bool
 has_name m (Res r) = has_core m r.0
 has_name m (Dom d) = nat_lt d.0 64 && is_name m.config (64 + d.0)
 
--- the lock of the tool, which comes after those of the pools, and the lock of the book, which is the last
-abbrev pub tool_lock : ℕ
-tool_lock = 16
-
+-- the lock of the book, which is the last: those below guard the parts of the state
 abbrev pub book_lock : ℕ
 book_lock = 17
 

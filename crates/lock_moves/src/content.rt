@@ -10,7 +10,7 @@ use journal_core::Book;
 use sched_base::{DomId, ResId};
 use std::marker::Model;
 
-/// The tool's lock, after those of the pools.
+/// The tool's lock, after those of the 16 pools.
 pub const TOOL: LockId = LockId(16);
 
 /// The number of the book's lock, the last one. The locks below guard the parts of the state.

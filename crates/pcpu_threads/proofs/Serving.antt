@@ -26,7 +26,7 @@ use Rattle.pcpu_threads.proofs.Working.{acts-said, works-for, works-same, works_
 
 -- acts of one actor, one after the other
 acts-works : (actor : Actor) (places : List ℕ) (old new : Seated) → Acts actor places old new → ActsAs actor old new
-acts-works actor [] old new same = works-same (λ a. a ≡ actor) old new (kept-stays old.sitting new.sitting same.sight) (record { front = same.sight.front; own = same.sight.own })
+acts-works actor [] old new same = works-same (λ a. a ≡ actor) old new (kept-stays old.sitting new.sitting same.sight) (record { front = same.sight.front; own = same.sight.own; takes = (let more = same.sight.takes in omega (arith, more)) })
 acts-works actor (place ∷ places) old new acts =
     works_trans (λ a. a ≡ actor) old acts.0 new (acts-works actor places old acts.0 acts.1)
     (acts-said actor acts.0 new acts.2.stays (Ok (done.Event place acts.2.event)) acts.2.done tt)

@@ -13,7 +13,9 @@ use Rattle.journal_core.specs.Histories.{state_at}
 use Rattle.composition_laws.specs.Actors.{first_by}
 use Rattle.lock_moves.specs.Sets.{LockTable, sitting_with}
 use Rattle.lock_moves.specs.SeatSight.{after_join, newcomer}
+use Rattle.hall.specs.declared.turns.Waits.TheVariants as waits
 use Rattle.hall.specs.Seats.{IsOf, Seated, Stays}
+use Rattle.hall.specs.Turns.{IsWaiting}
 use Rattle.sched_model.specs.Runs.{action_entry}
 
 -- how many of the 1024 parts the seats have together
@@ -69,6 +71,7 @@ pub record IsEventOf (m : Machine) (actor : Actor) (h : List Entry) (place : ℕ
 pub record SeesSame (old new : Seated) : Type 0 where
   pub front : new.sitting.view.front ≡ old.sitting.view.front
   pub own : new.sitting.view.own ≡ old.sitting.view.own
+  pub takes : old.sitting.view.takes ≤ new.sitting.view.takes
 
 -- the worker p of n may work in the hall, which has n processors and so many domains
 pub record MayWork (hall : LockTable) (n domains p : ℕ) (s : Seated) : Type 0 where
@@ -85,6 +88,7 @@ pub record Works (mine : Actor → Type 0) (old new : Seated) : Type 0 where
   pub added : List ℕ
   pub own : new.sitting.view.own ≡ old.sitting.view.own ++ added
   pub entries : All (λ place. (actor : Actor) × mine actor × IsEventOf old.sitting.view.input actor new.sitting.view.front place) added
+  pub takes : old.sitting.view.takes ≤ new.sitting.view.takes
 
 -- the same for one actor alone
 abbrev pub ActsAs : Actor → Seated → Seated → Type 0
@@ -97,15 +101,21 @@ pub record Rested (actor : Actor) (old new : Seated) : Type 0 where
   pub goes_on : IsPrefix between new.sitting.view.front
   pub rests : (first_by old.sitting.view.input (state_at old.sitting.view.input between) actor ≡ None) ⊎ (length between ≡ old.sitting.view.limit)
 
--- the processor is the first one of its core, so it waits for no sibling
-abbrev pub IsFirstOfCore : LockTable → ProcId → Type 0
-IsFirstOfCore hall p = p.0 ≡ p.0 / hall.opened.input.config.granularity * hall.opened.input.config.granularity
+-- after events of its own the processor was asked whether it still waits for its siblings, and it did: it had arrived, is not the first one of its
+-- core, and the core had made no decision since
+pub record HasWaited (hall : LockTable) (p : ProcId) (old new : Seated) : Type 0 where
+  pub before : Seated
+  pub after : Seated
+  pub acts : ActsAs (Proc p) old before
+  pub still : IsWaiting hall.opened.input.config.granularity p waits.Still before after
+  pub goes_on : IsPrefix after.sitting.view.front new.sitting.view.front
 
--- the worker p of n has acted for its own actors alone: for the processor until it rested, where it waits for no sibling, and for each domain
--- until it rested
+-- the worker p of n has acted for its own actors alone: for the processor until it rested or waited for its siblings, and for each domain until it
+-- rested; and it took the book
 pub record HasWorked (hall : LockTable) (n domains p : ℕ) (old new : Seated) : Type 0 where
   pub works : Works (IsFor n p) old new
-  pub for_processor : IsFirstOfCore hall (processor p) → Rested (Proc (processor p)) old new
+  pub took : old.sitting.view.takes < new.sitting.view.takes
+  pub for_processor : Rested (Proc (processor p)) old new ⊎ HasWaited hall (processor p) old new
   pub for_domains : (d : ℕ) → d < domains → d % n ≡ p → Rested (Dom (domain d)) old new
 
 -- each worker has done so

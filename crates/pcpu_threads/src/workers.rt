@@ -1,11 +1,12 @@
 //! The workers: one for each processor, which acts for the processor and for those domains that fall to it.
 
-ghost use Rattle.std.specs.Prelude.{◌≡◌, ◌≤◌, ◌<◌, IfOk, IfErr, IsFalse, IsTrue, true, length};
+ghost use Rattle.std.specs.Prelude.{◌≡◌, ◌≤◌, ◌<◌, ◌⊎◌, IfOk, IfErr, IsFalse, IsTrue, true, length};
 ghost use Rattle.std.specs.List.{All};
 ghost use Rattle.sched_model.specs.declared.action.Actor.TheVariants.{Dom, Proc};
 ghost use Rattle.hall.specs.Seats.{IsOf, Stays};
-ghost use Rattle.hall.specs.Turns.{is_actor};
-ghost use Rattle.pcpu_threads.specs.Workers.{ActsAs, AllWorked, AreWorkers, HasWorked, IsFirstOfCore, IsNew, MayWork, OneEach, Rested, SeesSame, lessened_by, shares_of};
+ghost use Rattle.hall.specs.declared.turns.Waits.TheVariants as waits;
+ghost use Rattle.hall.specs.Turns.{IsWaiting, is_actor};
+ghost use Rattle.pcpu_threads.specs.Workers.{ActsAs, AllWorked, AreWorkers, HasWaited, HasWorked, IsNew, MayWork, OneEach, Rested, SeesSame, lessened_by, shares_of};
 
 use crate::crew::MOST_ROWS;
 use hall::{Done, Hall, HallSeat, Waits};
@@ -52,6 +53,7 @@ fn act_once<R: Wait, G: Gate>(
     requires of { IsOf hall.now seat.old }
     requires actor { is_actor hall.now.opened.input.config actor ≡ true }
     ensures acts { ActsAs actor seat.old seat.new }
+    ensures took { seat.old.sitting.view.takes < seat.new.sitting.view.takes }
     ensures rests { IsFalse result → Rested actor seat.old seat.new }
 {
     match hall.act(rt, seat, actor, gate) {
@@ -66,7 +68,8 @@ fn is_waiting(hall: &Hall, seat: &mut HallSeat, p: ProcId) -> bool
     requires { IsOf hall.now seat.old }
     ensures stays { Stays seat.old seat.new }
     ensures same { SeesSame seat.old seat.new }
-    ensures waits { IsTrue result → ¬ IsFirstOfCore hall.now p }
+    ensures waits { IsTrue result → IsWaiting hall.now.opened.input.config.granularity p waits.Still
+        seat.old seat.new }
 {
     matches!(hall.still_waits(seat, p), Waits::Still)
 }
@@ -98,7 +101,8 @@ fn act_for_processor<R: Wait, G: Gate>(
     requires of { IsOf hall.now seat.old }
     requires actor { is_actor hall.now.opened.input.config (Proc p) ≡ true }
     ensures acts { ActsAs (Proc p) seat.old seat.new }
-    ensures rests { IsFirstOfCore hall.now p → Rested (Proc p) seat.old seat.new }
+    ensures took { seat.old.sitting.view.takes < seat.new.sitting.view.takes }
+    ensures rests { Rested (Proc p) seat.old seat.new ⊎ HasWaited hall.now p seat.old seat.new }
 {
     for _ in rt.forever() {
         if !act_once(rt, hall, seat, Actor::Proc(p), gate) {

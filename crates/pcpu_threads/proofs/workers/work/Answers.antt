@@ -7,7 +7,7 @@ use Rattle.pcpu_threads.proofs.workers.work.Goals.{then-from-workers, else-from-
 pub loop-d-init : goal.loop-d-init
 loop-d-init g c =
     let e = c.act_for_processor.ensures in
-    worked-first c.args.hall.now c.args.workers c.args.worker c.args.seat.now c.act_for_processor.new.seat e.acts e.rests
+    worked-first c.args.hall.now c.args.workers c.args.worker c.args.seat.now c.act_for_processor.new.seat e.acts e.took e.rests
 
 pub loop-d-preserved : goal.loop-d-preserved
 loop-d-preserved g c =

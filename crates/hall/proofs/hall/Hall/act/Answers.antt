@@ -9,6 +9,7 @@ use Rattle.hall.specs.Seats.{Seated}
 use Rattle.hall.specs.BookTurns.{DoneIn}
 use Rattle.hall.specs.Turns.{is_actor}
 use Rattle.hall.proofs.Arriving.{arrival-few}
+use Rattle.hall.proofs.Counting.{counted-acted, free-seen, seen-begins}
 use Rattle.hall.proofs.Processors.{kept-inside}
 use Rattle.hall.proofs.hall.Hall.act.Goals as goal
 
@@ -27,4 +28,16 @@ invariant_of-seat-in-Event g c =
       nothing = c.act_for-found.ensures.nothing;
       processor = subst (λ (m : Machine). ForSome c.arrived_after-seat-inside.result (λ (a : Arrival). a.p.0 < m.config.processors)) (sym c.act_for-found.ensures.stays.input)
           (subst (λ (o : Option Arrival). ForSome o (λ (a : Arrival). a.p.0 < s0.view.input.config.processors)) (sym same) few);
+      counted = counted-acted c.in-Event.place e told.0 s0.view s4.view c.seat.inside.arrived c.arrived_after-seat-inside.result told.1.added c.act_for-found.ensures.stays.input same c.seat.invariant.counted;
     }
+
+pub invariant_of-seat : goal.invariant_of-seat
+invariant_of-seat g c =
+    free-seen c.seat.inside.seat c.act_for-found.new.seat c.seat.inside.arrived c.seat.invariant c.act_for-found.ensures.nothing c.act_for-found.ensures.stays.input c.in_err-done.ensures.full.looked.begins
+
+pub invariant_of-seat-in_default : goal.invariant_of-seat-in_default
+invariant_of-seat-in_default g c =
+    let s0 = c.seat.inside.seat in
+    let s4 = c.act_for-found.new.seat in
+    free-seen s0 s4 c.seat.inside.arrived c.seat.invariant c.act_for-found.ensures.nothing c.act_for-found.ensures.stays.input
+    (seen-begins c.args.actor c.in_ok-done.done c.in_ok-done.decides s0.view s4.view c.in_ok-done.ensures.done)

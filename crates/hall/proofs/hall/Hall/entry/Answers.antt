@@ -9,7 +9,9 @@ use Rattle.sched_model.specs.declared.machine.Machine.{Machine}
 use Rattle.journal_core.specs.Books.{Chronicle}
 use Rattle.lock_moves.specs.SeatSight.{Known, Seen, find_lock}
 use Rattle.lock_moves.proofs.Finding.{none_held}
+use mathlib.Core.List.{IsPrefix}
 use Rattle.hall.specs.Steps.{KeepsLocks}
+use Rattle.hall.proofs.Counting.{counted-seen}
 use Rattle.hall.proofs.hall.Hall.entry.Goals as goal
 use Rattle.hall.proofs.hall.Hall.entry.Goals.{then-i-len, else-i-len}
 
@@ -33,6 +35,9 @@ invariant_of-seat g c =
     let old = c.seat.inside.seat in let mid = c.take_book-book.new.seat in let new = c.put_book.new.seat in record {
       nothing = free_again old.view mid.view new.view c.seat.invariant.nothing c.take_book-book.ensures.locks c.put_book.ensures.locks;
       processor = subst (λ (m : Machine). ForSome c.seat.inside.arrived (λ a. a.p.0 < m.config.processors)) (sym (c.put_book.ensures.keeps.input ∙ c.take_book-book.ensures.sees.input)) c.seat.invariant.processor;
+      counted = counted-seen old.view new.view c.seat.inside.arrived
+          (subst (IsPrefix old.view.front) (sym (c.put_book.ensures.keeps.front ∙ c.take_book-book.ensures.sees.front)) c.take_book-book.ensures.sees.begins)
+          (c.put_book.ensures.keeps.input ∙ c.take_book-book.ensures.sees.input) c.seat.invariant.counted;
     }
 
 pub returns-clause-found : goal.returns-clause-found

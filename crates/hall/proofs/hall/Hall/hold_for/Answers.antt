@@ -1,4 +1,6 @@
-use Rattle.std.proofs.Common.{◌≡◌, ◌≢◌, ◌∙◌, ◌<◌, [], ℕ, true, refl, sym, subst, arith}
+use mathlib.Core.List.{IsPrefix}
+use Rattle.std.proofs.Common.{◌≡◌, ◌≢◌, ◌∙◌, ◌<◌, [], List, ℕ, true, refl, sym, subst, arith}
+use Rattle.sched_model.specs.declared.event.Entry.{Entry}
 use Rattle.std.specs.Prelude.{Ok}
 use Rattle.sched_model.specs.CheckedMachine.{IsChecked}
 use Rattle.journal_core.specs.Parts.{lists, tool_lock, tool_part}
@@ -14,7 +16,7 @@ use Rattle.hall.specs.Holds.{seated}
 use Rattle.hall.specs.Steps.{KeepsSight}
 use Rattle.hall.specs.Values.{part_of_value}
 use Rattle.hall.proofs.Calls.{call-stays, done-held, kept-stays}
-use Rattle.hall.proofs.Holds.{gone-only, held-filled, held-said}
+use Rattle.hall.proofs.Holds.{arrival-on, gone-only, held-filled, held-said}
 use Rattle.hall.proofs.Locking.{gave_keeps, keeps_same}
 use Rattle.hall.proofs.Parting.{as-known}
 use Rattle.hall.proofs.UnderOne.{free-settles, keeps-all, lock-of-pool, lock-of-tool, only-gone, sought-keeps, sought-known, sought-only}
@@ -35,6 +37,20 @@ returns-in-Tool-clause-nothing g c =
     (sought-only k (part_of_value c.lock_of-held.result.value) t.0 t.1 c.args.seat.now c.lock_of-held.new.seat t.2)
     c.take_book-book.ensures.locks (keeps-all k c.take_book-book.new.seat.view c.put_book.new.seat.view c.put_book.ensures.locks)
     (subst (λ (j : ℕ). c.unlock.new.seat ≡ sitting_with c.put_book.new.seat (after_give j c.put_book.new.seat.view)) (c.new.ensures.lock ∙ c.lock-lock.ensures) c.unlock.ensures)
+
+pub returns-in-Tool-clause-inside : goal.returns-in-Tool-clause-inside
+returns-in-Tool-clause-inside g c =
+    let t = c.lock_of-held.ensures.taken in
+    let s0 = c.args.seat.now in
+    let s1 = c.lock_of-held.new.seat in
+    let s3 = c.put_book.new.seat in
+    let s4 = c.unlock.new.seat in
+    let took = sought-keeps c.lock_of-held.result.lock (part_of_value c.lock_of-held.result.value) t.0 t.1 s0 s1 t.2 in
+    let book = c.take_book-book.ensures in
+    let gave = gave_keeps c.new.result.lock s3 s4 c.unlock.ensures in
+    let front = gave.front ∙ c.put_book.ensures.keeps.front ∙ book.sees.front in
+    arrival-on c.args.self.now s0 s4 c.args.arrived.now
+    (subst (IsPrefix s0.view.front) (sym front) (subst (λ (f : List Entry). IsPrefix f c.take_book-book.result.history) took.front book.sees.begins)) c.requires.inside
 
 pub returns-in-Tool-clause-all : goal.returns-in-Tool-clause-all
 returns-in-Tool-clause-all g c =

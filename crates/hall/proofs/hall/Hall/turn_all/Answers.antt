@@ -9,6 +9,7 @@ use Rattle.hall.specs.BookTurns.{Turns, TurnIn}
 use Rattle.hall.specs.Seats.{Seated, SeatStays}
 use Rattle.hall.specs.Turns.{IsTurn, TurnsFull}
 use Rattle.hall.proofs.Calls.{call-stays, filled-held, turned-held}
+use Rattle.hall.proofs.Counting.{counted-acted, free-seen, turn-begins}
 use Rattle.hall.proofs.Parting.{knows-taken}
 use Rattle.hall.proofs.Processors.{arrived-inside}
 use Rattle.hall.proofs.Turning.{is-step, is-turn, stays-turned}
@@ -47,6 +48,8 @@ invariant_of-seat g c =
       nothing = c.put_all.ensures.nothing;
       processor = arrived-inside s0.view s4.view place e told.0 (subst IsChecked (sym opened) checked) told.1.added told.1.action (first-comes s0.view.input (state_at s0.view.input told.0) told.1.action told.1.first) told.1.is_event
           (c.put_all.ensures.keeps.input ∙ settled.adds.entered.input ∙ book.sees.input ∙ c.take_all-all.ensures.keeps.input) c.seat.inside.arrived c.arrived_after-seat-inside.result (c.arrived_after-seat-inside.ensures s0.view.input.config.granularity told.0 told.2) c.seat.invariant.processor;
+      counted = counted-acted place e told.0 s0.view s4.view c.seat.inside.arrived c.arrived_after-seat-inside.result told.1.added
+          (c.put_all.ensures.keeps.input ∙ settled.adds.entered.input ∙ book.sees.input ∙ c.take_all-all.ensures.keeps.input) (c.arrived_after-seat-inside.ensures s0.view.input.config.granularity told.0 told.2) c.seat.invariant.counted;
     }
 
 pub returns-in-Stepped-clause-turn : goal.returns-in-Stepped-clause-turn
@@ -91,3 +94,30 @@ returns-in_default g c =
       full = tt;
       kept = tt;
     }
+
+pub invariant_of-seat-in_default : goal.invariant_of-seat-in_default
+invariant_of-seat-in_default g c =
+    let s0 = c.seat.inside.seat in
+    let s4 = c.put_all.new.seat in
+    let book = c.take_book-book.ensures in
+    let opened = ap (λ (x : Seated). x.sitting.view.input) c.seat.view_is ∙ c.requires.of.input in
+    let checked = subst (λ (x : LockTable). IsChecked x.opened.input) c.self.view_is c.self.invariant.checked in
+    let t = c.in-Ok.turn in
+    let decides = c.in-Ok.decides in
+    let told : TurnIn t decides s0.view s4.view =
+    turned-held c.self.inside.set c.args.self.now c.take_book-book.result s0 c.take_all-all.new.seat c.take_book-book.new.seat c.turn.new.seat s4 c.take_all-all.ensures.keeps book.sees book.has book.current c.put_all.ensures.keeps opened checked t decides c.in-Ok.ensures.turn in
+    let stays = call-stays c.take_book-book.result s0 c.take_all-all.new.seat c.take_book-book.new.seat c.turn.new.seat s4 c.take_all-all.ensures.keeps book.sees (stays-turned t decides c.take_book-book.result c.take_book-book.new.seat c.turn.new.seat c.in-Ok.ensures.turn) c.put_all.ensures.keeps in
+    free-seen s0 s4 c.seat.inside.arrived c.seat.invariant c.put_all.ensures.nothing stays.input (turn-begins t decides s0.view s4.view told)
+
+pub invariant_of-seat-in-Err : goal.invariant_of-seat-in-Err
+invariant_of-seat-in-Err g c =
+    let s0 = c.seat.inside.seat in
+    let s4 = c.put_all-in-Err.new.seat in
+    let book = c.take_book-book.ensures in
+    let opened = ap (λ (x : Seated). x.sitting.view.input) c.seat.view_is ∙ c.requires.of.input in
+    let checked = subst (λ (x : LockTable). IsChecked x.opened.input) c.self.view_is c.self.invariant.checked in
+    let full = c.in-Err.full in
+    let told : TurnsFull full s0.view s4.view =
+    filled-held c.self.inside.set c.args.self.now c.take_book-book.result s0 c.take_all-all.new.seat c.take_book-book.new.seat c.turn.new.seat s4 c.take_all-all.ensures.keeps book.sees book.has book.current c.put_all-in-Err.ensures.keeps opened checked full c.in-Err.ensures.full in
+    let input = c.put_all-in-Err.ensures.keeps.input ∙ c.in-Err.ensures.full.finds.keeps.input ∙ book.sees.input ∙ c.take_all-all.ensures.keeps.input in
+    free-seen s0 s4 c.seat.inside.arrived c.seat.invariant c.put_all-in-Err.ensures.nothing input told.looked.begins

@@ -10,7 +10,7 @@ pub loop-init : goal.loop-init
 loop-init g c = let s = c.args.seat.now in let v = s.view in (v.refused, v.now, c.read_word-word.ensures.same ∙ (λ i. sitting_with s (record v { held = c.requires.nothing i })))
 
 pub returns-then-found-word-clause-number : goal.returns-then-found-word-clause-number
-returns-then-found-word-clause-number g c = subst (λ (n : ℕ). n < 17) (sym c.lock-held.ensures.lock) c.if-word-lt17.true
+returns-then-found-word-clause-number g c = subst (λ (n : ℕ). n < 17) (sym c.lock-held.ensures.lock) c.if-word.true
 
 pub returns-then-found-word-clause-lists : goal.returns-then-found-word-clause-lists
 returns-then-found-word-clause-lists g c = let w : ℕ = c.loop.word in let t = c.lock-held.ensures.taken.1 in let number : ℕ = name_number c.args.name in
@@ -42,8 +42,8 @@ let_go : (s : Sitting) (w k : ℕ) (z : Known) (n : ℕ) (refused : List ℕ) (t
 let_go s w k z n refused t u before now after a is b d = d ∙ ((λ i. sitting_with (b i) (after_give (is i) (b i).view)) ∙ ((λ i. let p = a i in sitting_with p (after_give w (after_take w z.part z.names u (tried_again n w p.view))))
     ∙ (λ i. sitting_with s (record (after_search (replicate n w ++ refused) u s.view) { held = cond (eq-eqb w w refl i) [] ((w, z) ∷ []) }))))
 
-pub loop-preserved-then-word-lt17 : goal.loop-preserved-then-word-lt17
-loop-preserved-then-word-lt17 g c = let w : ℕ = c.loop.word in let t = c.lock-held.ensures.taken in let i = c.loop.invariant in (
+pub loop-preserved-then-word : goal.loop-preserved-then-word
+loop-preserved-then-word g c = let w : ℕ = c.loop.word in let t = c.lock-held.ensures.taken in let i = c.loop.invariant in (
   replicate t.0 w ++ i.0,
   t.1.1,
   let_go c.args.seat.now w c.lock-held.result.lock (known_part (g.V.Part.part c.lock-held.result.value) t.1.0) t.0 i.0 i.1 t.1.1 c.loop.seat c.read_word-found.new.seat c.unlock.new.seat i.2 c.lock-held.ensures.lock
