@@ -164,7 +164,7 @@ pub enum Event {
 }
 
 /// One entry of a history: at this moment this happened.
-#[derive(Clone, Copy)]
+#[derive(Clone, Copy, PartialEq, Eq)]
 pub struct Entry {
     pub at: Moment,
     pub event: Event,

@@ -11,7 +11,10 @@ use Rattle.sched_model.specs.declared.action.Action.TheVariants.{Wake, Repl}
 use Rattle.sched_model.specs.declared.config.DomConfig.{DomConfig}
 use Rattle.sched_model.specs.Places.{numbers_from}
 use Rattle.sched_model.specs.Actions.{vcpus_from, units_from}
-use Rattle.sched_plain.proofs.Searching.{found_in_map}
+use Rattle.sched_model.specs.declared.config.Config.{Config}
+use Rattle.sched_plain.specs.declared.scan.Kind.{Kind}
+use Rattle.sched_plain.specs.Search.{actions_in, actions_of}
+use Rattle.sched_plain.proofs.Searching.{found_in_both, found_in_map}
 
 -- what lies behind the first
 pub behind : {X : Type 0} (y : X) (ys : List X) → take (length (y ∷ ys) - 1) (drop 1 (y ∷ ys)) ≡ ys
@@ -43,3 +46,11 @@ module _ (p : Action → Bool) (d : ℕ) where
       let there : find p (map Repl (units_from g (d + 1) (take (length (y ∷ ys) - 1) (drop 1 (y ∷ ys))))) ≡ rest =
       ap (λ zs. find p (map Repl (units_from g (d + 1) zs))) (behind y ys) ∙ ap (λ e. find p (map Repl (units_from g e ys))) (omega arith) in
       there ∙ sym (here ∙ ap (λ o. option_or o rest) (sym empty))
+
+-- the search among the kinds goes on behind one of which none passes
+pub kinds-go_on : (p : Action → Bool) (config : Config) (xs : List Kind) (d : Kind) → 1 ≤ length xs → None ≡ find p (actions_of config (get_or xs 0 d))
+    → find p (actions_in config (take (length xs - 1) (drop 1 xs))) ≡ find p (actions_in config xs)
+kinds-go_on p config [] d some none = absurd (omega arith)
+kinds-go_on p config (y ∷ ys) d some none =
+    let rest : Option Action = find p (actions_in config ys) in
+    ap (λ zs. find p (actions_in config zs)) (behind y ys) ∙ sym (found_in_both p (actions_of config y) (actions_in config ys) ∙ ap (λ o. option_or o rest) (sym none))

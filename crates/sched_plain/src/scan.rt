@@ -1,6 +1,6 @@
 //! The first event of the whole machine that may come at t, by a scan of the candidates in order.
 
-ghost use Rattle.std.specs.Prelude.{◌≡◌, ℕ, ◌+◌, ◌-◌, ◌/◌, ◌<◌, ◌≤◌, ◌^◌, ◌++◌, ◌∷◌, length, map, find, Some, None};
+ghost use Rattle.std.specs.Prelude.{◌≡◌, ℕ, ◌+◌, ◌-◌, ◌/◌, ◌<◌, ◌≤◌, ◌^◌, ◌++◌, ◌∷◌, [], length, map, find, Some, None};
 ghost use Rattle.sched_base.specs.declared.VcpuId.{VcpuId as VcpuRecord};
 ghost use Rattle.sched_base.specs.declared.UnitId.{UnitId as UnitRecord};
 ghost use Rattle.sched_base.specs.Numbers.{domain};
@@ -10,7 +10,7 @@ ghost use Rattle.sched_model.specs.Actions.{vcpus_from, units_from};
 ghost use Rattle.sched_model.specs.Machine.{is_action_enabled, first_enabled_action};
 ghost use Rattle.sched_model.specs.declared.action.Action.TheVariants as action_of;
 ghost use Rattle.sched_plain.specs.Fits.{FewGuests, MachineFits, StateFits};
-ghost use Rattle.sched_plain.specs.Search.{action_at, moved_actions, dom_moved_actions, wake_actions, block_actions, slice_actions, repl_actions, refill_actions, arrive_actions, decide_actions, leave_actions, save_actions};
+ghost use Rattle.sched_plain.specs.Search.{action_at, actions_in, actions_of, count_of as count_of_spec};
 
 use crate::enabled::is_enabled;
 use sched_base::{DomId, Moment, ProcId, ResId, UnitId, VcpuId};
@@ -193,235 +193,91 @@ fn core_count(config: &Config) -> u8
     config.processors / config.granularity
 }
 
-/// The first stall, command or move of a core that may come at t.
-#[tactic(auto, unfolding(crate::specs::Search::moved_actions))]
-fn first_up_to_moved(machine: &Machine, state: &State, t: Moment) -> Option<Action>
-    requires machine { MachineFits machine.now }
-    requires state { StateFits state.now }
-    ensures { result ≡ find (is_action_enabled machine.now state.entry.now t.0)
-        (moved_actions machine.now.config) }
-{
-    if is_enabled(machine, state, t, Action::Stall) {
-        return Some(Action::Stall);
-    }
-    if is_enabled(machine, state, t, Action::Xl) {
-        return Some(Action::Xl);
-    }
-    first_numbered(
-        machine,
-        state,
-        t,
-        Numbered::Moved,
-        0,
-        core_count(&machine.config),
-    )
+/// The kinds of action.
+#[derive(Clone, Copy)]
+pub enum Kind {
+    Stall,
+    Xl,
+    Wake,
+    Repl,
+    Of(Numbered),
 }
 
-/// The first up to the moves of domains.
-#[tactic(auto, using(crate::proofs::Searching::found_in_both), unfolding(crate::specs::Search::dom_moved_actions))]
-fn first_up_to_dom_moved(machine: &Machine, state: &State, t: Moment) -> Option<Action>
+/// The action, where it may come at t.
+fn if_enabled(machine: &Machine, state: &State, t: Moment, action: Action) -> Option<Action>
     requires machine { MachineFits machine.now }
     requires state { StateFits state.now }
-    ensures { result ≡ find (is_action_enabled machine.now state.entry.now t.0)
-        (dom_moved_actions machine.now.config) }
+    ensures { result ≡ find (is_action_enabled machine.now state.entry.now t.0) (action ∷ []) }
 {
-    match first_up_to_moved(machine, state, t) {
-        Some(action) => Some(action),
-        None => first_numbered(
-            machine,
-            state,
-            t,
-            Numbered::DomMoved,
-            0,
-            machine.config.domains.len() as u8,
-        ),
+    if is_enabled(machine, state, t, action) {
+        Some(action)
+    } else {
+        None
     }
 }
 
-/// The first up to the wakes.
-#[tactic(auto, using(crate::proofs::Searching::found_in_both), unfolding(crate::specs::Search::wake_actions))]
-fn first_up_to_wake(machine: &Machine, state: &State, t: Moment) -> Option<Action>
-    requires machine { MachineFits machine.now }
-    requires state { StateFits state.now }
-    ensures { result ≡ find (is_action_enabled machine.now state.entry.now t.0)
-        (wake_actions machine.now.config) }
+/// How many subjects there are of this kind: cores, processors or domains.
+fn count_of(machine: &Machine, kind: Numbered) -> u8
+    requires { MachineFits machine.now }
+    ensures exact { result ≡ count_of_spec machine.now.config kind }
+    ensures few { result ≤ 64 }
 {
-    match first_up_to_dom_moved(machine, state, t) {
-        Some(action) => Some(action),
-        None => first_wake(
-            machine,
-            state,
-            t,
-            DomId(0),
-            machine.config.domains.as_slice(),
-        ),
+    let config = &machine.config;
+    match kind {
+        Numbered::Moved => core_count(config),
+        Numbered::DomMoved => config.domains.len() as u8,
+        Numbered::Block => config.processors,
+        Numbered::Slice => core_count(config),
+        Numbered::Refill => config.domains.len() as u8,
+        Numbered::Arrive => config.processors,
+        Numbered::Decide => core_count(config),
+        Numbered::Leave => config.processors,
+        Numbered::Save => core_count(config),
     }
 }
 
-/// The first up to the blocks.
-#[tactic(auto, using(crate::proofs::Searching::found_in_both), unfolding(crate::specs::Search::block_actions))]
-fn first_up_to_block(machine: &Machine, state: &State, t: Moment) -> Option<Action>
+/// The first action of this kind that may come at t.
+fn first_of(machine: &Machine, state: &State, t: Moment, kind: Kind) -> Option<Action>
     requires machine { MachineFits machine.now }
     requires state { StateFits state.now }
     ensures { result ≡ find (is_action_enabled machine.now state.entry.now t.0)
-        (block_actions machine.now.config) }
+        (actions_of machine.now.config kind) }
 {
-    match first_up_to_wake(machine, state, t) {
-        Some(action) => Some(action),
-        None => first_numbered(
-            machine,
-            state,
-            t,
-            Numbered::Block,
-            0,
-            machine.config.processors,
-        ),
-    }
-}
-
-/// The first up to the slices.
-#[tactic(auto, using(crate::proofs::Searching::found_in_both), unfolding(crate::specs::Search::slice_actions))]
-fn first_up_to_slice(machine: &Machine, state: &State, t: Moment) -> Option<Action>
-    requires machine { MachineFits machine.now }
-    requires state { StateFits state.now }
-    ensures { result ≡ find (is_action_enabled machine.now state.entry.now t.0)
-        (slice_actions machine.now.config) }
-{
-    match first_up_to_block(machine, state, t) {
-        Some(action) => Some(action),
-        None => first_numbered(
-            machine,
-            state,
-            t,
-            Numbered::Slice,
-            0,
-            core_count(&machine.config),
-        ),
-    }
-}
-
-/// The first up to the replenishments.
-#[tactic(auto, using(crate::proofs::Searching::found_in_both), unfolding(crate::specs::Search::repl_actions))]
-fn first_up_to_repl(machine: &Machine, state: &State, t: Moment) -> Option<Action>
-    requires machine { MachineFits machine.now }
-    requires state { StateFits state.now }
-    ensures { result ≡ find (is_action_enabled machine.now state.entry.now t.0)
-        (repl_actions machine.now.config) }
-{
-    match first_up_to_slice(machine, state, t) {
-        Some(action) => Some(action),
-        None => first_repl(
+    match kind {
+        Kind::Stall => if_enabled(machine, state, t, Action::Stall),
+        Kind::Xl => if_enabled(machine, state, t, Action::Xl),
+        Kind::Wake => first_wake(
             machine,
             state,
             t,
             DomId(0),
             machine.config.domains.as_slice(),
         ),
-    }
-}
-
-/// The first up to the refills.
-#[tactic(auto, using(crate::proofs::Searching::found_in_both), unfolding(crate::specs::Search::refill_actions))]
-fn first_up_to_refill(machine: &Machine, state: &State, t: Moment) -> Option<Action>
-    requires machine { MachineFits machine.now }
-    requires state { StateFits state.now }
-    ensures { result ≡ find (is_action_enabled machine.now state.entry.now t.0)
-        (refill_actions machine.now.config) }
-{
-    match first_up_to_repl(machine, state, t) {
-        Some(action) => Some(action),
-        None => first_numbered(
+        Kind::Repl => first_repl(
             machine,
             state,
             t,
-            Numbered::Refill,
-            0,
-            machine.config.domains.len() as u8,
+            DomId(0),
+            machine.config.domains.as_slice(),
         ),
+        Kind::Of(kind) => first_numbered(machine, state, t, kind, 0, count_of(machine, kind)),
     }
 }
 
-/// The first up to the arrivals.
-#[tactic(auto, using(crate::proofs::Searching::found_in_both), unfolding(crate::specs::Search::arrive_actions))]
-fn first_up_to_arrive(machine: &Machine, state: &State, t: Moment) -> Option<Action>
+/// The first action of these kinds, one after another, that may come at t.
+#[tactic(auto, using(crate::proofs::Searching::found_in_both))]
+fn first_in(machine: &Machine, state: &State, t: Moment, kinds: &[Kind]) -> Option<Action>
     requires machine { MachineFits machine.now }
     requires state { StateFits state.now }
     ensures { result ≡ find (is_action_enabled machine.now state.entry.now t.0)
-        (arrive_actions machine.now.config) }
+        (actions_in machine.now.config kinds.now) }
 {
-    match first_up_to_refill(machine, state, t) {
-        Some(action) => Some(action),
-        None => first_numbered(
-            machine,
-            state,
-            t,
-            Numbered::Arrive,
-            0,
-            machine.config.processors,
-        ),
-    }
-}
-
-/// The first up to the decisions.
-#[tactic(auto, using(crate::proofs::Searching::found_in_both), unfolding(crate::specs::Search::decide_actions))]
-fn first_up_to_decide(machine: &Machine, state: &State, t: Moment) -> Option<Action>
-    requires machine { MachineFits machine.now }
-    requires state { StateFits state.now }
-    ensures { result ≡ find (is_action_enabled machine.now state.entry.now t.0)
-        (decide_actions machine.now.config) }
-{
-    match first_up_to_arrive(machine, state, t) {
-        Some(action) => Some(action),
-        None => first_numbered(
-            machine,
-            state,
-            t,
-            Numbered::Decide,
-            0,
-            core_count(&machine.config),
-        ),
-    }
-}
-
-/// The first up to the leaves.
-#[tactic(auto, using(crate::proofs::Searching::found_in_both), unfolding(crate::specs::Search::leave_actions))]
-fn first_up_to_leave(machine: &Machine, state: &State, t: Moment) -> Option<Action>
-    requires machine { MachineFits machine.now }
-    requires state { StateFits state.now }
-    ensures { result ≡ find (is_action_enabled machine.now state.entry.now t.0)
-        (leave_actions machine.now.config) }
-{
-    match first_up_to_decide(machine, state, t) {
-        Some(action) => Some(action),
-        None => first_numbered(
-            machine,
-            state,
-            t,
-            Numbered::Leave,
-            0,
-            machine.config.processors,
-        ),
-    }
-}
-
-/// The first up to the saves.
-#[tactic(auto, using(crate::proofs::Searching::found_in_both), unfolding(crate::specs::Search::save_actions))]
-fn first_up_to_save(machine: &Machine, state: &State, t: Moment) -> Option<Action>
-    requires machine { MachineFits machine.now }
-    requires state { StateFits state.now }
-    ensures { result ≡ find (is_action_enabled machine.now state.entry.now t.0)
-        (save_actions machine.now.config) }
-{
-    match first_up_to_leave(machine, state, t) {
-        Some(action) => Some(action),
-        None => first_numbered(
-            machine,
-            state,
-            t,
-            Numbered::Save,
-            0,
-            core_count(&machine.config),
-        ),
+    match kinds {
+        [] => None,
+        [kind, rest @ ..] => match first_of(machine, state, t, *kind) {
+            Some(action) => Some(action),
+            None => first_in(machine, state, t, rest),
+        },
     }
 }
 
@@ -431,5 +287,20 @@ pub fn first_enabled(machine: &Machine, state: &State, t: Moment) -> Option<Acti
     requires state { StateFits state.now }
     ensures { result ≡ first_enabled_action machine.now state.entry.now t.0 }
 {
-    first_up_to_save(machine, state, t)
+    let kinds = [
+        Kind::Stall,
+        Kind::Xl,
+        Kind::Of(Numbered::Moved),
+        Kind::Of(Numbered::DomMoved),
+        Kind::Wake,
+        Kind::Of(Numbered::Block),
+        Kind::Of(Numbered::Slice),
+        Kind::Repl,
+        Kind::Of(Numbered::Refill),
+        Kind::Of(Numbered::Arrive),
+        Kind::Of(Numbered::Decide),
+        Kind::Of(Numbered::Leave),
+        Kind::Of(Numbered::Save),
+    ];
+    first_in(machine, state, t, &kinds)
 }

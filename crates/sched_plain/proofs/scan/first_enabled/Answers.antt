@@ -1,6 +1,8 @@
-use Rattle.sched_plain.specs.Search.{moved_actions, dom_moved_actions, wake_actions, block_actions, slice_actions, repl_actions, refill_actions, arrive_actions, decide_actions, leave_actions, save_actions}
+use Rattle.std.proofs.Common.{◌∙◌, sym, ap}
+use Rattle.std.specs.Prelude.{find}
+use Rattle.sched_model.specs.Machine.{is_action_enabled}
+use Rattle.sched_plain.proofs.Searching.{candidates-in}
 use Rattle.sched_plain.proofs.scan.first_enabled.Goals as goal
 
 pub returns : goal.returns
-unfolding moved_actions dom_moved_actions wake_actions block_actions slice_actions repl_actions refill_actions arrive_actions decide_actions leave_actions save_actions
-returns c = c.first_up_to_save.ensures
+returns c = c.first_in.ensures ∙ ap (find (is_action_enabled c.args.machine.now c.args.state.now c.args.t.0)) (sym (candidates-in c.args.machine.now.config))
