@@ -5,8 +5,8 @@ use Rattle.machine_parts.proofs.Stepping.{few-pools, stand-done, state-done, ste
 use Rattle.machine_parts.proofs.among.perform_among.Goals as goal
 use Rattle.sched_laws.proofs.Lists.{same_read}
 
-pub bounds-slots-i : goal.bounds-slots-i
-bounds-slots-i c =
+pub bounds-slots-place : goal.bounds-slots-place
+bounds-slots-place c =
     let few = few-pools c.args.trail.now c.requires.goes c.args.t.0 c.requires.now c.args.action c.requires.own c.requires.enabled c.args.place c.requires.home in
     let count = c.requires.stand.count in
     omega (arith, few, count)

@@ -14,8 +14,8 @@ use Rattle.sched_plain.proofs.command.accept.Goals as goal
 pub pool_of_plan-home-requires : goal.pool_of_plan-home-requires
 pool_of_plan-home-requires c = (stands-state c.args.machine.now c.args.state.now c.requires.stands).few_pools
 
-pub overflow_add-s : goal.overflow_add-s
-overflow_add-s c = (let low = few-commands c.args.machine.now c.args.state.now c.requires.stands in omega (arith, low))
+pub overflow_add-state : goal.overflow_add-state
+overflow_add-state c = (let low = few-commands c.args.machine.now c.args.state.now c.requires.stands in omega (arith, low))
 
 pub carry_out-requires-clause-early : goal.carry_out-requires-clause-early
 carry_out-requires-clause-early c = stands-early c.args.machine.now c.args.state.now c.requires.stands

@@ -9,10 +9,10 @@ use Rattle.sched_plain.proofs.stall.stall.Goals.{In-Some}
 next_line : (c : In-Some) → slice_get c.args.machine.now.work.stalls c.args.state.now.next_stall ≡ Some c.in-Some.line.now
 next_line c = rw c.as_slice.ensures at (slice_get-read c.as_slice.result.now c.args.state.now.next_stall c.in-Some.line.now c.in-Some.ensures.lookup.3.0 (c.in-Some.ensures.lookup.3.1 c.in-Some.line.now))
 
-pub overflow_add-s : goal.overflow_add-s
-overflow_add-s c = (
+pub overflow_add-state : goal.overflow_add-state
+overflow_add-state c = (
     let early = stands-early c.args.machine.now c.args.state.now c.requires.stands in
-    let low = stall-span c.args.machine.now c.args.state.now c.in-Some.line.now c.requires.stands (next_line (goal.at.overflow_add-s c).In-Some) in
+    let low = stall-span c.args.machine.now c.args.state.now c.in-Some.line.now c.requires.stands (next_line (goal.at.overflow_add-state c).In-Some) in
     omega (arith, early, low))
 
 pub stall_end_of-until-requires-clause-few : goal.stall_end_of-until-requires-clause-few

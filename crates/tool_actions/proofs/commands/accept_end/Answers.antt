@@ -8,8 +8,8 @@ use Rattle.tool_actions.proofs.Spared.{gone-below, gone-may, gone-read, gone-slo
 use Rattle.tool_actions.proofs.Stalling.{stands-read}
 use Rattle.tool_actions.proofs.commands.accept_end.Goals as goal
 
-pub bounds-slots-i : goal.bounds-slots-i
-bounds-slots-i c = gone-below c.args.trail.now c.args.slots.now c.args.tool.now c.requires.parts c.requires.enabled c.args.plan.now c.requires.accepted c.args.pool c.requires.destroys
+pub bounds-slots-pool : goal.bounds-slots-pool
+bounds-slots-pool c = gone-below c.args.trail.now c.args.slots.now c.args.tool.now c.requires.parts c.requires.enabled c.args.plan.now c.requires.accepted c.args.pool c.requires.destroys
 
 pub destroy-requires-clause-stands : goal.destroy-requires-clause-stands
 destroy-requires-clause-stands c =

@@ -3,8 +3,8 @@ use Rattle.machine_parts.specs.Places.{state_of}
 use Rattle.tool_actions.proofs.Spared.{is-idle, is-left, new-below, new-empty, new-read, new-spare, parts-new, spares-new}
 use Rattle.tool_actions.proofs.commands.accept_new.Goals as goal
 
-pub bounds-slots-i : goal.bounds-slots-i
-bounds-slots-i c = new-below c.args.trail.now c.args.slots.now c.args.tool.now c.requires.parts c.requires.enabled c.args.plan.now c.requires.accepted c.args.pool c.args.kind c.requires.makes
+pub bounds-slots-pool : goal.bounds-slots-pool
+bounds-slots-pool c = new-below c.args.trail.now c.args.slots.now c.args.tool.now c.requires.parts c.requires.enabled c.args.plan.now c.requires.accepted c.args.pool c.args.kind c.requires.makes
 
 pub create-requires-clause-empty : goal.create-requires-clause-empty
 create-requires-clause-empty c =

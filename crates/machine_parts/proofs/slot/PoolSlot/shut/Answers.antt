@@ -22,5 +22,5 @@ returns-clause-spare c =
     let d : Seen = c.deref_mut.result.now in
     let placed : IsPlaced d = subst IsPlaced (sym c.deref_mut.ensures.value) (c.self.invariant c.in-Some.pool at) in
     let here : c.args.self.now ≡ Some d = view-some _ _ _ c.self.view_is c.in-Some.pool at ∙ ap Some (sym c.deref_mut.ensures.value) in
-    subst (λ (s : Seen). IsSpare c.args.at.now.input (state_of c.args.at.now).now (records_kind s.pool.scheduler.records) s) (sym c.shut.ensures)
-    (shut-spare c.args.at.now c.requires.goes c.args.i d (subst (StandsAt c.args.at.now c.args.i) here c.requires.stands) (c.requires.empty d here) placed)
+    subst (λ (s : Seen). IsSpare c.args.trail.now.input (state_of c.args.trail.now).now (records_kind s.pool.scheduler.records) s) (sym c.shut.ensures)
+    (shut-spare c.args.trail.now c.requires.goes c.args.place d (subst (StandsAt c.args.trail.now c.args.place) here c.requires.stands) (c.requires.empty d here) placed)
