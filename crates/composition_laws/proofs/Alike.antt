@@ -1,5 +1,5 @@
 -- Two states that have the same pools with the same cores and domains, and the same free cores with the same targets; and the steps that leave them alike.
-use Rattle.std.proofs.Common.{◌≡◌, ℕ, Bool, false, List, [], ◌∷◌, refl, subst, sym, ◌∙◌}
+use Rattle.std.proofs.Common.{◌≡◌, ℕ, Bool, false, List, [], ◌∷◌, refl, subst, sym}
 use Rattle.std.specs.Prelude.{Option, Some, None, is_some, option_map, ◌+◌, ◌/◌, ◌%◌, unwrap_or}
 use mathlib.Core.Logic.{dite}
 use native.Mathlib.Decide.{ℕ_discrete}

@@ -1,6 +1,6 @@
 -- Lists of units, with one more or one less, and what holds of each unit that is queued.
-use Rattle.std.proofs.Common.{◌≡◌, ◌+◌, ℕ, Bool, true, false, not, List, [], ◌∷◌, ◌++◌, length, map, refl, subst, sym, cond, arith, inl, inr}
-use Rattle.std.specs.Prelude.{◌||◌, if◌then◌else◌, nat_lt}
+use Rattle.std.proofs.Common.{◌≡◌, ◌+◌, Bool, true, false, not, List, [], ◌∷◌, ◌++◌, length, map, refl, subst, sym, cond, arith, inl, inr}
+use Rattle.std.specs.Prelude.{if◌then◌else◌, nat_lt}
 use Rattle.std.specs.List.{AllByRecursion}
 use Rattle.sched_base.specs.declared.UnitId.{UnitId}
 use Rattle.sched_model.specs.Places.{has_listed_unit, without_unit, same_unit}
@@ -8,11 +8,8 @@ use Rattle.sched_base.proofs.Bools.{or_left, or_right, or_more}
 use Rattle.sched_laws.proofs.Choices.{same_unit_same}
 use Rattle.sched_laws.proofs.Counts.{same_unit_refl}
 use Rattle.sched_ops.specs.Conditions.{IsApart}
-use Rattle.arrival_queue.specs.Queues.{Queued, put_first, list_with, list_without, is_of, closed_up}
+use Rattle.arrival_queue.specs.Queues.{Queued, put_first, list_with}
 use Rattle.queue_laws.specs.Arrivals.{arrival_order, arrivals}
-use Rattle.queue_laws.proofs.Once.{each_closed}
-use Rattle.queue_laws.proofs.Removed.{each_without}
-use Rattle.queue_laws.proofs.Arrivals.{each_arrived}
 use Rattle.std.proofs.Math.Bool.{or-true}
 use Rattle.std.proofs.lemmas.Bool.{or_from, cases_Bool}
 

@@ -1,5 +1,5 @@
 -- What the sets of cores and the records of a pool have in common, and what is kept beside them.
-use Rattle.std.specs.Prelude.{ℕ, ◌+◌, List, [], ◌∷◌, Option, Some, None, option_map, map, length}
+use Rattle.std.specs.Prelude.{ℕ, List, Option, Some, None, option_map, map, length}
 use Rattle.sched_base.specs.Numbers.{moment}
 use Rattle.sched_base.specs.declared.Cores.{Cores}
 use Rattle.sched_base.specs.declared.Moment.{Moment}

@@ -1,5 +1,5 @@
 -- A loop that checks one element after another, beside the definition over all of them.
-use Rattle.std.proofs.Common.{◌≡◌, ℕ, ◌+◌, ◌<◌, ◌≤◌, List, [], ◌∷◌, ◌++◌, drop, map, Result, Ok, ◌∙◌}
+use Rattle.std.proofs.Common.{◌≡◌, ℕ, List, ◌++◌, drop, map, Result, Ok}
 use Rattle.dom_file.specs.Steps.{◌>>=◌, each}
 
 -- the first i elements gave the list done, and the rest decides the whole

@@ -1,6 +1,6 @@
 -- The numbers of a pool are in range.
 use Rattle.sched_model.specs.CheckedMachine.{most_span}
-use Rattle.std.specs.Prelude.{◌≤◌, ◌<◌, [], ◌∷◌, length}
+use Rattle.std.specs.Prelude.{◌≤◌, ◌<◌, length}
 use Rattle.std.specs.Option.{ForSome}
 use Rattle.std.specs.List.{All, AllByRecursion}
 use Rattle.sched_base.specs.declared.Moment.{Moment}

@@ -1,10 +1,9 @@
 -- What the calls of the queues make of the order of arrival.
-use Rattle.std.proofs.Common.{◌≡◌, ◌≢◌, ◌<◌, ℕ, Bool, true, false, List, [], ◌∷◌, ◌++◌, map, refl, sym, ◌∙◌, ap, subst, inl, inr, append_assoc, length-append}
-use Rattle.std.specs.Prelude.{◌||◌, if◌then◌else◌}
+use Rattle.std.proofs.Common.{◌≡◌, ◌≢◌, ◌<◌, ℕ, Bool, true, false, List, [], ◌∷◌, ◌++◌, map, refl, sym, ◌∙◌, ap, subst, append_assoc, length-append}
 use Rattle.std.specs.List.{AllByRecursion}
 use Rattle.sched_base.specs.declared.UnitId.{UnitId}
 use Rattle.sched_model.specs.Places.{without_unit, has_listed_unit}
-use Rattle.arrival_queue.specs.Queues.{Queued, queued_unit, is_of, list_without, rank_in, closed_up, has_unit}
+use Rattle.arrival_queue.specs.Queues.{Queued, queued_unit, list_without, rank_in, closed_up, has_unit}
 use Rattle.arrival_queue.specs.Order.{IsInOrder, EachRankOnce, EachUnitOnce}
 use Rattle.rtds_queue.specs.declared.RtdsKey.{RtdsKey}
 use Rattle.rtds_queue.specs.Lists.{Lists, key_of, holds, count, rank_of, lists_after_arrival, after_remove, after_renew}
@@ -16,7 +15,6 @@ use Rattle.rtds_core.specs.Best.{queue_of}
 use Rattle.arrival_queue.proofs.Counting.{without-append, has_unit-append}
 use Rattle.arrival_queue.proofs.Changes.{rank_in-append}
 use Rattle.std.proofs.lemmas.List.{append-nil}
-use Rattle.std.proofs.lemmas.Bool.{cases_Bool}
 
 -- what the queues tell of themselves
 pub record IsOrdered (q : Lists) : Type 0 where

@@ -1,5 +1,5 @@
 -- Which numbers stand in a list that is made from others.
-use Rattle.std.proofs.Common.{◌≡◌, ℕ, zero, suc, List, [], ◌∷◌, ◌++◌, refl, subst, inl, inr, ◌⊎◌}
+use Rattle.std.proofs.Common.{◌≡◌, ℕ, zero, suc, List, [], ◌∷◌, refl, subst, inl, inr}
 use Rattle.std.specs.Prelude.{Option, Some, None, slice_get, map, filter_map}
 use Rattle.std.specs.List.{cons_option}
 use Rattle.sched_base.specs.declared.Moment.{Moment}

@@ -1,6 +1,6 @@
 -- What is known of the parts of a test.
-use Rattle.std.proofs.Common.{◌≡◌, ◌≤◌, Bool, true, false, not, refl, ◌⊎◌, arith}
-use Rattle.std.specs.Prelude.{◌&&◌, ◌||◌, ◌==◌}
+use Rattle.std.proofs.Common.{◌≡◌, ◌≤◌, Bool, true, false, not, refl, arith}
+use Rattle.std.specs.Prelude.{◌&&◌, ◌||◌}
 use Rattle.sched_base.specs.Numbers.{one_if}
 
 pub and_left : (a b : Bool) → (a && b) ≡ true → a ≡ true

@@ -1,5 +1,5 @@
 -- What holds of each item of a list.
-use Rattle.std.proofs.Common.{◌≡◌, ℕ, zero, suc, Bool, true, false, List, [], ◌∷◌, ◌++◌, ◌⊎◌, inl, inr, refl, subst, cond}
+use Rattle.std.proofs.Common.{◌≡◌, ℕ, zero, suc, Bool, true, false, List, [], ◌∷◌, ◌++◌, inl, inr, refl, subst, cond}
 use Rattle.std.specs.Prelude.{Some, None, find, filter, slice_get}
 use Rattle.std.specs.List.{AllByRecursion}
 use Rattle.sched_base.specs.Lists.{Has}

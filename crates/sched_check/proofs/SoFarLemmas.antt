@@ -8,11 +8,9 @@ use Rattle.sched_model.specs.declared.event.Entry.{Entry}
 use Rattle.sched_model.specs.declared.machine.Machine.{Machine}
 use Rattle.sched_model.specs.Runs.{Reached, run_start, after_entry, after_entries}
 use Rattle.sched_model.proofs.RunLemmas.{after_entries-append, IsRunFrom-append}
-use Rattle.run_laws.specs.RunLaws.{IsOrderedFrom}
 use Rattle.sched_print.specs.Line.{words, line, text}
 use Rattle.sched_print.specs.Ranges.{IsPrintable}
 use Rattle.sched_check.specs.Checking.{Checking, IsTaken}
-use Rattle.sched_check.specs.declared.verdict.Cause.TheVariants as cause
 use Rattle.sched_check.specs.ScheduleVerdict.{IsBegun, IsTakenLine}
 use Rattle.run_laws.proofs.Ordered.{IsOrderedFrom-append}
 

@@ -1,5 +1,5 @@
 -- How counts of faults compose.
-use Rattle.std.proofs.Common.{ℕ, ◌^◌, ◌<◌, ◌≤◌, arith}
+use Rattle.std.proofs.Common.{ℕ, ◌<◌, ◌≤◌, arith}
 use Rattle.sched_io.specs.Faults.{Rose}
 
 -- a count that rose has risen later too

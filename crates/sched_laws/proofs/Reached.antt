@@ -1,5 +1,5 @@
 -- What is known of the state that the entries of a run lead to: where to begin, for whoever needs such a fact.
-use Rattle.std.proofs.Common.{◌≡◌, ◌≤◌, ℕ, true, List, [], ◌∷◌, length}
+use Rattle.std.proofs.Common.{◌≡◌, ℕ, true, List, length}
 use Rattle.std.specs.Prelude.{Some}
 use Rattle.sched_model.specs.declared.event.Entry.{Entry}
 use Rattle.sched_model.specs.declared.machine.Machine.{Machine}

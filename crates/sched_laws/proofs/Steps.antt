@@ -35,7 +35,7 @@ use Rattle.sched_laws.proofs.Fits.{ChangeFits, RtdsFits}
 use Rattle.sched_model.specs.declared.state.Records.{Records}
 use Rattle.sched_model.specs.declared.state.RtdsUnit.{RtdsUnit}
 use Rattle.sched_model.specs.declared.state.Processor.{Processor}
-use Rattle.sched_model.specs.declared.state.Records.TheVariants.{Credit2Pool, RtdsPool}
+use Rattle.sched_model.specs.declared.state.Records.TheVariants.{RtdsPool}
 use Rattle.sched_model.specs.declared.state.Resource.{Resource}
 
 -- of what is known of the pools before, B, each step leaves the weaker fact H, and looking at the cores makes the fact I of it, which B says too. The moment is t;

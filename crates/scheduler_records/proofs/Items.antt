@@ -1,5 +1,5 @@
 -- Changes of one item of a list, and what holds of each item.
-use Rattle.std.proofs.Common.{◌≡◌, ◌<◌, ℕ, zero, suc, List, [], ◌∷◌, ◌++◌, ◌∙◌, refl, sym, ap, subst, arith, Bool, true, false, cond}
+use Rattle.std.proofs.Common.{◌≡◌, ℕ, zero, suc, List, [], ◌∷◌, refl, sym, ap, subst, arith, Bool, true, false, cond}
 use Rattle.std.specs.Prelude.{filter, ◌&&◌, Some, None, slice_get, slice_set}
 use Rattle.std.specs.List.{All}
 use Rattle.sched_model.specs.Places.{change_item}

@@ -1,6 +1,6 @@
 -- What the budgets of a pool's domains keep at a decision, a refill and a change of parameters.
 use Rattle.state_ranges.proofs.Rtds.{last_later, still_last}
-use Rattle.std.proofs.Common.{◌≡◌, ◌≢◌, ◌≤◌, ◌+◌, ◌*◌, ◌/◌, ◌%◌, ℕ, zero, suc, true, List, [], ◌∷◌, refl, arith, subst, sym, ap, cond, ◌⊎◌, inl, inr, length}
+use Rattle.std.proofs.Common.{◌≡◌, ◌≢◌, ◌≤◌, ◌*◌, ◌/◌, ◌%◌, ℕ, zero, suc, true, List, [], ◌∷◌, refl, arith, subst, sym, ap, cond, ◌⊎◌, inl, inr, length}
 use Rattle.std.proofs.Math.Nat.{div-le_self}
 use Rattle.std.specs.Prelude.{Option, Some, None, unwrap_or, slice_get, map, max, replicate, is_some, sum_by, ◌==◌, ℤ, pos, negsuc, neg_ℤ, ◌+ℤ◌, ◌-ℤ◌, ◌≤ℤ◌}
 use Rattle.std.specs.Int.{int_min}

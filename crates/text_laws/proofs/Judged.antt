@@ -15,7 +15,6 @@ use Rattle.sched_model.specs.declared.command.Command.{Command}
 use Rattle.sched_model.specs.declared.command.Command.TheVariants as command
 use Rattle.sched_model.specs.declared.command.ArincEntry.{ArincEntry}
 use Rattle.sched_model.specs.declared.command.Syntax.{Syntax}
-use Rattle.sched_model.specs.declared.command.Which.{Which}
 use Rattle.sched_model.specs.declared.config.SchedKind.{SchedKind}
 use Rattle.sched_model.specs.declared.config.SchedKind.TheVariants as kinds
 use Rattle.sched_model.specs.declared.config.FrameEntry.{FrameEntry}
@@ -37,11 +36,11 @@ use Rattle.sched_model.specs.declared.work.CommandLine.{CommandLine}
 use Rattle.sched_model.specs.Places.{at_place, first_place, first_empty, numbered_items}
 use Rattle.sched_model.specs.Opening.{machine_core_count}
 use Rattle.sched_model.specs.CheckedMachine.{IsChecked, IsCheckedCommand, IsCheckedEntry, IsCheckedRange, IsGivenNumber, IsNumber, most_span}
-use Rattle.sched_model.specs.Actions.{home_pool_of_core, home_pool_of_domain}
+use Rattle.sched_model.specs.Actions.{home_pool_of_core}
 use Rattle.sched_model.specs.Policy.{records_kind, pool_rate_limit, unit_rtds_record, domain_credit2_record}
 use Rattle.sched_model.specs.Pool.{domain_unit_count}
 use Rattle.sched_model.specs.Machine.{line_verdict, answer_of}
-use Rattle.sched_model.specs.Commands.{in_range, is_same_kind, name_fault, pool_named, last_core_fault, rtds_fault, rtds_units, cpu_refusal, elsewhere_refusal, has_vcpu, judged_command, meant_pool, meant_domain, with_pool, answer_for_domain, demand, demand_range, refused_by, judge_frame, judged_frame_entry, judged_frame_entries, cores_in, domains_in, judge_rtds, plan_reply}
+use Rattle.sched_model.specs.Commands.{in_range, is_same_kind, name_fault, pool_named, last_core_fault, rtds_fault, rtds_units, cpu_refusal, elsewhere_refusal, has_vcpu, judged_command, meant_domain, demand, refused_by, judge_frame, judged_frame_entry, judged_frame_entries, cores_in, domains_in, judge_rtds, plan_reply}
 use Rattle.sched_laws.proofs.EachPlace.{by_option, by_cond, found_at, place_below}
 use Rattle.state_ranges.specs.Ranges.{RecordsInRange}
 use Rattle.state_ranges.proofs.Rtds.{fit_unit}

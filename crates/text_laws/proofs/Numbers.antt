@@ -1,7 +1,7 @@
 -- What is known of the numbers of a state, as far as entries print them.
 use Rattle.sched_laws.proofs.Lists.{some_is}
 use Rattle.std.proofs.lemmas.Option.{slice_get_within}
-use Rattle.std.proofs.Common.{◌≡◌, ◌<◌, ◌≤◌, ◌*◌, ◌/◌, ℕ, suc, true, List, [], ◌∷◌, refl, arith, ◌∙◌, ap, length}
+use Rattle.std.proofs.Common.{◌≡◌, ◌<◌, ◌≤◌, ◌*◌, ◌/◌, ℕ, suc, true, List, [], ◌∷◌, arith, ◌∙◌, ap, length}
 use Rattle.std.specs.Prelude.{Option, Some, None, is_some, option_map, slice_get}
 use Rattle.std.proofs.lemmas.List.Elements.{recursion_from_All}
 use Rattle.std.specs.Option.{IfSome}

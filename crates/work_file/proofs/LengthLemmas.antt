@@ -1,5 +1,5 @@
 -- The texts that are made from a number are short.
-use Rattle.std.proofs.Common.{◌≡◌, ◌<◌, ◌≤◌, ◌+◌, ◌-◌, ◌*◌, ◌/◌, ◌%◌, ◌^◌, ◌++◌, ℕ, zero, suc, Bool, true, false, List, [], length, arith, length-append, codes}
+use Rattle.std.proofs.Common.{◌<◌, ◌≤◌, ◌+◌, ◌-◌, ◌*◌, ◌/◌, ◌^◌, ◌++◌, ℕ, zero, suc, Bool, true, false, List, [], length, arith, length-append, codes}
 use Rattle.std.specs.Prelude.{decimal, if◌then◌else◌, nat_lt, ◌==◌}
 use Rattle.std.proofs.Math.Nat.{mod-lt, mul-le-mul_left}
 use Rattle.std.proofs.lemmas.Fmt.{length-decimal-le}

@@ -1,4 +1,4 @@
-use Rattle.std.proofs.Common.{◌≡◌, ◌∷◌, [], ◌++◌, ◌/◌, ◌%◌, ◌≤◌, ◌+◌, decimal, ap, sym, ◌∙◌, List, ℕ, arith}
+use Rattle.std.proofs.Common.{◌∷◌, [], ◌++◌, ◌/◌, ◌+◌, ap, sym, ◌∙◌, List, ℕ}
 use Rattle.std.proofs.lemmas.Fmt.{decimal_digit}
 use Rattle.itoa.proofs.Decimal.{decimal_two}
 use Rattle.sched_print.proofs.line_buf.LineBuf.put_number.Goals as goal
