@@ -1,5 +1,5 @@
 -- What a change of one core makes of what a pool's cores keep.
-use Rattle.std.proofs.Common.{◌≡◌, ◌≢◌, ◌≤◌, ◌<◌, ◌+◌, ◌-◌, ◌*◌, ◌/◌, ◌^◌, ◌⊎◌, ℕ, zero, suc, List, [], ◌∷◌, ◌∙◌, refl, sym, ap, subst, arith, length, inl, inr}
+use Rattle.std.proofs.Common.{◌≡◌, ◌≢◌, ◌≤◌, ◌<◌, ◌+◌, ◌-◌, ◌*◌, ◌/◌, ◌⊎◌, ℕ, zero, suc, List, [], ◌∷◌, ◌∙◌, refl, sym, ap, subst, arith, length, inl, inr}
 use Rattle.std.specs.Prelude.{Bool, not, true, false, Option, Some, None, option_map, replicate, slice_set, if◌then◌else◌}
 use Rattle.std.specs.List.{list_any}
 use Rattle.std.proofs.Math.Decide.{ℕ_discrete}
@@ -13,10 +13,9 @@ use Rattle.sched_model.specs.declared.state.Processor.{Processor}
 use Rattle.sched_model.specs.declared.state.Resource.{Resource}
 use Rattle.sched_model.specs.declared.state.Stage.TheVariants.{Open, Decided}
 use Rattle.sched_model.specs.CheckedMachine.{IsGranularity}
-use Rattle.sched_model.specs.Places.{at_place, change_at, change_item, clear_at, first_place}
+use Rattle.sched_model.specs.Places.{at_place, change_at, clear_at, first_place}
 use Rattle.sched_model.specs.Pool.{cores_from, is_held_back, reopened_core, same_choice}
 use Rattle.sched_model.proofs.PlaceLemmas.{at_place-change_at_other, cores_from-change_at}
-use Rattle.sched_laws.specs.EachPlace.{EachPlace}
 use Rattle.due_heap.specs.Dues.{armed_moment}
 use Rattle.pool_laws.specs.ReadyMoments.{later_of, end_of, end_where, slice_moment, may_gather}
 use Rattle.core_state.specs.declared.dues.Dues.{Dues}
@@ -24,7 +23,6 @@ use Rattle.core_state.specs.Seen.{Seen, chosen_core, processor_among, with_sibli
 use Rattle.core_state.specs.Ends.{may_core_decide, may_core_save, may_core_part, ready_among}
 use Rattle.core_state.specs.CoreState.{AgreesBut, AreArmed, AreArmedBut, AreEmpty, IsKept, MayRearm}
 use Rattle.core_state.proofs.Arming.{block_past, but, other_core, processor_same, sibling_past, sibling_same, few_places}
-use Rattle.sched_laws.proofs.SiblingsLaw.{some_processor}
 use Rattle.sched_laws.proofs.Lists.{length_change_item}
 use Rattle.sched_laws.proofs.EachPlace.{at_place-change_at, at_place-replicate}
 

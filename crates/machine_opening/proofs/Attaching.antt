@@ -1,7 +1,7 @@
 -- The cores that came in so far, and the places that are still empty.
 use Rattle.std.proofs.Common.{◌≡◌, ◌+◌, ◌-◌, ◌<◌, ℕ, zero, suc, Bool, true, false, List, [], ◌∷◌, ◌++◌, refl, sym, ap, subst, ◌∙◌, cond, arith, length}
 use Rattle.std.specs.Prelude.{Option, Some, None, map, replicate, slice_set}
-use Rattle.std.proofs.lemmas.List.{length-append, length-replicate, replicate-append-replicate, set-get_or, append_assoc, append-nil}
+use Rattle.std.proofs.lemmas.List.{length-append, length-replicate, set-get_or, append_assoc}
 use Rattle.sched_base.specs.Numbers.{moment}
 use Rattle.sched_model.specs.declared.state.Resource.{Resource}
 use Rattle.sched_model.specs.Opening.{joined_core}

@@ -17,7 +17,7 @@ use Rattle.sched_laws.proofs.Opened.{read_pools}
 use Rattle.journal_core.specs.Parts.{pool_part}
 use Rattle.pool_core.specs.Seen.{Seen}
 use Rattle.machine_parts.specs.Told.{Told, told_new}
-use Rattle.machine_parts.specs.Places.{AllStand, SlotSuits, StandsAt, state_of}
+use Rattle.machine_parts.specs.Places.{SlotSuits, StandsAt, state_of}
 use Rattle.machine_parts.proofs.Going.{part_of-is, state_of-is}
 use Rattle.machine_parts.proofs.Rooming.{some-out}
 use Rattle.machine_parts.proofs.Standing.{part_below, pool_at, slot_part-is}

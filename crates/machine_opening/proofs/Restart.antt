@@ -1,5 +1,5 @@
 -- A pool that opens with the parameters of the file.
-use Rattle.std.proofs.Common.{◌≡◌, ◌+◌, ◌-◌, ℕ, zero, suc, true, List, [], ◌∷◌, ◌++◌, arith, sym, refl, ap, subst, ◌∙◌, length}
+use Rattle.std.proofs.Common.{◌≡◌, ◌+◌, ℕ, zero, suc, true, List, [], ◌∷◌, ◌++◌, arith, sym, refl, ap, subst, ◌∙◌, length}
 use Rattle.std.specs.Prelude.{Option, Some, None, map, replicate, slice_get}
 use Rattle.std.proofs.lemmas.List.{append-nil, length-replicate}
 use Rattle.sched_base.specs.declared.UnitId.{UnitId}

@@ -9,7 +9,7 @@ use Rattle.sched_model.specs.Policy.{has_better_waiting}
 use Rattle.sched_model.specs.Pool.{pool_core_set, reconsidered_core, settled_pool}
 use Rattle.sched_laws.specs.EachPlace.{EachPlace}
 use Rattle.pool_core.specs.Seen.{Seen, seen_at}
-use Rattle.machine_opening.specs.OpeningPool.{IsPending, IsStill, with_pool}
+use Rattle.machine_opening.specs.OpeningPool.{IsPending, with_pool}
 
 -- a core that is to decide
 core_stays : (t home r : ℕ) (scheduler : Scheduler) (c : Resource) → IsPending c → reconsidered_core t home scheduler r c ≡ c

@@ -21,7 +21,7 @@ use Rattle.pool_core.specs.Seen.{Seen}
 use Rattle.machine_parts.specs.declared.counts.KindCounts.{KindCounts}
 use Rattle.machine_parts.specs.Counts.{AreSpares, HasSpares, configured_of, most_at_once}
 use Rattle.machine_parts.specs.Kinds.{count_of}
-use Rattle.machine_parts.specs.Spares.{HasCorePlaces, IsIdle, IsSpare, Shelf, Shelves, shelf_of, shelf_with, shelves_with}
+use Rattle.machine_parts.specs.Spares.{HasCorePlaces, IsIdle, IsSpare, Shelf, Shelves, shelf_of, shelf_with}
 use Rattle.machine_parts.proofs.Keeping.{IsOther, shelf-filled}
 use Rattle.machine_opening.specs.OpeningShelves.{CanFill, filled_shelves, filled_for, filled_up, spare_seen}
 use Rattle.machine_opening.proofs.Tallying.{few_configured, in_use_new}

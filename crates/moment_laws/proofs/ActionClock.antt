@@ -1,5 +1,5 @@
 -- An action leaves the moment as it is, and how many lines of the workload are left to do but for its own.
-use Rattle.std.proofs.Common.{◌≡◌, ◌≤◌, ◌<◌, ◌+◌, ◌-◌, ◌/◌, ◌∙◌, ℕ, suc, Bool, true, false, List, [], ◌∷◌, refl, arith, ap, length}
+use Rattle.std.proofs.Common.{◌≡◌, ◌≤◌, ◌+◌, ◌-◌, ◌/◌, ◌∙◌, ℕ, suc, Bool, true, false, List, [], ◌∷◌, refl, arith, ap, length}
 use Rattle.std.specs.Prelude.{Option, Some, None, Result, Ok, Err, slice_get, nat_le, ◌&&◌, not}
 use Rattle.std.proofs.lemmas.Option.{slice_get_within}
 use Rattle.sched_model.specs.declared.action.Action.{Action}
@@ -10,7 +10,6 @@ use Rattle.sched_model.specs.declared.event.Entry.{Entry}
 use Rattle.sched_model.specs.declared.event.Refusal.{Refusal}
 use Rattle.sched_model.specs.declared.machine.Machine.{Machine}
 use Rattle.sched_model.specs.declared.plan.Plan.{Plan}
-use Rattle.sched_model.specs.declared.plan.Plan.TheVariants as plan
 use Rattle.sched_model.specs.declared.state.State.{State}
 use Rattle.sched_model.specs.declared.work.CommandLine.{CommandLine}
 use Rattle.sched_model.specs.declared.work.StallLine.{StallLine}

@@ -1,6 +1,6 @@
 -- What is to come of a state at its moment falls by one with each cause that is no line, stays with a stall, and grows by one at most with a command.
 use Rattle.std.proofs.Common.{◌≡◌, ◌≤◌, ◌+◌, ◌/◌, ℕ, zero, suc, Bool, true, false, List, [], ◌∷◌, refl, arith, ap, length}
-use Rattle.std.specs.Prelude.{Option, Some, None, Ok, Err, replicate, slice_get, unwrap_or, ◌==◌, ◌&&◌, ◌||◌}
+use Rattle.std.specs.Prelude.{Option, Some, None, Ok, Err, replicate, slice_get, unwrap_or, ◌==◌}
 use Rattle.sched_base.specs.Numbers.{moment, span, domain as domain_number, pool as pool_number, one_if}
 use Rattle.sched_base.specs.declared.Span.{Span}
 use Rattle.sched_base.specs.declared.UnitId.{UnitId}

@@ -1,5 +1,5 @@
 -- Sums over places by the numbers of the places, of several rows of places in either order, and over a list.
-use Rattle.std.proofs.Common.{◌≡◌, ◌≤◌, ◌<◌, ◌+◌, ℕ, zero, suc, true, false, List, [], ◌∷◌, refl, arith, ap, sym, ◌∙◌, length}
+use Rattle.std.proofs.Common.{◌≡◌, ◌≤◌, ◌+◌, ℕ, zero, suc, true, false, List, [], ◌∷◌, refl, arith, ap, sym, ◌∙◌, length}
 use Rattle.std.specs.Prelude.{Option, Some, None, is_some, slice_get}
 use Rattle.std.proofs.Math.Decide.{dec_le}
 use Rattle.sched_model.specs.Places.{at_place}

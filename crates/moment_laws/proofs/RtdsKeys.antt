@@ -1,5 +1,5 @@
 -- The keys of RTDS units, which alone decide which of them comes first.
-use Rattle.std.proofs.Common.{◌≡◌, ◌≤◌, ◌+◌, ℕ, zero, suc, Bool, true, false, not, List, [], ◌∷◌, refl, arith, ap, sym, ◌∙◌, ◌⊎◌, inl, inr}
+use Rattle.std.proofs.Common.{◌≡◌, ◌≤◌, ◌+◌, ℕ, zero, suc, Bool, true, false, not, List, [], ◌∷◌, refl, arith, ap, sym, ◌∙◌, inl, inr}
 use Rattle.std.specs.Prelude.{Option, Some, None, map, option_map, slice_get, nat_lt, ◌&&◌, ◌||◌, ◌==◌}
 use Rattle.std.proofs.lemmas.Bool.{cases_Bool}
 use Rattle.sched_base.specs.declared.UnitId.{UnitId}

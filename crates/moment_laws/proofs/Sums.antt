@@ -1,6 +1,6 @@
 -- Sums over the cores, and what a change of one core does to them.
 use Rattle.std.proofs.Common.{◌≡◌, ◌≢◌, ◌≤◌, ◌<◌, ◌+◌, ◌*◌, ℕ, zero, suc, Bool, true, false, List, [], ◌∷◌, refl, arith, ap, subst, sym, length}
-use Rattle.std.specs.Prelude.{Option, Some, None, slice_get, ◌||◌}
+use Rattle.std.specs.Prelude.{Option, Some, None, slice_get}
 use Rattle.std.specs.List.{list_any, list_all}
 use Rattle.std.proofs.Math.Decide.{ℕ_discrete}
 use Rattle.std.proofs.Math.Nat.{mul-le-mul_left}

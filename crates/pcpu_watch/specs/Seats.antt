@@ -1,8 +1,6 @@
 -- The seats of a watched run.
 use Rattle.std.specs.Prelude.{◌≡◌, ◌+◌, ℕ, List}
 use Rattle.lock_moves.specs.Sets.{LockTable}
-use Rattle.hall.specs.declared.turns.Turn.{Turn}
-use Rattle.hall.specs.declared.turns.Turn.TheVariants as turn
 use Rattle.hall.specs.Seats.{IsOf, Seated, shares_in}
 use Rattle.pcpu_threads.specs.Workers.{OneEach, shares_of}
 
@@ -18,10 +16,3 @@ pub record AreTwo (hall : LockTable) (seat scribe : Seated) : Type 0 where
   pub of : IsOf hall seat
   pub of_scribe : IsOf hall scribe
   pub shares : shares_in seat + shares_in scribe ≡ 1024
-
--- the place of the entry that a turn added, or of the last one
-abbrev pub turn_place : Turn → ℕ
-turn_place (turn.Stepped place e) = place
-turn_place (turn.Closed place next) = place
-turn_place (turn.Finished place) = place
-turn_place (turn.Over place) = place

@@ -1,5 +1,5 @@
 -- The opening: no core has a unit, and each budget is that of the cap.
-use Rattle.std.proofs.Common.{◌≡◌, ◌-◌, ℕ, refl, subst, ◌∙◌, inl, inr}
+use Rattle.std.proofs.Common.{◌≡◌, ℕ, refl, subst, ◌∙◌, inl, inr}
 use Rattle.std.specs.Prelude.{Option, Some, None, pos}
 use Rattle.sched_base.specs.Credit2Numbers.{cap_budget}
 use Rattle.sched_model.specs.declared.config.PoolParams.{PoolParams}

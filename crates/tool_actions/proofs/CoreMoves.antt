@@ -1,5 +1,5 @@
 -- The move of a core: what it makes of the place of its pool, and of what the tool knows.
-use Rattle.std.proofs.Common.{◌≡◌, ◌<◌, ◌∙◌, ℕ, Bool, true, false, List, [], length, map, refl, sym, ap, subst, arith, cond}
+use Rattle.std.proofs.Common.{◌≡◌, ◌<◌, ◌∙◌, ℕ, Bool, true, false, List, length, map, refl, sym, ap, subst, arith, cond}
 use Rattle.std.specs.Prelude.{◌||◌, Option, Some, None, is_some, option_map}
 use Rattle.std.specs.Option.{ForSome, IsSome}
 use Rattle.std.proofs.lemmas.List.{map-set}

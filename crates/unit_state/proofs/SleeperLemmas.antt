@@ -1,5 +1,5 @@
 -- The heap of the vCPUs that sleep, after a change of one vCPU or of one domain.
-use Rattle.std.proofs.Common.{◌≡◌, ◌≢◌, ◌≤◌, ◌<◌, ◌+◌, ◌*◌, ◌/◌, ◌%◌, ◌⊎◌, ℕ, List, ◌∙◌, refl, sym, ap, subst, arith, length, inl, inr, zero, suc, true, false, [], ◌∷◌}
+use Rattle.std.proofs.Common.{◌≡◌, ◌≢◌, ◌≤◌, ◌<◌, ◌+◌, ◌*◌, ◌/◌, ◌%◌, ℕ, List, ◌∙◌, refl, sym, ap, subst, arith, length, inl, inr, zero, suc, true, false, [], ◌∷◌}
 use Rattle.std.specs.Prelude.{Option, Some, None, slice_set, replicate}
 use Rattle.std.proofs.Math.Decide.{ℕ_discrete}
 use Rattle.std.proofs.lemmas.List.{get_or-set_same, get_or-set_other, length-set, length-replicate}

@@ -1,4 +1,4 @@
-use Rattle.sched_base.specs.Numbers.{core, processor}
+use Rattle.sched_base.specs.Numbers.{processor}
 use Rattle.std.proofs.Common.{arith}
 use Rattle.std.specs.Prelude.{Some, None}
 use Rattle.sched_model.specs.declared.action.Action.TheVariants.{Block, Slice, Wake}

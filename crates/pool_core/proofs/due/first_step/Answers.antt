@@ -1,4 +1,3 @@
-use Rattle.sched_base.specs.Numbers.{core, processor}
 use Rattle.std.proofs.Common.{arith}
 use Rattle.std.specs.Prelude.{Some, None}
 use Rattle.sched_model.specs.declared.action.Action.TheVariants.{Arrive, Decide, Leave, Save}

@@ -1,5 +1,3 @@
-use Rattle.std.proofs.Common.{replicate}
-use Rattle.std.specs.Prelude.{None}
 use Rattle.core_state.proofs.ChangeLemmas.{seen_is, vacant_kept}
 use Rattle.core_state.proofs.cores.CoreState.room.Goals as goal
 

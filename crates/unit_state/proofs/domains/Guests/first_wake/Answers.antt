@@ -1,4 +1,4 @@
-use Rattle.std.proofs.Common.{◌≡◌, ◌/◌, ◌%◌, ◌+◌, ◌*◌, true, false, sym, subst}
+use Rattle.std.proofs.Common.{◌≡◌, ◌+◌, ◌*◌, true, false, sym, subst}
 use Rattle.sched_base.specs.declared.VcpuId.{VcpuId}
 use Rattle.unit_state.specs.Seen.{Seen, IsNotAfter, is_due_among}
 use Rattle.unit_state.proofs.SleeperLemmas.{due_come, first_of_ids, none_due}
