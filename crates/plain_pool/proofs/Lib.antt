@@ -6,4 +6,5 @@ pub mod Looking
 pub mod QueueLemmas
 pub mod ReadyLaw
 pub mod ReadyParts
+pub mod Richer
 pub mod Replenished

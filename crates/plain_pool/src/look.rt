@@ -41,17 +41,16 @@ fn richest(
     ensures { result ≡ best_from (has_domain_budget records.now) (is_richer records.now) best
         units.now }
 {
-    match units {
-        [] => best,
-        [u, rest @ ..] => {
-            let credit = credit_of(records, *u);
-            if is_more(best, most, credit) && domain_has_budget(records, *u) {
-                richest(records, Some(*u), credit, rest)
-            } else {
-                richest(records, best, most, rest)
-            }
+    let mut found = best;
+    let mut credit = most;
+    for u in units {
+        let next = credit_of(records, *u);
+        if is_more(found, credit, next) && domain_has_budget(records, *u) {
+            found = Some(*u);
+            credit = next;
         }
     }
+    found
 }
 
 /// The one that runs first, of the best so far and a unit with budget left.
@@ -71,10 +70,11 @@ fn earliest(domains: &[Option<RtdsUnits>], best: Option<UnitId>, units: &[UnitId
     ensures { result ≡ best_from (has_left domains.now) (is_unit_before domains.now) best
         units.now }
 {
-    match units {
-        [] => best,
-        [u, rest @ ..] => earliest(domains, earlier(domains, best, *u), rest),
+    let mut found = best;
+    for u in units {
+        found = earlier(domains, found, *u);
     }
+    found
 }
 
 /// The unit of the present window, where it waits.

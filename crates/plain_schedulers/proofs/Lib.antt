@@ -1,1 +1,2 @@
+pub mod Richest
 pub mod Deciding

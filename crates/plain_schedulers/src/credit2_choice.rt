@@ -58,17 +58,16 @@ fn greatest(
     ensures { result ≡ richest_unit records.now best
         (filter (is_contender affinity.now ask.now records.now over) waiting.now) }
 {
-    match waiting {
-        [] => best,
-        [u, rest @ ..] => {
-            let credit = credit_of(records, *u);
-            if is_more(best, most, credit) && contends(affinity, ask, records, over, *u) {
-                greatest(records, Some(*u), credit, rest, affinity, ask, over)
-            } else {
-                greatest(records, best, most, rest, affinity, ask, over)
-            }
+    let mut found = best;
+    let mut credit = most;
+    for u in waiting {
+        let next = credit_of(records, *u);
+        if is_more(found, credit, next) && contends(affinity, ask, records, over, *u) {
+            found = Some(*u);
+            credit = next;
         }
     }
+    found
 }
 
 /// The core's own unit, where it may go on.

@@ -49,7 +49,7 @@ pub fn credit_of(records: &Credit2Records, u: UnitId) -> i64
 fn credit_in(d: &Credit2Domain, index: u8) -> i64
     ensures { result ≡ credit_at d.now index }
 {
-    match unit_at(d.units.as_slice(), index) {
+    match d.units.as_slice().get(index as usize) {
         None => 0,
         Some(x) => x.credit,
     }
