@@ -1,5 +1,5 @@
 -- The workers of a hall, and what they do in a moment.
-use Rattle.std.specs.Prelude.{◌≡◌, ◌≤◌, ◌<◌, ◌+◌, ◌-◌, ◌*◌, ◌/◌, ◌%◌, ◌⊎◌, ◌++◌, ◌∷◌, [], ℕ, List, Some, None, length, slice_index_or}
+use Rattle.std.specs.Prelude.{◌≡◌, ◌≤◌, ◌<◌, ◌+◌, ◌-◌, ◌%◌, ◌⊎◌, ◌++◌, ◌∷◌, [], ℕ, List, Some, None, length, slice_index_or}
 use Rattle.std.specs.List.{All, sum_by}
 use mathlib.Core.List.{IsPrefix}
 use Rattle.sched_base.specs.Numbers.{domain, processor}

@@ -1,5 +1,5 @@
 -- The seats of a watched run.
-use Rattle.std.specs.Prelude.{◌≡◌, ◌+◌, ℕ, List}
+use Rattle.std.specs.Prelude.{◌≡◌, ◌+◌, List}
 use Rattle.lock_moves.specs.Sets.{LockTable}
 use Rattle.hall.specs.Seats.{IsOf, Seated, shares_in}
 use Rattle.pcpu_threads.specs.Workers.{OneEach, shares_of}

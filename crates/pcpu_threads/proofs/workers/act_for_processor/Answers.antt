@@ -1,4 +1,4 @@
-use Rattle.std.proofs.Common.{◌≡◌, ◌≤◌, ◌<◌, inl, inr, arith}
+use Rattle.std.proofs.Common.{◌≡◌, inl, inr, arith}
 use Rattle.lock_moves.proofs.Prefix.{prefix_refl}
 use Rattle.sched_model.specs.declared.action.Actor.TheVariants.{Proc}
 use Rattle.pcpu_threads.proofs.Counting.{of-stays}

@@ -1,5 +1,5 @@
-use Rattle.std.proofs.Common.{◌≡◌, ◌∙◌, ◌∷◌, ◌+◌, Bool, true, false, List, drop, get_or, refl, sym, ap, subst, rules, w64, FitsSigned, to_z, of_z}
-use Rattle.std.specs.Prelude.{Option, Some, ℤ, filter}
+use Rattle.std.proofs.Common.{◌≡◌, ◌∙◌, ◌∷◌, ◌+◌, Bool, List, drop, get_or, sym, ap, subst, rules, w64, FitsSigned, to_z, of_z}
+use Rattle.std.specs.Prelude.{Option, ℤ, filter}
 use Rattle.std.proofs.lemmas.Int.{to_z-of_z}
 use Rattle.std.proofs.lemmas.List.{drop_more}
 use Rattle.sched_base.specs.declared.UnitId.{UnitId}
