@@ -14,6 +14,12 @@ static bool is_up(unsigned int processor)
     return stalled_until[processor] <= present_moment;
 }
 
+/* Asked by a change of Xen's code alone. */
+bool is_late(unsigned int processor)
+{
+    return !is_up(processor);
+}
+
 /* The number of the processor's pool, -1 where it is in none. */
 static int pool_of(unsigned int processor)
 {

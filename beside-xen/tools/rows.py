@@ -15,7 +15,7 @@ CREDIT2 = ("credit2-look", "credit2-rate", "credit2-most", "credit2-wait", "cred
 ONE_CORE = ("credit2-rate", "credit2-wait", "credit2-tolerance", "credit2-floor", "credit2-head")
 ARINC = ("arinc-pools", "arinc-set", "arinc-grid", "arinc-look")
 NULL = ("null-queue",)
-CORE = ("core-sibling", "core-pin", "core-leave", "core-gather")
+CORE = ("core-sibling", "core-pin", "core-leave", "core-gather", "core-first")
 EVERY = RTDS + CREDIT2 + ARINC + NULL + CORE
 
 # What Xen as it is has in common with xensched, on every machine of a row.
@@ -143,8 +143,8 @@ EQUALITY = [
     several("two of Credit2, domains moved", two_credit2, ("migrate",)),
     several("Credit2 and RTDS, domains moved", credit2_and_rtds, ("migrate",)),
     unsettled(several("two of null, cores and domains moved", two_null, ("core", "migrate"))),
-    unsettled(arinc("1 core of two, stalls", lambda r: made.of_two(r, made.arinc(r)), ("stall",))),
-    unsettled(credit2("2 cores of two, stalls", lambda r: made.of_two(r, made.credit2(r, 2)), ("stall",))),
+    arinc("1 core of two, stalls", lambda r: made.of_two(r, made.arinc(r)), ("stall",)),
+    credit2("2 cores of two, stalls", lambda r: made.of_two(r, made.credit2(r, 2)), ("stall",)),
 ]
 
 # For each change of Xen's code, and for each option that stands for one, the row on which it is tried without it.
@@ -164,5 +164,5 @@ WITNESSES = {
     "null-queue": "null, all started in one moment", "rtds-joins": "pools, Credit2 and RTDS, domains moved",
     "rtds-wake": "RTDS, 4 cores, stalls", "rtds-remove": "pools, two of RTDS, cores moved", "credit2-leaving": "pools, two of Credit2, cores moved",
     "core-leave": "pools, two of Credit2, cores moved", "arinc-look": "ARINC 653, 1 core of two, stalls",
-    "core-gather": "Credit2, 2 cores of two, stalls",
+    "core-gather": "Credit2, 2 cores of two, stalls", "core-first": "ARINC 653, 1 core of two, stalls",
 }
