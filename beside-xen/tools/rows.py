@@ -14,7 +14,7 @@ CREDIT2 = ("credit2-look", "credit2-rate", "credit2-most", "credit2-wait", "cred
            "credit2-compensation", "credit2-capcut", "credit2-budget", "credit2-refill", "credit2-setcap", "credit2-residual", "credit2-timer", "credit2-leaving")
 ONE_CORE = ("credit2-rate", "credit2-wait", "credit2-tolerance", "credit2-floor", "credit2-head")
 ARINC = ("arinc-pools", "arinc-set", "arinc-grid", "arinc-look")
-NULL = ("null-queue",)
+NULL = ("null-keep",)
 CORE = ("core-sibling", "core-pin", "core-leave", "core-gather", "core-first")
 EVERY = RTDS + CREDIT2 + ARINC + NULL + CORE
 
@@ -96,7 +96,7 @@ EQUALITY = [
     null("cores of two", lambda r: made.of_two(r, made.null(r))),
     null("pinned units", lambda r: made.pinned(r, made.null(r, 4))),
     null("pause and stalls", lambda r: made.null(r, 4), ("pause", "stall")),
-    dataclasses.replace(null("pins set", lambda r: made.null(r, 4), ("pin",)), with_changes=BY_VCPU),
+    null("pins set", lambda r: made.null(r, 4), ("pin",)),
     rtds("1 core, no extra time", made.rtds, as_it_is=EQUAL),
     rtds("4 cores, no extra time", lambda r: made.rtds(r, 4), as_it_is=BY_VCPU),
     rtds("1 core of two", lambda r: made.of_two(r, made.rtds(r)), as_it_is=EQUAL),
@@ -142,7 +142,7 @@ EQUALITY = [
     several("Credit2 and RTDS, cores moved", credit2_and_rtds, ("core",)),
     several("two of Credit2, domains moved", two_credit2, ("migrate",)),
     several("Credit2 and RTDS, domains moved", credit2_and_rtds, ("migrate",)),
-    unsettled(several("two of null, cores and domains moved", two_null, ("core", "migrate"))),
+    several("two of null, cores and domains moved", two_null, ("core", "migrate")),
     arinc("1 core of two, stalls", lambda r: made.of_two(r, made.arinc(r)), ("stall",)),
     credit2("2 cores of two, stalls", lambda r: made.of_two(r, made.credit2(r, 2)), ("stall",)),
 ]
@@ -161,7 +161,7 @@ WITNESSES = {
     "credit2-timer": "Credit2, 4 cores, stalls, caps", "credit2-tolerance": "Credit2, 1 core, five changes, Xen's own order",
     "credit2-head": "Credit2, 1 core, five changes, Xen's own order", "core-sibling": "Credit2, 2 cores of two", "core-pin": "Credit2, 4 cores, pins set",
     "arinc-pools": "ARINC 653, two pools", "arinc-set": "ARINC 653, frames set", "arinc-grid": "ARINC 653, stalls",
-    "null-queue": "null, all started in one moment", "rtds-joins": "pools, Credit2 and RTDS, domains moved",
+    "null-keep": "null, all started in one moment", "rtds-joins": "pools, Credit2 and RTDS, domains moved",
     "rtds-wake": "RTDS, 4 cores, stalls", "rtds-remove": "pools, two of RTDS, cores moved", "credit2-leaving": "pools, two of Credit2, cores moved",
     "core-leave": "pools, two of Credit2, cores moved", "arinc-look": "ARINC 653, 1 core of two, stalls",
     "core-gather": "Credit2, 2 cores of two, stalls", "core-first": "ARINC 653, 1 core of two, stalls",
