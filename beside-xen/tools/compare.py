@@ -92,16 +92,22 @@ def joined(stays):
 
 
 class Reader:
-    """Reads a log. xensched tells no line where a sibling goes on the processor beside it, so what a core runs is kept."""
+    """Reads a log. xensched tells no line where a vCPU that wakes starts beside its siblings, so what a core runs is kept.
 
-    def __init__(self, horizon, size):
-        self.run, self.size = Run(horizon), size
-        self.units, self.held = {}, set()
+    A vCPU of a domain that is paused or on its way to another pool does not start, so the commands are read too.
+    """
+
+    def __init__(self, machine, work):
+        self.run, self.size = Run(machine["horizon_ns"]), machine.get("granularity", 1)
+        self.commands = plan.Commands(machine, plan.pools_of(machine), self.run.answers)
+        self.lines = iter([words for words in map(str.split, work.splitlines()) if words[1:2] == ["xl"]])
+        self.homes = [self.commands.pool(domain.get("pool", "0")) for domain in machine.get("domain", [])]
+        self.units, self.held, self.still = {}, set(), set()
 
     def read(self, text):
         for line in text.splitlines():
             words = line.split()
-            form = getattr(self, words[1], None) if len(words) > 1 else None
+            form = getattr(self, words[1].replace("-", "_"), None) if len(words) > 1 else None
             if form:
                 form(int(words[0]), words)
         return self.run.finish()
@@ -126,6 +132,8 @@ class Reader:
     def wake(self, moment, words):
         self.run.wakings.append((moment, words[2]))
         domain, vcpu = words[2][1:].split("v")
+        if any(int(domain) == it for it, _ in self.still):
+            return
         for core, unit in self.units.items():
             processor = core * self.size + int(vcpu) % self.size
             if unit == f"d{domain}u{int(vcpu) // self.size}" and processor not in self.held:
@@ -141,6 +149,21 @@ class Reader:
 
     def xl(self, moment, words):
         self.run.answers.append(words[3])
+        what, *values = self.commands.line(next(self.lines)).split()[2:]
+        if words[3] == "ok":
+            self.steer(what, *map(int, values[:2]))
+
+    def steer(self, what, domain, pool=None):
+        """The domain stands still from a pause to its end, and from a command that moves it to its coming."""
+        if what == "pause" or what == "migrate" and pool != self.homes[domain]:
+            self.still.add((domain, what))
+        elif what == "unpause":
+            self.still.discard((domain, "pause"))
+
+    def dom_moved(self, moment, words):
+        domain = int(words[2][1:])
+        self.homes[domain] = int(words[4])
+        self.still.discard((domain, "migrate"))
 
     def account(self, moment, words):
         self.run.accounts[words[2]] = int(words[3])
@@ -163,7 +186,7 @@ class Model:
         self.run = self.read(self.text)
 
     def read(self, text):
-        return Reader(self.machine["horizon_ns"], self.size).read(text)
+        return Reader(self.machine, self.work).read(text)
 
     def run_program(self, program):
         with tempfile.TemporaryDirectory() as name:
@@ -186,7 +209,7 @@ class Both:
 
     def __init__(self, model, beside, options=()):
         self.of, self.options = model, tuple(options)
-        self.input = plan.input_for(model.domains, model.work, self.options)
+        self.input = plan.input_for(model.domains, model.work, self.options, model.run.answers)
         self.text = self.run_harness(beside)
         self.model, self.xen = model.run, model.read(self.text)
         # Xen counts a vCPU as running from the decision on; a sibling that is late begins later.

@@ -145,6 +145,11 @@ EQUALITY = [
     several("two of null, cores and domains moved", two_null, ("core", "migrate")),
     arinc("1 core of two, stalls", lambda r: made.of_two(r, made.arinc(r)), ("stall",)),
     credit2("2 cores of two, stalls", lambda r: made.of_two(r, made.credit2(r, 2)), ("stall",)),
+    several("Credit2 and RTDS, a third made and destroyed", credit2_and_rtds, ("life",)),
+    arinc("1 core of four, stalls", lambda r: made.of_four(r, made.arinc(r)), ("stall",)),
+    null("cores of four, pause", lambda r: made.of_four(r, made.null(r, 3)), ("pause",)),
+    rtds("2 cores of four, stalls, pins set", lambda r: made.of_four(r, made.rtds(r, 2)), ("stall", "pin")),
+    credit2("2 cores of four, caps, stalls, pause", lambda r: made.of_four(r, made.credit2(r, 2, True)), ("stall", "pause")),
 ]
 
 # For each change of Xen's code, and for each option that stands for one, the row on which it is tried without it.
