@@ -169,17 +169,18 @@ class Reader:
         self.run.accounts[words[2]] = int(words[3])
 
 
-def call(words, text=None):
+def call(words, text=None, seconds=SECONDS):
     try:
-        return subprocess.run([str(word) for word in words], input=text, capture_output=True, text=True, timeout=SECONDS)
+        return subprocess.run([str(word) for word in words], input=text, capture_output=True, text=True, timeout=seconds)
     except subprocess.TimeoutExpired as hung:
-        raise Fault(f"{words[0]} has not ended after {SECONDS} seconds") from hung
+        raise Fault(f"{words[0]} has not ended after {seconds} seconds") from hung
 
 
 class Model:
     """A machine, and what xensched makes of it."""
 
-    def __init__(self, program, domains, work=""):
+    def __init__(self, program, domains, work="", seconds=SECONDS):
+        self.seconds = seconds
         self.domains, self.work, self.machine = domains, work, tomllib.loads(domains)
         self.size = self.machine.get("granularity", 1)
         self.text = self.run_program(program)
@@ -193,7 +194,7 @@ class Model:
             folder = pathlib.Path(name)
             (folder / "domains.toml").write_text(self.domains)
             (folder / "work.txt").write_text(self.work)
-            done = call([program, "run", "--ordered", "--events", ENTRIES, folder / "domains.toml", folder / "work.txt"])
+            done = call([program, "run", "--ordered", "--events", ENTRIES, folder / "domains.toml", folder / "work.txt"], None, self.seconds)
         if done.returncode:
             raise Fault(f"{program} ends with {done.returncode}: {done.stderr.strip()}")
         return done.stdout
