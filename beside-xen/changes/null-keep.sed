@@ -1,5 +1,5 @@
 # file: null
-# A core takes the earliest unit that waits when it decides, and is kept for it until that one is chosen elsewhere, its domain moves, or the core decides as it leaves. In Xen a unit has its own first processor where that is free, also one that sleeps, and loses it with the core or the pin.
+# A core takes the earliest unit that waits, and is kept for it. Xen gives a unit its own first processor, also while it sleeps, and takes it back with the core or the pin.
 /^#include "private.h"/ a\
 struct null_private;\
 static struct sched_unit *take_unit(struct null_private *pool, unsigned int core);\
