@@ -200,6 +200,7 @@ static void wake_one_by_one(struct domain *domain)
     for_each_vcpu ( domain, vcpu )
     {
         vcpu_wake(vcpu);
+        look(domain->cpupool->cpupool_id);
         settle();
     }
 }

@@ -149,6 +149,7 @@ static long answer_to(const struct line *line)
     case REMOVE: return change_pool(XEN_SYSCTL_CPUPOOL_OP_RMCPU, value[0], value[1], 0, 0);
     case MIGRATE: return change_pool(XEN_SYSCTL_CPUPOOL_OP_MOVEDOMAIN, value[1], 0, value[0], 0);
     case PIN: return pin_units(value[0], value[1], value[2]);
+    case NAME: return 0;                /* names are the toolstack's */
     default: BUG(); return 0;
     }
 }
@@ -158,7 +159,7 @@ static int pool_of_line(const struct line *line)
 {
     switch ( line->what )
     {
-    case RATE: case FRAME: case CREATE: case DESTROY: case ADD: case REMOVE: return line->values[0];
+    case RATE: case FRAME: case CREATE: case DESTROY: case ADD: case REMOVE: case NAME: return line->values[0];
     default: return domains[line->values[0]]->cpupool->cpupool_id;
     }
 }
@@ -174,7 +175,7 @@ void carry_out(const struct line *line)
     pool = pool_of_line(line);
     answer = answer_to(line);
     tell("xl %d %s %ld", ++number, answer ? "refused" : "ok", answer);
-    if ( !answer )
+    if ( !answer && pool >= 0 )
         look(pool);
     if ( line->what == MIGRATE )
         look(pool_of_line(line));

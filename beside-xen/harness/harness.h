@@ -37,7 +37,7 @@ struct domain_plan {
     unsigned long pins[MAX_GUESTS];     /* of each unit; none where it may be anywhere */
 };
 
-enum what { STALL, CREDIT2, RATE, RTDS, PAUSE, UNPAUSE, FRAME, CREATE, DESTROY, ADD, REMOVE, MIGRATE, PIN, WHATS };
+enum what { STALL, CREDIT2, RATE, RTDS, PAUSE, UNPAUSE, FRAME, CREATE, DESTROY, ADD, REMOVE, MIGRATE, PIN, NAME, WHATS };
 
 struct line {
     long at;

@@ -9,7 +9,7 @@ static const struct { const char *name; int values; } whats[WHATS] = {
     [STALL] = { "stall", 2 }, [CREDIT2] = { "credit2", 3 }, [RATE] = { "rate", 2 }, [RTDS] = { "rtds", 5 },
     [PAUSE] = { "pause", 1 }, [UNPAUSE] = { "unpause", 1 }, [FRAME] = { "frame", 1 }, [CREATE] = { "create", 2 },
     [DESTROY] = { "destroy", 1 }, [ADD] = { "add", 2 }, [REMOVE] = { "remove", 2 }, [MIGRATE] = { "migrate", 2 },
-    [PIN] = { "pin", 3 },
+    [PIN] = { "pin", 3 }, [NAME] = { "name", 1 },
 };
 
 static void refuse(const char *word)

@@ -14,6 +14,12 @@ static bool is_up(unsigned int processor)
     return stalled_until[processor] <= present_moment;
 }
 
+/* Asked by a change of Xen's code alone. */
+bool is_late(unsigned int processor)
+{
+    return !is_up(processor);
+}
+
 /* The number of the processor's pool, -1 where it is in none. */
 static int pool_of(unsigned int processor)
 {
@@ -66,6 +72,7 @@ void stand_at(unsigned int processor, enum place place)
 extern bool rtds_is_to_decide(unsigned int processor) __attribute__((weak));
 extern bool credit2_is_to_decide(unsigned int processor) __attribute__((weak));
 extern bool arinc653_is_to_decide(unsigned int processor) __attribute__((weak));
+extern bool null_is_to_decide(unsigned int processor) __attribute__((weak));
 
 static bool (*rule_of(int scheduler))(unsigned int processor)
 {
@@ -74,6 +81,7 @@ static bool (*rule_of(int scheduler))(unsigned int processor)
     case XEN_SCHEDULER_RTDS: return rtds_is_to_decide;
     case XEN_SCHEDULER_CREDIT2: return credit2_is_to_decide;
     case XEN_SCHEDULER_ARINC653: return arinc653_is_to_decide;
+    case XEN_SCHEDULER_NULL: return null_is_to_decide;
     default: return NULL;
     }
 }

@@ -237,10 +237,14 @@ struct vcpu *vcpu_create(struct domain *domain, unsigned int number)
     return vcpu;
 }
 
+/* Xen puts one vCPU after the other to sleep, and waits for each. By rank all their cores are to decide before it waits. */
 void domain_pause(struct domain *domain)
 {
     struct vcpu *vcpu;
     atomic_inc(&domain->pause_count);
+    if ( plan.by_rank )
+        for_each_vcpu ( domain, vcpu )
+            vcpu_sleep_nosync(vcpu);
     for_each_vcpu ( domain, vcpu )
         vcpu_sleep_sync(vcpu);
 }

@@ -92,16 +92,22 @@ def joined(stays):
 
 
 class Reader:
-    """Reads a log. xensched tells no line where a sibling goes on the processor beside it, so what a core runs is kept."""
+    """Reads a log. xensched tells no line where a vCPU that wakes starts beside its siblings, so what a core runs is kept.
 
-    def __init__(self, horizon, size):
-        self.run, self.size = Run(horizon), size
-        self.units, self.held = {}, set()
+    A vCPU of a domain that is paused or on its way to another pool does not start, so the commands are read too.
+    """
+
+    def __init__(self, machine, work):
+        self.run, self.size = Run(machine["horizon_ns"]), machine.get("granularity", 1)
+        self.commands = plan.Commands(machine, plan.pools_of(machine), self.run.answers)
+        self.lines = iter([words for words in map(str.split, work.splitlines()) if words[1:2] == ["xl"]])
+        self.homes = [self.commands.pool(domain.get("pool", "0")) for domain in machine.get("domain", [])]
+        self.units, self.held, self.still = {}, set(), set()
 
     def read(self, text):
         for line in text.splitlines():
             words = line.split()
-            form = getattr(self, words[1], None) if len(words) > 1 else None
+            form = getattr(self, words[1].replace("-", "_"), None) if len(words) > 1 else None
             if form:
                 form(int(words[0]), words)
         return self.run.finish()
@@ -126,6 +132,8 @@ class Reader:
     def wake(self, moment, words):
         self.run.wakings.append((moment, words[2]))
         domain, vcpu = words[2][1:].split("v")
+        if any(int(domain) == it for it, _ in self.still):
+            return
         for core, unit in self.units.items():
             processor = core * self.size + int(vcpu) % self.size
             if unit == f"d{domain}u{int(vcpu) // self.size}" and processor not in self.held:
@@ -141,36 +149,52 @@ class Reader:
 
     def xl(self, moment, words):
         self.run.answers.append(words[3])
+        what, *values = self.commands.line(next(self.lines)).split()[2:]
+        if words[3] == "ok":
+            self.steer(what, *map(int, values[:2]))
+
+    def steer(self, what, domain, pool=None):
+        """The domain stands still from a pause to its end, and from a command that moves it to its coming."""
+        if what == "pause" or what == "migrate" and pool != self.homes[domain]:
+            self.still.add((domain, what))
+        elif what == "unpause":
+            self.still.discard((domain, "pause"))
+
+    def dom_moved(self, moment, words):
+        domain = int(words[2][1:])
+        self.homes[domain] = int(words[4])
+        self.still.discard((domain, "migrate"))
 
     def account(self, moment, words):
         self.run.accounts[words[2]] = int(words[3])
 
 
-def call(words, text=None):
+def call(words, text=None, seconds=SECONDS):
     try:
-        return subprocess.run([str(word) for word in words], input=text, capture_output=True, text=True, timeout=SECONDS)
+        return subprocess.run([str(word) for word in words], input=text, capture_output=True, text=True, timeout=seconds)
     except subprocess.TimeoutExpired as hung:
-        raise Fault(f"{words[0]} has not ended after {SECONDS} seconds") from hung
+        raise Fault(f"{words[0]} has not ended after {seconds} seconds") from hung
 
 
 class Model:
     """A machine, and what xensched makes of it."""
 
-    def __init__(self, program, domains, work=""):
+    def __init__(self, program, domains, work="", seconds=SECONDS):
+        self.seconds = seconds
         self.domains, self.work, self.machine = domains, work, tomllib.loads(domains)
         self.size = self.machine.get("granularity", 1)
         self.text = self.run_program(program)
         self.run = self.read(self.text)
 
     def read(self, text):
-        return Reader(self.machine["horizon_ns"], self.size).read(text)
+        return Reader(self.machine, self.work).read(text)
 
     def run_program(self, program):
         with tempfile.TemporaryDirectory() as name:
             folder = pathlib.Path(name)
             (folder / "domains.toml").write_text(self.domains)
             (folder / "work.txt").write_text(self.work)
-            done = call([program, "run", "--ordered", "--events", ENTRIES, folder / "domains.toml", folder / "work.txt"])
+            done = call([program, "run", "--ordered", "--events", ENTRIES, folder / "domains.toml", folder / "work.txt"], None, self.seconds)
         if done.returncode:
             raise Fault(f"{program} ends with {done.returncode}: {done.stderr.strip()}")
         return done.stdout
@@ -186,7 +210,7 @@ class Both:
 
     def __init__(self, model, beside, options=()):
         self.of, self.options = model, tuple(options)
-        self.input = plan.input_for(model.domains, model.work, self.options)
+        self.input = plan.input_for(model.domains, model.work, self.options, model.run.answers)
         self.text = self.run_harness(beside)
         self.model, self.xen = model.run, model.read(self.text)
         # Xen counts a vCPU as running from the decision on; a sibling that is late begins later.

@@ -94,12 +94,17 @@ def credit2(random, cores=1, caps=False, busy=0.4, limits=False, milliseconds=20
     return machine("credit2", cores, milliseconds, domains, **({"ratelimit_us": random.choice(RATE_LIMITS_US)} if limits else {}))
 
 
-def of_two(random, made):
+def of_two(random, made, size=2):
     """The same pools with cores of two processors, and domains with up to twice the vCPUs, so that some unit has one alone."""
-    made = made | {"granularity": 2, "processors": 2 * made["processors"]}
-    made["pool"] = [pool | {"cpus": [cpu for core in pool["cpus"] for cpu in (2 * core, 2 * core + 1)]} for pool in made["pool"]]
-    made["domain"] = [domain | {"guests": guests(random, 2 * len(domain["guests"]) - random.randrange(2))} for domain in made["domain"]]
+    made = made | {"granularity": size, "processors": size * made["processors"]}
+    made["pool"] = [pool | {"cpus": [size * core + place for core in pool["cpus"] for place in range(size)]} for pool in made["pool"]]
+    made["domain"] = [domain | {"guests": guests(random, size * len(domain["guests"]) - random.randrange(size))} for domain in made["domain"]]
     return made
+
+
+def of_four(random, made):
+    """The same with cores of four processors."""
+    return of_two(random, made, 4)
 
 
 def pinned(random, made):
@@ -135,7 +140,7 @@ class Work:
     """Eight lines of one kind, at odd moments."""
 
     def __init__(self, random, made):
-        self.random, self.made, self.paused = random, made, set()
+        self.random, self.made, self.paused, self.lent = random, made, set(), None
 
     def lines(self, what):
         horizon = self.made["horizon_ns"]
@@ -201,6 +206,21 @@ class Work:
             source["cpus"].remove(cpu)
             target["cpus"].append(cpu)
         return f"xl cpupool-cpu-remove {source['name']} {first}\nxl cpupool-cpu-add {target['name']} {first}"
+
+    def life(self, random):
+        """A pool is made, and gets a core and a domain. The next time it gives them back under another name, and is destroyed."""
+        if self.lent:
+            source, first, name, home = self.lent
+            self.lent = None
+            return "\n".join(["xl cpupool-destroy New", "xl cpupool-rename New Old", f"xl cpupool-migrate {name} {home}",
+                              f"xl cpupool-cpu-remove Old {first}", f"xl cpupool-cpu-add {source} {first}", "xl cpupool-destroy Old"])
+        size = self.made["granularity"]
+        source = random.choice([pool for pool in self.made["pool"] if self.may_lose(pool, size)])
+        first = random.choice(self.may_lose(source, size)) // size * size
+        name, domain = self.domain()
+        self.lent = source["name"], first, name, domain.get("pool", "Pool-0")
+        return "\n".join([f"xl cpupool-create name=New sched={random.choice(['credit2', 'rtds', 'null'])}", "xl cpupool-list New",
+                          f"xl cpupool-cpu-remove {source['name']} {first}", f"xl cpupool-cpu-add New {first}", f"xl cpupool-migrate {name} New"])
 
     def migrate(self, random):
         name, domain = self.domain()

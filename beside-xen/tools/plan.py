@@ -61,18 +61,24 @@ def cpus_of(text, processors):
 
 
 class Commands:
-    """Turns the lines of a work file into those of the harness. It keeps the names, which commands change."""
+    """Turns the lines of a work file into those of the harness. It keeps the names, which commands that are not refused change."""
 
-    def __init__(self, machine, pools):
+    def __init__(self, machine, pools, answers):
         self.size, self.processors = machine.get("granularity", 1), machine["processors"]
         self.domains = {it["name"]: number for number, it in enumerate(machine.get("domain", []))}
         self.pools = {it["name"]: number for number, it in enumerate(pools)}
+        self.answers, self.is_ok = iter(answers), True
 
     def domain(self, word):
         return self.domains[word] if word in self.domains else int(word)
 
     def pool(self, word):
         return self.pools[word] if word in self.pools else int(word)
+
+    def rename(self, pool, name=None):
+        """The pool has this name from now on, and without one it is gone."""
+        if self.is_ok:
+            self.pools = {it: number for it, number in self.pools.items() if number != pool} | ({name: pool} if name else {})
 
     def line(self, words):
         if words[1] == "stall":
@@ -81,6 +87,7 @@ class Commands:
         form = getattr(self, command.replace("-", "_"), None)
         if form is None:
             raise NoCounterpart(" ".join(words))
+        self.is_ok = next(self.answers, "ok") == "ok"
         return f"at {words[0]} {form(rest)}"
 
     def sched_credit2(self, rest):
@@ -108,11 +115,21 @@ class Commands:
     def cpupool_create(self, rest):
         options = dict(word.split("=") for word in rest)
         number = next(number for number in range(16) if number not in self.pools.values())
-        self.pools[options["name"]] = number
+        self.rename(number, options["name"])
         return f"create {number} {SCHEDULERS.index(options.get('sched', 'credit2'))}"
 
     def cpupool_destroy(self, rest):
-        return f"destroy {self.pool(rest[0])}"
+        pool = self.pool(rest[0])
+        self.rename(pool)
+        return f"destroy {pool}"
+
+    def cpupool_rename(self, rest):
+        pool = self.pool(rest[0])
+        self.rename(pool, rest[1])
+        return f"name {pool}"
+
+    def cpupool_list(self, rest):
+        return f"name {self.pool(rest[0]) if rest else -1}"
 
     def cpupool_cpu_add(self, rest):
         return f"add {self.pool(rest[0])} {rest[1]}"
@@ -128,11 +145,16 @@ class Commands:
         return f"pin {self.domain(rest[0])} {-1 if rest[1] == 'all' else int(rest[1]) // self.size} {mask}"
 
 
-def input_for(domains, work="", options=()):
+def pools_of(machine):
+    return machine.get("pool", [{"name": "Pool-0", "cpus": range(machine["processors"])}])
+
+
+def input_for(domains, work="", options=(), answers=()):
+    """The answers are those that xensched gives to the commands, in their order."""
     machine = tomllib.loads(domains)
     size = machine.get("granularity", 1)
-    pools = machine.get("pool", [{"name": "Pool-0", "cpus": range(machine["processors"])}])
-    commands = Commands(machine, pools)
+    pools = pools_of(machine)
+    commands = Commands(machine, pools, answers)
     words = [line.split() for line in work.splitlines() if line.strip() and not line.startswith("#")]
     return "\n".join([
         *option_lines(options), f"core {size}", f"processors {machine['processors']}", f"horizon {machine['horizon_ns']}", f"origin {ORIGIN}",

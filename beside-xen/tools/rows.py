@@ -14,8 +14,8 @@ CREDIT2 = ("credit2-look", "credit2-rate", "credit2-most", "credit2-wait", "cred
            "credit2-compensation", "credit2-capcut", "credit2-budget", "credit2-refill", "credit2-setcap", "credit2-residual", "credit2-timer", "credit2-leaving")
 ONE_CORE = ("credit2-rate", "credit2-wait", "credit2-tolerance", "credit2-floor", "credit2-head")
 ARINC = ("arinc-pools", "arinc-set", "arinc-grid", "arinc-look")
-NULL = ("null-queue",)
-CORE = ("core-sibling", "core-pin", "core-leave", "core-gather")
+NULL = ("null-keep",)
+CORE = ("core-sibling", "core-pin", "core-leave", "core-gather", "core-first")
 EVERY = RTDS + CREDIT2 + ARINC + NULL + CORE
 
 # What Xen as it is has in common with xensched, on every machine of a row.
@@ -96,7 +96,7 @@ EQUALITY = [
     null("cores of two", lambda r: made.of_two(r, made.null(r))),
     null("pinned units", lambda r: made.pinned(r, made.null(r, 4))),
     null("pause and stalls", lambda r: made.null(r, 4), ("pause", "stall")),
-    dataclasses.replace(null("pins set", lambda r: made.null(r, 4), ("pin",)), with_changes=BY_VCPU),
+    null("pins set", lambda r: made.null(r, 4), ("pin",)),
     rtds("1 core, no extra time", made.rtds, as_it_is=EQUAL),
     rtds("4 cores, no extra time", lambda r: made.rtds(r, 4), as_it_is=BY_VCPU),
     rtds("1 core of two", lambda r: made.of_two(r, made.rtds(r)), as_it_is=EQUAL),
@@ -142,9 +142,14 @@ EQUALITY = [
     several("Credit2 and RTDS, cores moved", credit2_and_rtds, ("core",)),
     several("two of Credit2, domains moved", two_credit2, ("migrate",)),
     several("Credit2 and RTDS, domains moved", credit2_and_rtds, ("migrate",)),
-    unsettled(several("two of null, cores and domains moved", two_null, ("core", "migrate"))),
-    unsettled(arinc("1 core of two, stalls", lambda r: made.of_two(r, made.arinc(r)), ("stall",))),
-    unsettled(credit2("2 cores of two, stalls", lambda r: made.of_two(r, made.credit2(r, 2)), ("stall",))),
+    several("two of null, cores and domains moved", two_null, ("core", "migrate")),
+    arinc("1 core of two, stalls", lambda r: made.of_two(r, made.arinc(r)), ("stall",)),
+    credit2("2 cores of two, stalls", lambda r: made.of_two(r, made.credit2(r, 2)), ("stall",)),
+    several("Credit2 and RTDS, a third made and destroyed", credit2_and_rtds, ("life",)),
+    arinc("1 core of four, stalls", lambda r: made.of_four(r, made.arinc(r)), ("stall",)),
+    null("cores of four, pause", lambda r: made.of_four(r, made.null(r, 3)), ("pause",)),
+    rtds("2 cores of four, stalls, pins set", lambda r: made.of_four(r, made.rtds(r, 2)), ("stall", "pin")),
+    credit2("2 cores of four, caps, stalls, pause", lambda r: made.of_four(r, made.credit2(r, 2, True)), ("stall", "pause")),
 ]
 
 # For each change of Xen's code, and for each option that stands for one, the row on which it is tried without it.
@@ -161,8 +166,8 @@ WITNESSES = {
     "credit2-timer": "Credit2, 4 cores, stalls, caps", "credit2-tolerance": "Credit2, 1 core, five changes, Xen's own order",
     "credit2-head": "Credit2, 1 core, five changes, Xen's own order", "core-sibling": "Credit2, 2 cores of two", "core-pin": "Credit2, 4 cores, pins set",
     "arinc-pools": "ARINC 653, two pools", "arinc-set": "ARINC 653, frames set", "arinc-grid": "ARINC 653, stalls",
-    "null-queue": "null, all started in one moment", "rtds-joins": "pools, Credit2 and RTDS, domains moved",
+    "null-keep": "null, all started in one moment", "rtds-joins": "pools, Credit2 and RTDS, domains moved",
     "rtds-wake": "RTDS, 4 cores, stalls", "rtds-remove": "pools, two of RTDS, cores moved", "credit2-leaving": "pools, two of Credit2, cores moved",
     "core-leave": "pools, two of Credit2, cores moved", "arinc-look": "ARINC 653, 1 core of two, stalls",
-    "core-gather": "Credit2, 2 cores of two, stalls",
+    "core-gather": "Credit2, 2 cores of two, stalls", "core-first": "ARINC 653, 1 core of two, stalls",
 }

@@ -18,6 +18,7 @@ class Setting:
     machines: int
     kept: pathlib.Path
     pool: object
+    rows: str = ""              # what the names of the rows have to have
     begun: float = dataclasses.field(default_factory=time.monotonic)
     faults: list = dataclasses.field(default_factory=list)
 
@@ -102,8 +103,9 @@ def equality(setting):
     seeds = setting.seeds()
     print(f"## Equality\n\n{len(seeds)} made machines a row. By vCPU: each vCPU runs at the same moments, on whichever core.\n\n"
           "| Machines | Xen as it is: equal | by vCPU | with the changes: equal |\n|---|---|---|---|")
-    for number, row in enumerate(table_rows.EQUALITY, 1):
-        setting.tell(f"equality, row {number} of {len(table_rows.EQUALITY)}")
+    chosen = [row for row in table_rows.EQUALITY if setting.rows in row.name]
+    for number, row in enumerate(chosen, 1):
+        setting.tell(f"equality, row {number} of {len(chosen)}")
         as_it_is, changed = outcomes(setting, row, seeds, [((), ()), (row.changes, row.options)])
         demand(setting, row, seeds, as_it_is, row.as_it_is)
         demand(setting, row, seeds, changed, row.with_changes, row.changes, row.options)
@@ -116,8 +118,9 @@ def differences(setting):
     print(f"\n## Differences\n\nEach change on {len(seeds)} machines on which it counts: how many are equal with all changes, and how many without this one.\n\n"
           "| Change | Machines | with all | without it |\n|---|---|---|---|")
     named = {row.name: row for row in table_rows.EQUALITY}
-    for number, (change, name) in enumerate(table_rows.WITNESSES.items(), 1):
-        setting.tell(f"differences, row {number} of {len(table_rows.WITNESSES)}")
+    chosen = [(change, name) for change, name in table_rows.WITNESSES.items() if setting.rows in name]
+    for number, (change, name) in enumerate(chosen, 1):
+        setting.tell(f"differences, row {number} of {len(chosen)}")
         row = named[name]
         rest = tuple(tuple(it for it in part if it != change) for part in (row.changes, row.options))
         whole, less = outcomes(setting, row, seeds, [(row.changes, row.options), rest])
