@@ -35,16 +35,16 @@ abbrev pub has_command_come : Machine → State → ℕ → Bool
 has_command_come m s t = elim (slice_get m.work.commands s.next_command) [ None ↦ false | Some line ↦ nat_le line.at.0 t ]
 
 -- how many subjects the kind has
-abbrev pub count_of : Config → Numbered → ℕ
-count_of config kind.Moved = machine_core_count config
-count_of config kind.DomMoved = length config.domains
-count_of config kind.Block = config.processors
-count_of config kind.Slice = machine_core_count config
-count_of config kind.Refill = length config.domains
-count_of config kind.Arrive = config.processors
-count_of config kind.Decide = machine_core_count config
-count_of config kind.Leave = config.processors
-count_of config kind.Save = machine_core_count config
+abbrev pub subject_count : Config → Numbered → ℕ
+subject_count config kind.Moved = machine_core_count config
+subject_count config kind.DomMoved = length config.domains
+subject_count config kind.Block = config.processors
+subject_count config kind.Slice = machine_core_count config
+subject_count config kind.Refill = length config.domains
+subject_count config kind.Arrive = config.processors
+subject_count config kind.Decide = machine_core_count config
+subject_count config kind.Leave = config.processors
+subject_count config kind.Save = machine_core_count config
 
 -- the actions of the kind, in order
 abbrev pub actions_of : Config → Kind → List Action
@@ -52,7 +52,7 @@ actions_of config kinds.Stall = action.Stall ∷ []
 actions_of config kinds.Xl = action.Xl ∷ []
 actions_of config kinds.Wake = map action.Wake (vcpus_from 0 config.domains)
 actions_of config kinds.Repl = map action.Repl (units_from config.granularity 0 config.domains)
-actions_of config (kinds.Of kind) = map (action_at kind) (numbers_from 0 (count_of config kind))
+actions_of config (kinds.Of kind) = map (action_at kind) (numbers_from 0 (subject_count config kind))
 
 -- those of each of these kinds, one kind after another
 abbrev pub actions_in : Config → List Kind → List Action

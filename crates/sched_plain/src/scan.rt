@@ -10,7 +10,7 @@ ghost use Rattle.sched_model.specs.Actions.{vcpus_from, units_from};
 ghost use Rattle.sched_model.specs.Machine.{is_action_enabled, first_enabled_action};
 ghost use Rattle.sched_model.specs.declared.action.Action.TheVariants as action_of;
 ghost use Rattle.sched_plain.specs.Fits.{FewGuests, MachineFits, StateFits};
-ghost use Rattle.sched_plain.specs.Search.{action_at, actions_in, actions_of, count_of as count_of_spec};
+ghost use Rattle.sched_plain.specs.Search.{action_at, actions_in, actions_of, subject_count};
 
 use crate::enabled::is_enabled;
 use sched_base::{DomId, Moment, ProcId, ResId, UnitId, VcpuId};
@@ -219,7 +219,7 @@ fn if_enabled(machine: &Machine, state: &State, t: Moment, action: Action) -> Op
 /// How many subjects there are of this kind: cores, processors or domains.
 fn count_of(machine: &Machine, kind: Numbered) -> u8
     requires { MachineFits machine.now }
-    ensures exact { result ≡ count_of_spec machine.now.config kind }
+    ensures exact { result ≡ subject_count machine.now.config kind }
     ensures few { result ≤ 64 }
 {
     let config = &machine.config;
