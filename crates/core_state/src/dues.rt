@@ -116,8 +116,11 @@ pub fn rearm(
 )
     requires { MayRearm r.0
         (record { resources = cores.now; works = works.now; granularity = granularity }) dues.old }
-    ensures { AreArmed (record { resources = cores.now; works = works.now; granularity = granularity
-        }) dues.new }
+    ensures { AreArmed (record {
+      resources = cores.now;
+      works = works.now;
+      granularity = granularity;
+    }) dues.new }
 {
     let core = item_at(cores.as_slice(), r.0 as usize);
     let done_at = works.as_slice();

@@ -16,7 +16,8 @@ use sched_model::state::{Doing, Pool, Resource};
 #[tactic(auto, using(sched_model::proofs::PlaceLemmas::past_the_end))]
 fn set_doing(core: &mut Resource, sibling: usize, doing: Doing)
     ensures { core.new
-        ≡ record core.old { processors = change_item sibling (with_doing doing) core.old.processors
+        ≡ record core.old {
+          processors = change_item sibling (with_doing doing) core.old.processors;
         } }
 {
     if let Some(p) = core.processors.get_mut(sibling) {
