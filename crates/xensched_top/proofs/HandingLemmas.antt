@@ -1,9 +1,7 @@
 -- What a task's outcome is once what the sink keeps is handed on.
-use Rattle.std.proofs.Common.{◌≡◌, ℕ, ◌≤◌, Bool, List, Option, refl, sym, subst, inl, inr}
-use Rattle.std.specs.Prelude.{◌⊎◌}
+use Rattle.std.proofs.Common.{◌≡◌, ℕ, ◌≤◌, Bool, List, Option, sym, subst, inl, inr}
 use Rattle.command_line.specs.declared.command.Form.{Form}
 use Rattle.sched_io.specs.Faults.{Rose}
-use Rattle.sched_io.specs.Puts.{Adds, AddsPart}
 use Rattle.sched_io.proofs.FaultLemmas.{rose_after, rose_before}
 use Rattle.sched_io.proofs.PutLemmas.{part_of_whole}
 use Rattle.sched_model.specs.declared.machine.Machine.{Machine}

@@ -5,7 +5,7 @@ use Rattle.std.proofs.lemmas.List.Concat.{flat_map-cons}
 use Rattle.std.proofs.lemmas.List.{append-nil, take_more, take_all, take-append-drop}
 use Rattle.std.proofs.lemmas.Option.{get_or_from_slice_get, slice_get_within}
 use Rattle.sched_io.specs.Puts.{Adds, AddsPart}
-use Rattle.sched_io.proofs.PutLemmas.{adds_nothing, adds_both, adds_then_part, part_of_more}
+use Rattle.sched_io.proofs.PutLemmas.{adds_both, adds_then_part, part_of_more}
 
 -- one item more
 pub take_next : {X : Type 0} (items : List X) (i : ℕ) (x : X) → slice_get items i ≡ Some x → take (i + 1) items ≡ take i items ++ x ∷ []

@@ -1,5 +1,5 @@
 -- The lines that are written of a watched run, and how it has ended.
-use Rattle.std.proofs.Common.{◌≡◌, ℕ, zero, suc, ◌+◌, ◌≤◌, false, List, [], ◌∷◌, ◌++◌, length, slice_get, Some, refl, ap, subst, ◌∙◌, arith}
+use Rattle.std.proofs.Common.{◌≡◌, ℕ, zero, suc, ◌+◌, ◌≤◌, false, List, [], ◌∷◌, ◌++◌, length, slice_get, Some, refl, ap, ◌∙◌, arith}
 use Rattle.journal_core.specs.Books.{Chronicle}
 use Rattle.pcpu_threads.specs.declared.ends.RunEnd.{RunEnd}
 use Rattle.pcpu_threads.specs.declared.ends.RunEnd.TheVariants as run_end

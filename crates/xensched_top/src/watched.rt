@@ -11,7 +11,7 @@ ghost use Rattle.xensched_top.specs.Answers.{PutsNothing, Writes};
 ghost use Rattle.xensched_top.specs.Ends.{HasEnded};
 ghost use Rattle.xensched_top.specs.WatchedRun.{text_of_look, text_of_watch, watch_lines};
 
-use crate::run::status_of;
+use crate::output::status_of;
 use crate::status::Status;
 use command_line::Form;
 use journal_core::Book;
@@ -123,24 +123,28 @@ fn put_watched<K: Sink>(book: &Book, end: RunEnd, limit: u32, looks: &Looks, sin
 pub(crate) fn write_watched<R: Threads + Wait + Sync, K: Sink>(
     rt: &R,
     alloc: Global,
-    machine: &Machine,
+    machine: Machine,
     limit: u32,
     sink: &mut K,
 ) -> Status
-    requires checked { IsChecked machine.now }
+    requires checked { IsChecked machine }
     requires limit { IsWithin 1 4000000 limit }
-    ensures written { Writes false Form.Watch limit machine.now (K.told sink.old) (K.told sink.new)
+    ensures written { Writes false Form.Watch limit machine (K.told sink.old) (K.told sink.new)
         (K.faults sink.old) (K.faults sink.new) result }
     ensures nothing { PutsNothing result → sink.new ≡ sink.old }
     ensures counts { K.faults sink.old ≤ K.faults sink.new }
 {
-    match make_watched(rt, alloc, machine, limit) {
+    match make_watched(rt, alloc, &machine, limit) {
         Ok((book, end, looks)) => {
             let status = put_watched(&book, end, limit, &looks, sink);
             drop(looks);
             drop(book);
+            drop(machine);
             status
         }
-        Err(_) => Status::NoMemory,
+        Err(_) => {
+            drop(machine);
+            Status::NoMemory
+        }
     }
 }
