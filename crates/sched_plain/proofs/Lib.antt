@@ -10,3 +10,4 @@ pub mod Spares
 pub mod Searching
 pub mod Domains
 pub mod Turns
+pub mod Settling

@@ -5,3 +5,4 @@ pub mod Moves
 pub mod Search
 pub mod Soonest
 pub mod Stalls
+pub mod SettledPools

@@ -9,5 +9,6 @@ pub mod moves;
 pub mod perform;
 pub mod plain;
 pub mod scan;
+pub mod settled;
 pub mod soonest;
 pub mod stall;

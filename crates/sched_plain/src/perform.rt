@@ -9,11 +9,14 @@ ghost use Rattle.cpupool.specs.Tool.{KnowsMachine};
 ghost use Rattle.sched_plain.specs.CommandList.{HasSpares};
 ghost use Rattle.sched_plain.specs.Fits.{PoolFitsAt};
 ghost use Rattle.sched_plain.specs.ReachedStates.{Stands};
+ghost use Rattle.sched_plain.specs.SettledPools.{AreSettled};
+ghost use Rattle.pool_laws.specs.CoreLooks.{IsSettled};
 
 use crate::command::command;
 use crate::dom_moves::move_domain;
 use crate::homes::home_of;
 use crate::moves::move_core;
+use crate::settled::{Settled, needs_look};
 use crate::stall::stall;
 use cpupool::ToolState;
 use plain_pool::events::happen;
@@ -25,8 +28,15 @@ use sched_model::machine::Machine;
 use sched_model::row::Row;
 use sched_model::state::{Pool, State};
 
-/// The event in its pool, and then the pool's cores that are to decide anew.
-fn perform_in(granularity: u8, t: Moment, action: Action, pool: &mut Pool) -> Event
+/// The event in its pool, and then the pool's cores that are to decide anew. They are not looked at where the pool was settled and the event
+/// leaves it so.
+fn perform_in(
+    granularity: u8,
+    t: Moment,
+    action: Action,
+    is_settled: bool,
+    pool: &mut Pool,
+) -> Event
     requires some { 0 < granularity }
     requires few { granularity ≤ 4 }
     requires early { t.0 ≤ most_span }
@@ -34,11 +44,14 @@ fn perform_in(granularity: u8, t: Moment, action: Action, pool: &mut Pool) -> Ev
     requires enabled { enabled_in granularity t.0 pool.old action ≡ true }
     requires before { PoolFitsAt t.0 pool.old }
     requires after { PoolFitsAt t.0 (after_in granularity t.0 pool.old action) }
+    requires settled { is_settled ≡ true → IsSettled t.0 pool.old }
     ensures event { result ≡ event_in granularity t.0 pool.old action }
     ensures pool { pool.new ≡ settled_pool t.0 (after_in granularity t.0 pool.old action) }
 {
     let event = happen(granularity, t, action, pool);
-    settle(t, pool);
+    if needs_look(is_settled, action) {
+        settle(t, pool);
+    }
     event
 }
 
@@ -49,8 +62,10 @@ fn perform_at(
     action: Action,
     place: usize,
     state: &mut State,
+    settled: &mut Settled,
 ) -> Event
     requires stands { Stands machine.now state.old }
+    requires settled { AreSettled state.old.now state.old.pools settled.old }
     requires now { t.0 ≡ state.old.now }
     requires own { IsOfPool action }
     requires enabled { is_action_enabled machine.now state.old state.old.now action ≡ true }
@@ -58,28 +73,46 @@ fn perform_at(
         ≡ Some place }
     ensures event { result ≡ event_of machine.now state.old state.old.now action }
     ensures state { state.new ≡ after machine.now state.old state.old.now action }
+    ensures settled { AreSettled state.new.now state.new.pools settled.new }
 {
     if place >= state.pools.len() {
         unreachable!();
     }
     match state.pools.item_mut(place) {
         None => unreachable!(),
-        Some(pool) => perform_in(machine.config.granularity, t, action, pool),
+        Some(pool) => {
+            let event = perform_in(
+                machine.config.granularity,
+                t,
+                action,
+                settled.has(place),
+                pool,
+            );
+            settled.mark(place);
+            event
+        }
     }
 }
 
 /// The event of an action that may come now at a pool, which is done.
-fn perform_at_home(machine: &Machine, state: &mut State, action: Action) -> Event
+fn perform_at_home(
+    machine: &Machine,
+    state: &mut State,
+    settled: &mut Settled,
+    action: Action,
+) -> Event
     requires stands { Stands machine.now state.old }
+    requires settled { AreSettled state.old.now state.old.pools settled.old }
     requires own { IsOfPool action }
     requires enabled { is_action_enabled machine.now state.old state.old.now action ≡ true }
     ensures event { result ≡ event_of machine.now state.old state.old.now action }
     ensures state { state.new ≡ after machine.now state.old state.old.now action }
+    ensures settled { AreSettled state.new.now state.new.pools settled.new }
 {
     let t = state.now;
     match home_of(machine.config.granularity, state, action) {
         None => unreachable!(),
-        Some(i) => perform_at(machine, Moment(t), action, i, state),
+        Some(i) => perform_at(machine, Moment(t), action, i, state, settled),
     }
 }
 
@@ -89,22 +122,37 @@ pub fn perform(
     state: &mut State,
     tool: &mut ToolState,
     spares: &mut Row<Option<Pool>>,
+    settled: &mut Settled,
     action: Action,
 ) -> Event
     requires stands { Stands machine.now state.old }
     requires enabled { is_action_enabled machine.now state.old state.old.now action ≡ true }
     requires tool { KnowsMachine machine.now tool.old }
     requires spares { HasSpares machine.now state.old.next_command spares.old }
+    requires settled { AreSettled state.old.now state.old.pools settled.old }
     ensures event { result ≡ event_of machine.now state.old state.old.now action }
     ensures state { state.new ≡ after machine.now state.old state.old.now action }
     ensures tool { KnowsMachine machine.now tool.new }
     ensures spares { HasSpares machine.now state.new.next_command spares.new }
+    ensures settled { AreSettled state.new.now state.new.pools settled.new }
 {
     match action {
-        Action::Stall => stall(machine, state),
-        Action::Xl => command(machine, state, tool, spares),
-        Action::Moved(r) => move_core(machine, r, state),
-        Action::DomMoved(d) => move_domain(machine, d, state),
-        _ => perform_at_home(machine, state, action),
+        Action::Stall => {
+            settled.clear();
+            stall(machine, state)
+        }
+        Action::Xl => {
+            settled.clear();
+            command(machine, state, tool, spares)
+        }
+        Action::Moved(r) => {
+            settled.clear();
+            move_core(machine, r, state)
+        }
+        Action::DomMoved(d) => {
+            settled.clear();
+            move_domain(machine, d, state)
+        }
+        _ => perform_at_home(machine, state, settled, action),
     }
 }

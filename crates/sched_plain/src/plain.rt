@@ -9,6 +9,7 @@ ghost use Rattle.sched_model.specs.Opening.{opening};
 use crate::enabled::is_enabled;
 use crate::perform::perform;
 use crate::scan::first_enabled;
+use crate::settled::Settled;
 use crate::soonest::next_turn;
 use cpupool::ToolState;
 use plain_opening::opening::open_state;
@@ -32,6 +33,7 @@ pub struct Plain {
     state: State,
     tool: ToolState,
     spares: Row<Option<Pool>>,
+    settled: Settled,
 }
 
 impl Model for Plain {
@@ -42,11 +44,13 @@ impl Model for Plain {
     ghost use Rattle.cpupool.specs.Tool.{KnowsMachine};
     ghost use Rattle.sched_plain.specs.CommandList.{HasSpares};
     ghost use Rattle.sched_plain.specs.ReachedStates.{Stands};
+    ghost use Rattle.sched_plain.specs.SettledPools.{AreSettled};
 
     ghost view = { λ p. record { machine = p.machine; state = p.state } };
 
     ghost invariant = { λ p. Stands p.machine p.state × KnowsMachine p.machine p.tool
-        × HasSpares p.machine p.state.next_command p.spares };
+        × HasSpares p.machine p.state.next_command p.spares
+        × AreSettled p.state.now p.state.pools p.settled };
 }
 
 /// The state of a machine at its opening, and what its tool knows then.
@@ -106,6 +110,7 @@ impl Plain {
                 state,
                 tool,
                 spares,
+                settled: Settled::none(),
             }),
             Err(full) => {
                 drop(machine);
@@ -168,6 +173,7 @@ impl Plain {
             &mut self.state,
             &mut self.tool,
             &mut self.spares,
+            &mut self.settled,
             action,
         )
     }
@@ -188,5 +194,6 @@ impl Plain {
         ensures { self.new ≡ record self.old { state = record self.old.state { now = next.0 } } }
     {
         self.state.now = next.0;
+        self.settled.clear();
     }
 }

@@ -3,6 +3,7 @@ use Rattle.std.specs.Prelude.{Some, None}
 use Rattle.sched_model.specs.Machine.{first_enabled_action, next_in_horizon}
 use Rattle.sched_model.specs.Standing.{Standing}
 use Rattle.sched_plain.proofs.Reaching.{stands-next}
+use Rattle.sched_plain.proofs.Settling.{none_settled}
 use Rattle.sched_plain.proofs.plain.Plain.pass_to.Goals as goal
 
 pub invariant_of-self : goal.invariant_of-self
@@ -14,4 +15,5 @@ invariant_of-self c =
           (subst (λ (v : Standing). next_in_horizon v.machine v.state ≡ Some c.args.next.0) (sym c.self.view_is) c.requires.next),
       c.self.invariant.1,
       c.self.invariant.2,
+      none_settled c.args.next.0 s.pools _ c.clear.ensures,
     )

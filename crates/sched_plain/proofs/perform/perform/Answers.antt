@@ -1,0 +1,14 @@
+use Rattle.sched_plain.proofs.Settling.{none_settled}
+use Rattle.sched_plain.proofs.perform.perform.Goals as goal
+
+pub returns-in-Stall-clause-settled : goal.returns-in-Stall-clause-settled
+returns-in-Stall-clause-settled c = none_settled _ _ _ c.clear.ensures
+
+pub returns-in-Xl-clause-settled : goal.returns-in-Xl-clause-settled
+returns-in-Xl-clause-settled c = none_settled _ _ _ c.clear-in-Xl.ensures
+
+pub returns-in-Moved-clause-settled : goal.returns-in-Moved-clause-settled
+returns-in-Moved-clause-settled c = none_settled _ _ _ c.clear-in-Moved.ensures
+
+pub returns-in-DomMoved-clause-settled : goal.returns-in-DomMoved-clause-settled
+returns-in-DomMoved-clause-settled c = none_settled _ _ _ c.clear-in-DomMoved.ensures
