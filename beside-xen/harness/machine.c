@@ -142,10 +142,22 @@ static bool pass_by_number(void)
     return any;
 }
 
+/* What a change of Xen's code may bring: a processor that is not late begins where the one that was asked is. */
+extern void take_over(unsigned int processor) __attribute__((weak));
+
+static void let_take_over(void)
+{
+    unsigned int processor;
+    for ( processor = 0; take_over && processor < plan.processors; processor++ )
+        if ( test_bit(SCHEDULE_SOFTIRQ, &softirq_pending(processor)) )
+            take_over(processor);
+}
+
 /* The processors of a core that is to decide arrive as soon as they are up, also where one that is late has not asked them yet. */
 static void let_arrive(void)
 {
     unsigned int core, processor;
+    let_take_over();
     for ( core = 0; core < plan.processors; core += core_size )
         for ( processor = core; processor < core + core_size; processor++ )
             if ( is_asked(core) && is_up(processor) && places[processor] == AT_REST )
@@ -243,13 +255,26 @@ static void carry_out_lines(void)
 }
 
 /*
+ * The late processor starts its vCPU. Xen tells it to look once more, for a call that it may have missed. It has missed
+ * none, and xensched has no event there; but where its siblings meet, it is to come when it is back.
+ */
+static void start_though_late(unsigned int processor)
+{
+    unsigned long asked = softirq_pending(processor) & (1ul << SCHEDULE_SOFTIRQ);
+    softirq_pending(processor) &= ~asked;
+    let_go_on(processor);
+    if ( !get_sched_res(processor)->curr->rendezvous_in_cnt )
+        clear_bit(SCHED_SLAVE_SOFTIRQ, &softirq_pending(processor));
+    softirq_pending(processor) |= asked;
+}
+
+/*
  * A vCPU that wakes while its siblings run starts beside them. By xensched's rule it does so at once, also where its
  * processor is late, and not at all where that has arrived for a decision.
  */
 static void start_beside_siblings(struct vcpu *vcpu)
 {
     unsigned int processor = vcpu->processor;
-    unsigned long asked = softirq_pending(processor) & (1ul << SCHEDULE_SOFTIRQ);
     if ( !plan.by_rank || !vcpu->force_context_switch || places[processor] != AT_REST || is_waiting[processor] )
         return;
     if ( has_arrived(processor) )
@@ -258,11 +283,7 @@ static void start_beside_siblings(struct vcpu *vcpu)
         clear_bit(SCHED_SLAVE_SOFTIRQ, &softirq_pending(processor));
     }
     else if ( !is_up(processor) )
-    {
-        softirq_pending(processor) &= ~asked;
-        let_go_on(processor);
-        softirq_pending(processor) |= asked;
-    }
+        start_though_late(processor);
 }
 
 static bool wake_guests(void)
