@@ -1,5 +1,5 @@
 
-/* What a late processor was asked, the first of its siblings that is not late takes over, but where the core meets already. */
+/* A late processor that was asked to schedule leaves that to the first of its siblings that is not late, unless the core meets already. */
 void take_over(unsigned int processor)
 {
     const struct sched_resource *core = get_sched_res(processor);

@@ -170,5 +170,5 @@ WITNESSES = {
     "rtds-wake": "RTDS, 4 cores, stalls", "rtds-remove": "pools, two of RTDS, cores moved", "credit2-leaving": "pools, two of Credit2, cores moved",
     "core-leave": "pools, two of Credit2, cores moved", "arinc-look": "ARINC 653, 1 core of two, stalls",
     "core-gather": "Credit2, 2 cores of two, stalls", "core-first": "ARINC 653, 1 core of two, stalls",
-    "core-begin": "ARINC 653, 1 core of four, stalls", "core-wake": "ARINC 653, 1 core of four, stalls",
+    "core-begin": "Credit2, 2 cores of two, stalls", "core-wake": "ARINC 653, 1 core of four, stalls",
 }
