@@ -66,19 +66,21 @@ class Builder:
 
     def program(self, changes=()):
         """The program with these changes, which are made in their order."""
-        with lock.alone_in(self.folder):
-            return self.built(changes)
+        name = "beside-" + hashlib.sha256(" ".join(changes).encode()).hexdigest()[:12] if changes else "beside"
+        if not (self.folder / name).exists():
+            with lock.alone_in(self.folder):
+                self.link(name, changes)
+        return self.folder / name
 
-    def built(self, changes):
-        sources = {name: self.xen / "common" / "sched" / f"{name}.c" for name in SCHEDULERS}
+    def link(self, name, changes):
+        sources = {it: self.xen / "common" / "sched" / f"{it}.c" for it in SCHEDULERS}
         for change in changes:
-            name = file_of(change)
-            sources[name] = self.edited(sources[name], change)
+            it = file_of(change)
+            sources[it] = self.edited(sources[it], change)
         rest = [self.xen / "common" / f"{name}.c" for name in COMMON] + [HERE / "harness" / f"{name}.c" for name in OWN]
         objects = [self.compiled(source, self.flags) for source in [*sources.values(), *rest]]
         objects.append(self.compiled(HERE / "harness" / "host.c", ["-O1", "-g", "-Wall", "-fno-pie"]))
-        name = "beside-" + hashlib.sha256(" ".join(changes).encode()).hexdigest()[:12] if changes else "beside"
-        return self.made(name, "-no-pie", *objects, "-T", HERE / "harness" / "sections.ld")
+        self.made(name, "-no-pie", *objects, "-T", HERE / "harness" / "sections.ld")
 
 
 def file_of(change):
