@@ -32,11 +32,6 @@ void hold_guest(unsigned int processor)
     is_held[processor] = true;
 }
 
-bool has_arrived(unsigned int processor)
-{
-    return is_held[processor];
-}
-
 /* It goes on. */
 static void release_guest(unsigned int processor)
 {

@@ -109,6 +109,5 @@ void stand_at(unsigned int processor, enum place place);
 /* guests.c */
 long done_at(unsigned int processor);
 void hold_guest(unsigned int processor);
-bool has_arrived(unsigned int processor);
 void block_guest(unsigned int processor);
 void wake_guest(struct vcpu *vcpu);

@@ -142,14 +142,15 @@ static bool pass_by_number(void)
     return any;
 }
 
-/* The processors of a core that is to decide arrive as soon as they are up, also where one that is late has not asked them yet. */
-static void let_arrive(void)
+/* What a change of Xen's code may bring: a processor that is not late begins where the one that was asked is. */
+extern void take_over(unsigned int processor) __attribute__((weak));
+
+static void let_take_over(void)
 {
-    unsigned int core, processor;
-    for ( core = 0; core < plan.processors; core += core_size )
-        for ( processor = core; processor < core + core_size; processor++ )
-            if ( is_asked(core) && is_up(processor) && places[processor] == AT_REST )
-                hold_guest(processor);
+    unsigned int processor;
+    for ( processor = 0; take_over && processor < plan.processors; processor++ )
+        if ( test_bit(SCHEDULE_SOFTIRQ, &softirq_pending(processor)) )
+            take_over(processor);
 }
 
 /* The processors of the first core that has something to do, after a look for each that arrives. */
@@ -157,7 +158,7 @@ static bool step_of_first_core(void)
 {
     unsigned int core, processor;
     bool any = false;
-    let_arrive();
+    let_take_over();
     for ( processor = 0; processor < plan.processors; processor++ )
         if ( may_decide(processor) )
             look(pool_of(processor));
@@ -242,27 +243,24 @@ static void carry_out_lines(void)
     }
 }
 
+/* What a change of Xen's code may bring: a vCPU that wakes while its siblings run starts also where its processor is late. */
+extern const bool starts_though_late __attribute__((weak));
+
 /*
- * A vCPU that wakes while its siblings run starts beside them. By xensched's rule it does so at once, also where its
- * processor is late, and not at all where that has arrived for a decision.
+ * The late processor starts its vCPU. Xen tells it to look once more, for a call that it may have missed. It has missed
+ * none, and xensched has no event there; but where its siblings meet, it is to come when it is back.
  */
-static void start_beside_siblings(struct vcpu *vcpu)
+static void start_beside_siblings(const struct vcpu *vcpu)
 {
     unsigned int processor = vcpu->processor;
     unsigned long asked = softirq_pending(processor) & (1ul << SCHEDULE_SOFTIRQ);
-    if ( !plan.by_rank || !vcpu->force_context_switch || places[processor] != AT_REST || is_waiting[processor] )
+    if ( is_up(processor) || !vcpu->force_context_switch || places[processor] != AT_REST || is_waiting[processor] )
         return;
-    if ( has_arrived(processor) )
-    {
-        vcpu->force_context_switch = false;
+    softirq_pending(processor) &= ~asked;
+    let_go_on(processor);
+    if ( !get_sched_res(processor)->curr->rendezvous_in_cnt )
         clear_bit(SCHED_SLAVE_SOFTIRQ, &softirq_pending(processor));
-    }
-    else if ( !is_up(processor) )
-    {
-        softirq_pending(processor) &= ~asked;
-        let_go_on(processor);
-        softirq_pending(processor) |= asked;
-    }
+    softirq_pending(processor) |= asked;
 }
 
 static bool wake_guests(void)
@@ -276,7 +274,8 @@ static bool wake_guests(void)
                 if ( vcpu->arch.wakes >= 0 && vcpu->arch.wakes <= present_moment )
                 {
                     wake_guest(vcpu);
-                    start_beside_siblings(vcpu);
+                    if ( &starts_though_late )
+                        start_beside_siblings(vcpu);
                     look(vcpu->domain->cpupool->cpupool_id);
                     any = true;
                 }

@@ -7,6 +7,8 @@ import hashlib
 import pathlib
 import subprocess
 
+import lock
+
 HERE = pathlib.Path(__file__).resolve().parent.parent
 SCHEDULERS = ["null", "arinc653", "rt", "credit2", "core", "cpupool"]
 COMMON = ["softirq", "bitmap"]
@@ -51,25 +53,34 @@ class Builder:
         target.write_text(text + (more.read_text() if more.exists() else ""))
         return target
 
-    def compiled(self, source, flags):
-        target = self.folder / f"{source.stem}.o"
+    def made(self, name, *words):
+        """What gcc makes with these words. It has its name only once it is whole."""
+        target, part = self.folder / name, self.folder / f"{name}.part"
         if not target.exists():
-            call("gcc", "-c", *flags, "-o", target, source)
+            call("gcc", *words, "-o", part)
+            part.rename(target)
         return target
+
+    def compiled(self, source, flags):
+        return self.made(f"{source.stem}.o", "-c", *flags, source)
 
     def program(self, changes=()):
         """The program with these changes, which are made in their order."""
-        sources = {name: self.xen / "common" / "sched" / f"{name}.c" for name in SCHEDULERS}
+        name = "beside-" + hashlib.sha256(" ".join(changes).encode()).hexdigest()[:12] if changes else "beside"
+        if not (self.folder / name).exists():
+            with lock.alone_in(self.folder):
+                self.link(name, changes)
+        return self.folder / name
+
+    def link(self, name, changes):
+        sources = {it: self.xen / "common" / "sched" / f"{it}.c" for it in SCHEDULERS}
         for change in changes:
-            name = file_of(change)
-            sources[name] = self.edited(sources[name], change)
+            it = file_of(change)
+            sources[it] = self.edited(sources[it], change)
         rest = [self.xen / "common" / f"{name}.c" for name in COMMON] + [HERE / "harness" / f"{name}.c" for name in OWN]
         objects = [self.compiled(source, self.flags) for source in [*sources.values(), *rest]]
         objects.append(self.compiled(HERE / "harness" / "host.c", ["-O1", "-g", "-Wall", "-fno-pie"]))
-        target = self.folder / ("beside-" + hashlib.sha256(" ".join(changes).encode()).hexdigest()[:12] if changes else "beside")
-        if not target.exists():
-            call("gcc", "-no-pie", "-o", target, *objects, "-T", HERE / "harness" / "sections.ld")
-        return target
+        self.made(name, "-no-pie", *objects, "-T", HERE / "harness" / "sections.ld")
 
 
 def file_of(change):

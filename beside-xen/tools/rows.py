@@ -15,7 +15,7 @@ CREDIT2 = ("credit2-look", "credit2-rate", "credit2-most", "credit2-wait", "cred
 ONE_CORE = ("credit2-rate", "credit2-wait", "credit2-tolerance", "credit2-floor", "credit2-head")
 ARINC = ("arinc-pools", "arinc-set", "arinc-grid", "arinc-look")
 NULL = ("null-keep",)
-CORE = ("core-sibling", "core-pin", "core-leave", "core-gather", "core-first")
+CORE = ("core-sibling", "core-pin", "core-leave", "core-gather", "core-first", "core-begin", "core-wake")
 EVERY = RTDS + CREDIT2 + ARINC + NULL + CORE
 
 # What Xen as it is has in common with xensched, on every machine of a row.
@@ -170,4 +170,5 @@ WITNESSES = {
     "rtds-wake": "RTDS, 4 cores, stalls", "rtds-remove": "pools, two of RTDS, cores moved", "credit2-leaving": "pools, two of Credit2, cores moved",
     "core-leave": "pools, two of Credit2, cores moved", "arinc-look": "ARINC 653, 1 core of two, stalls",
     "core-gather": "Credit2, 2 cores of two, stalls", "core-first": "ARINC 653, 1 core of two, stalls",
+    "core-begin": "Credit2, 2 cores of two, stalls", "core-wake": "ARINC 653, 1 core of four, stalls",
 }
