@@ -11,3 +11,4 @@ pub mod Searching
 pub mod Domains
 pub mod Turns
 pub mod Settling
+pub mod Ready

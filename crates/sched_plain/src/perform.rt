@@ -9,7 +9,7 @@ ghost use Rattle.cpupool.specs.Tool.{KnowsMachine};
 ghost use Rattle.sched_plain.specs.CommandList.{HasSpares};
 ghost use Rattle.sched_plain.specs.Fits.{PoolFitsAt};
 ghost use Rattle.sched_plain.specs.ReachedStates.{Stands};
-ghost use Rattle.sched_plain.specs.SettledPools.{AreSettled};
+ghost use Rattle.sched_plain.specs.SettledPools.{AreSettled, MayDecide};
 ghost use Rattle.pool_laws.specs.CoreLooks.{IsSettled};
 
 use crate::command::command;
@@ -45,11 +45,13 @@ fn perform_in(
     requires before { PoolFitsAt t.0 pool.old }
     requires after { PoolFitsAt t.0 (after_in granularity t.0 pool.old action) }
     requires settled { is_settled ≡ true → IsSettled t.0 pool.old }
+    requires decides { MayDecide granularity pool.old }
     ensures event { result ≡ event_in granularity t.0 pool.old action }
     ensures pool { pool.new ≡ settled_pool t.0 (after_in granularity t.0 pool.old action) }
 {
+    let is_looked_at = needs_look(is_settled, action, pool);
     let event = happen(granularity, t, action, pool);
-    if needs_look(is_settled, action) {
+    if is_looked_at {
         settle(t, pool);
     }
     event

@@ -1,9 +1,13 @@
 //! Which pools were settled at the present moment, so that settling them again would change nothing.
 
 ghost use Rattle.std.specs.Prelude.{◌≡◌, ◌&&◌, not};
-ghost use Rattle.sched_plain.specs.SettledPools.{is_spared};
+ghost use Rattle.sched_plain.specs.SettledPools.{is_decision_spared, is_spared, may_free};
 
+use sched_base::ResId;
 use sched_model::action::Action;
+use sched_model::places::item_at;
+use sched_model::state::{Pool, Records, Resource};
+use scheduler_records::credit2_slice::domain_has_budget;
 use std::marker::Model;
 
 /// A mark for each of the 16 pools: whether it was settled at the present moment, and nothing changed since that this depends on. Contracts see
@@ -55,12 +59,40 @@ impl Settled {
     }
 }
 
-/// Whether the pool has to be looked at after the event: it was not settled, or the event changes the scheduler or what a core asks it.
-pub fn needs_look(is_settled: bool, action: Action) -> bool
-    ensures { result ≡ not (is_spared action && is_settled) }
+/// Whether a decision of the core may free something that another core may have: the budget of its own unit's domain, or what a leaving core
+/// was given. An ARINC 653 pool is looked at after each decision.
+fn decision_may_free(records: &Records, core: &Resource) -> bool
+    ensures { result ≡ may_free records.now core.now }
+{
+    match records {
+        Records::Credit2Pool(records) => match core.cur {
+            None => false,
+            Some(u) => !domain_has_budget(records, u),
+        },
+        Records::RtdsPool(_) => false,
+        Records::ArincPool(_) => true,
+        Records::NullPool(_) => core.leaving,
+    }
+}
+
+/// Whether the decision of the core with this number frees nothing.
+fn frees_nothing(r: ResId, pool: &Pool) -> bool
+    ensures { result ≡ is_decision_spared r.0 pool.now }
+{
+    match item_at(pool.resources.as_slice(), r.0 as usize) {
+        None => true,
+        Some(c) => !decision_may_free(&pool.scheduler.records, c),
+    }
+}
+
+/// Whether the pool, as it is before the event, has to be looked at after it: it was not settled, or the event changes the scheduler or what a
+/// core asks it, and is no decision that frees nothing.
+pub fn needs_look(is_settled: bool, action: Action, pool: &Pool) -> bool
+    ensures { result ≡ not (is_spared action pool.now && is_settled) }
 {
     match action {
         Action::Arrive(_) | Action::Leave(_) | Action::Block(_) | Action::Slice(_) => !is_settled,
+        Action::Decide(r) => !(frees_nothing(r, pool) && is_settled),
         _ => true,
     }
 }

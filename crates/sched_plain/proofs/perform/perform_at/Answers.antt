@@ -5,6 +5,7 @@ use Rattle.sched_model.specs.Pool.{after_in}
 use Rattle.sched_plain.specs.SettledPools.{AreSettled}
 use Rattle.sched_plain.proofs.Bridges.{stands-early, stands-machine, stands-state}
 use Rattle.sched_plain.proofs.Performing.{pool-here, enabled-here, fits-here, fits-after, event-here, state-here}
+use Rattle.sched_plain.proofs.Ready.{may_decide}
 use Rattle.sched_plain.proofs.Settling.{settled_here, settled_then}
 use Rattle.sched_plain.proofs.perform.perform_at.Goals as goal
 
@@ -75,3 +76,8 @@ returns-clause-settled c =
     subst (λ (marks : List Bool). AreSettled s.now (slice_set s.pools c.args.place (Some c.perform_in-event.new.pool)) marks) (sym c.mark.ensures)
     (settled_then s.now c.args.t.0 c.args.place s.pools c.in-Some.pool (after_in c.args.machine.now.config.granularity c.args.t.0 c.in-Some.pool c.args.action) c.perform_in-event.new.pool c.args.settled.now c.requires.settled c.requires.now
     (at_place-item c.args.state.now.pools c.args.place c.item_mut.result.now (omega arith) c.item_mut.ensures.value ∙ c.in-Some.is) c.perform_in-event.ensures.pool)
+
+pub perform_in-event-requires-clause-decides : goal.perform_in-event-requires-clause-decides
+perform_in-event-requires-clause-decides c =
+    may_decide c.args.machine.now c.args.state.now c.requires.stands c.args.place c.in-Some.pool
+    (at_place-item c.args.state.now.pools c.args.place c.item_mut.result.now (omega arith) c.item_mut.ensures.value ∙ c.in-Some.is)
