@@ -15,8 +15,8 @@ use Rattle.sched_model.specs.Pool.{is_held_back}
 use Rattle.due_heap.specs.Dues.{armed_moment}
 use Rattle.pool_laws.specs.ReadyMoments.{guarded_moment, later_of, end_of, end_where, slice_moment, may_gather}
 use Rattle.core_state.specs.declared.dues.Dues.{Dues}
-use Rattle.core_state.specs.Seen.{Seen, processor_among}
-use Rattle.core_state.specs.Ends.{may_core_decide, may_core_save, may_core_part, ready_among, sibling_among}
+use Rattle.core_state.specs.Seen.{Seen, core_sibling, processor_among}
+use Rattle.core_state.specs.Ends.{may_core_decide, may_core_save, may_core_part, arrival_among, ready_among, sibling_among, sibling_end}
 use Rattle.core_state.specs.CoreState.{AgreesBut, AreArmedBut, AreArmed, with_core_ends, with_processor_ends}
 
 -- a number armed with its moment has it, and each other number has what it had
@@ -35,7 +35,7 @@ armed_at from i dues ends ids past others =
     ]
 
 -- one number more has its moment
-next : (from to : ℕ) (dues : List (Option Moment)) (ends : ℕ → Option Moment) → (64 ≤ from → ends from ≡ None)
+pub next : (from to : ℕ) (dues : List (Option Moment)) (ends : ℕ → Option Moment) → (64 ≤ from → ends from ≡ None)
     → AgreesBut from to dues ends → AgreesBut (from + 1) to (slice_set dues from (ends from)) ends
 next from to dues ends past are = record {
   ids = length-set dues from (ends from) ∙ are.ids;
@@ -166,6 +166,22 @@ sibling_armed r r' i q seen dues core work granularity few lt core_is work_is ar
     ∙ ap (λ (o : Option Moment). with_processor_ends p core i o dues) (sym work_is) in
     subst (λ (k : ℕ). AreArmedBut r' r' k q seen (with_processor_ends p core i work dues)) more
     (subst (λ (new : Dues). AreArmedBut r' r' (p + 1) q seen new) ends (processor_armed r' r' p q seen dues granularity few are))
+
+-- the i-th processor of the core, if it is there, armed anew with the moment from which on it may arrive
+pub arrival_armed : (g r i to : ℕ) (cores : List (Option Resource)) (arrives : List (Option Moment)) (core : Option Resource) → IsGranularity g → length cores * g ≤ 64 → i < g → core ≡ at_place cores r
+    → AgreesBut (r * g + i) to arrives (arrival_among g cores)
+    → AgreesBut (r * g + (i + 1)) to (slice_set arrives (r * g + i) (sibling_end may_gather (λ q. not (is_held_back q)) core (core_sibling core i))) (arrival_among g cores)
+arrival_armed g r i to cores arrives core granularity few lt core_is are =
+    let p : ℕ = r * g + i in
+    let place = place_of g r i granularity lt in
+    let more : p + 1 ≡ r * g + (i + 1) = omega arith in
+    let end_is : arrival_among g cores p ≡ sibling_end may_gather (λ q. not (is_held_back q)) core (core_sibling core i) =
+    ap (λ (k : ℕ). sibling_end may_gather (λ q. not (is_held_back q)) (at_place cores k) (core_sibling (at_place cores k) (p % g))) place.0
+    ∙ ap (λ (k : ℕ). sibling_end may_gather (λ q. not (is_held_back q)) (at_place cores r) (core_sibling (at_place cores r) k)) place.1
+    ∙ ap (λ (o : Option Resource). sibling_end may_gather (λ q. not (is_held_back q)) o (core_sibling o i)) (sym core_is) in
+    subst (λ (k : ℕ). AgreesBut k to (slice_set arrives p (sibling_end may_gather (λ q. not (is_held_back q)) core (core_sibling core i))) (arrival_among g cores)) more
+    (subst (λ (end : Option Moment). AgreesBut (p + 1) to (slice_set arrives p end) (arrival_among g cores)) end_is
+    (next p to arrives (arrival_among g cores) (λ past. sibling_past g p may_gather (λ q. not (is_held_back q)) cores (core_of_past g cores p granularity few past)) are))
 
 -- where none is left, all are armed
 pub all_armed : (r p q : ℕ) (seen : Seen) (dues : Dues) → q ≤ p → AreArmedBut r r p q seen dues → AreArmed seen dues

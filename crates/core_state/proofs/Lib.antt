@@ -1,3 +1,4 @@
 pub mod Arming
 pub mod ChangeLemmas
 pub mod Leasts
+pub mod Pending

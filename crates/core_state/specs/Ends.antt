@@ -24,6 +24,10 @@ sibling_end of_core of_processor core processor =
 abbrev pub sibling_among : ℕ → List (Option Resource) → ℕ → (Resource → Bool) → (Processor → Bool) → Option Moment
 sibling_among g cores p of_core of_processor = sibling_end of_core of_processor (at_place cores (p / g)) (processor_among g cores p)
 
+-- from when on the processor p may arrive, where these are the cores
+abbrev pub arrival_among : ℕ → List (Option Resource) → ℕ → Option Moment
+arrival_among g cores p = sibling_among g cores p may_gather (λ q. not (is_held_back q))
+
 -- whether the core may decide
 abbrev pub may_core_decide : Resource → Bool
 may_core_decide c = list_all is_held_back c.processors && is_gathering c
@@ -41,7 +45,7 @@ abbrev pub ready_among : Seen → Action → Option Moment
 ready_among seen (Moved r) = end_where may_core_move (at_place seen.resources r.0)
 ready_among seen (Block p) = later_of (at_place seen.works p.0) (end_of (processor_among seen.granularity seen.resources p.0))
 ready_among seen (Slice r) = slice_moment (at_place seen.resources r.0)
-ready_among seen (Arrive p) = sibling_among seen.granularity seen.resources p.0 may_gather (λ q. not (is_held_back q))
+ready_among seen (Arrive p) = arrival_among seen.granularity seen.resources p.0
 ready_among seen (Decide r) = end_where may_core_decide (at_place seen.resources r.0)
 ready_among seen (Leave p) = sibling_among seen.granularity seen.resources p.0 may_core_part is_held_back
 ready_among seen (Save r) = end_where may_core_save (at_place seen.resources r.0)

@@ -8,6 +8,7 @@ ghost use Rattle.core_state.specs.Seen.{extended_stall_end};
 use crate::changes::{choose_at, clear_works, set_pending_by};
 use crate::dues::{
     Dues, IDS, advance, earlier, empty_dues, first_due_core, first_due_processor, least_of, rearm,
+    rearm_arrivals,
 };
 use crate::ends::{lowest_end, move_end, processor_at};
 use pool_records::changes::{bring_due_at, open_if_left, take_saved};
@@ -239,13 +240,14 @@ impl CoreState {
         core
     }
 
-    /// The core is to decide anew.
+    /// The core is to decide anew: it has no slice then, and its processors may arrive. No other moment changes.
     pub fn set_pending(&mut self, r: ResId)
         ensures { self.new ≡ changed_core r.0 pending_core self.old }
     {
         let g = self.granularity;
         set_pending(r, &mut self.cores);
-        rearm(&mut self.dues, g, r, &self.cores, &self.works);
+        self.dues.slices.disarm(r.0 as u16);
+        rearm_arrivals(&mut self.dues.arrives, g, r, &self.cores);
     }
 
     /// The core is to decide anew, and has this due.

@@ -2,9 +2,11 @@
 
 ghost use Rattle.std.specs.Prelude.{◌≡◌, ◌+◌, ◌*◌, ◌<◌, ◌≤◌, None, Some, IfOk, length, slice_set, replicate};
 ghost use Rattle.std.specs.Option.{option_copied};
+ghost use Rattle.sched_model.specs.CheckedMachine.{IsGranularity};
 ghost use Rattle.due_heap.specs.Dues.{armed_moment};
 ghost use Rattle.core_state.specs.Firsts.{IsFirstCore, IsFirstProcessor, IsLeast, earlier_of_both};
-ghost use Rattle.core_state.specs.CoreState.{AreArmed, AreEmpty, MayRearm, with_core_ends, with_processor_ends};
+ghost use Rattle.core_state.specs.CoreState.{AgreesBut, AreArmed, AreEmpty, MayRearm, with_core_ends, with_processor_ends};
+ghost use Rattle.core_state.specs.Ends.{arrival_among};
 
 use crate::ends::{
     arrive_end, block_end, decide_end, leave_end, save_end, sibling_of, slice_end, work_at,
@@ -104,6 +106,30 @@ fn rearm_processor(
     set_due(&mut dues.blocks, p, block_end(work, processor));
     set_due(&mut dues.arrives, p, arrive_end(core, processor));
     set_due(&mut dues.leaves, p, leave_end(core, processor));
+}
+
+/// Arms the core's processors anew with the moments from which on they may arrive.
+pub fn rearm_arrivals(
+    arrives: &mut DueSet,
+    granularity: u8,
+    r: ResId,
+    cores: &Row<Option<Resource>>,
+)
+    requires granularity { IsGranularity granularity }
+    requires places { length cores.now * granularity ≤ 64 }
+    requires others { AgreesBut (r.0 * granularity) (r.0 * granularity + granularity) arrives.old
+        (arrival_among granularity cores.now) }
+    ensures { AgreesBut 0 0 arrives.new (arrival_among granularity cores.now) }
+{
+    let core = item_at(cores.as_slice(), r.0 as usize);
+    for i in 0..granularity {
+        let p = r.0 as u16 * granularity as u16 + i as u16;
+        set_due(
+            arrives,
+            p,
+            arrive_end(core, sibling_of(core, i as usize)),
+        );
+    }
 }
 
 /// Arms the core and its processors anew, after a change of that core or of its processors' works.

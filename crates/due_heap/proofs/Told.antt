@@ -1,17 +1,17 @@
 -- What the words of a set of moments tell: a change of one id, a later moment told, and the walks over an id after another.
 use Rattle.std.proofs.Common.{◌≡◌, ◌≢◌, ℕ, ◌≤◌, ◌<◌, Option, Some, None, List, length, set, Bool, true, false, refl, sym, ◌∙◌, ap, subst, inl, inr, arith}
-use Rattle.std.specs.Prelude.{IfNone, IfSome, unwrap_or, ◌&&◌, ◌||◌, not, if◌then◌else◌}
+use Rattle.std.specs.Prelude.{IfNone, IfSome, ◌&&◌, ◌||◌, not, if◌then◌else◌}
 use Rattle.std.proofs.Math.Decide.{ℕ_discrete}
 use Rattle.std.proofs.lemmas.Bool.{cases_lt}
 use Rattle.std.proofs.lemmas.Bool.Decides.{nat_tests}
 use Rattle.std.proofs.lemmas.List.{get_or-set_same, get_or-set_other, get_or_past, length-set}
 use Rattle.sched_base.specs.declared.Moment.{Moment}
-use Rattle.sched_base.proofs.Bools.{and_left, and_right}
+use Rattle.due_heap.specs.declared.set.Sifted.{Sifted}
 use Rattle.due_heap.specs.declared.set.Words.{Words}
 use Rattle.due_heap.specs.Dues.{IsArmed, GoesFirst, HasCome, armed_moment}
 use Rattle.due_heap.specs.Winners.{precedes, is_armed_due}
 use Rattle.sched_base.specs.Numbers.{has_moment_come}
-use Rattle.due_heap.specs.Words.{AreWords, ChangesId, IsFirstAmong, IsFirstCome, IsLowest, TakesDue, first_with_id, has_core_bit, is_later}
+use Rattle.due_heap.specs.Words.{AreWords, ChangesId, IsFirstAmong, IsFirstCome, IsLowest, Sifts, TakesDue, first_with_id, has_core_bit, is_later}
 use Rattle.due_heap.proofs.Tree.{armed_below, precedes-goes_first}
 use Rattle.due_heap.proofs.Descent.{is_come, past_of}
 
@@ -125,44 +125,22 @@ come_more moments t among id rest rest_new come come_new low without put are = r
   ];
 }
 
--- the ids of a set that are no longer to be looked at, and whose moment has not come at t
-abbrev pub is_sifted : List (Option Moment) → ℕ → ℕ → ℕ → ℕ → Bool
-is_sifted moments t among rest id = (has_core_bit among id && not (has_core_bit rest id)) && not (is_armed_due moments t id)
+-- none of those that are no longer to be looked at, and whose moment is after t, goes before the bound
+abbrev pub IsBoundBut : List (Option Moment) → ℕ → ℕ → ℕ → Moment → ℕ → Type 0
+IsBoundBut moments t among rest soon next = (id : ℕ) (at : Moment) → has_core_bit among id ≡ true → has_core_bit rest id ≡ false → IsArmed moments id at → t < at.0 → GoesFirst soon next at id
 
-not_both : (b : Bool) → b ≡ true → not b ≡ true → ⊥
-not_both true is is_not = let wrong : false ≡ true = is_not in absurd (cc)
-not_both false is is_not = let wrong : false ≡ true = is in absurd (cc)
+pub bound_more : (moments : List (Option Moment)) (t among id rest rest_new : ℕ) (old new : Sifted) → ChangesId id false rest rest_new → Sifts moments id t old new
+    → IsBoundBut moments t among rest old.soon old.next → IsBoundBut moments t among rest_new new.soon new.next
+bound_more moments t among id rest rest_new old new change sifts so_far = λ other at has gone armed after.
+    elim (ℕ_discrete other id) [
+      | yes e ↦ subst (λ (k : ℕ). GoesFirst new.soon new.next at k) (sym e) (sifts.soon at (subst (λ (k : ℕ). IsArmed moments k at) e armed) after)
+      | no ne ↦ sifts.others at other (so_far other at has (sym (change.others other ne) ∙ gone) armed after)
+    ]
 
-pub sift_more : (moments : List (Option Moment)) (t among id rest rest_new : ℕ) → ChangesId id false rest rest_new
-    → (first : Option (Moment × ℕ)) (due : Option Moment) → armed_moment moments id ≡ due → (come : Bool) → come ≡ is_armed_due moments t id
-    → IsFirstAmong moments (is_sifted moments t among rest) first
-    → IsFirstAmong moments (is_sifted moments t among rest_new) (first_with_id first (if come then None else due) id)
-sift_more moments t among id rest rest_new change first due is = by
-  where
-    before : (other : ℕ) → is_sifted moments t among rest_new other ≡ true → other ≢ id → is_sifted moments t among rest other ≡ true
-    before other has ne =
-        ap (λ (b : Bool). b && not (is_armed_due moments t other)) (looked_before among id rest rest_new change other (and_left (has_core_bit among other && not (has_core_bit rest_new other)) (not (is_armed_due moments t other)) has) ne)
-        ∙ and_right (has_core_bit among other && not (has_core_bit rest_new other)) (not (is_armed_due moments t other)) has
-
-    by : (come : Bool) → come ≡ is_armed_due moments t id → IsFirstAmong moments (is_sifted moments t among rest) first
-        → IsFirstAmong moments (is_sifted moments t among rest_new) (first_with_id first (if come then None else due) id)
-    by true come so_far =
-        among_fewer moments (is_sifted moments t among rest) (is_sifted moments t among rest_new) first
-        (λ other m armed has. elim (ℕ_discrete other id) [
-          | yes e ↦
-              absurd (not_both (is_armed_due moments t id) (sym come)
-              (subst (λ (k : ℕ). not (is_armed_due moments t k) ≡ true) e (and_right (has_core_bit among other && not (has_core_bit rest_new other)) (not (is_armed_due moments t other)) has)))
-          | no ne ↦ before other has ne
-        ]) so_far
-    by false come so_far = among_more moments (is_sifted moments t among rest) (is_sifted moments t among rest_new) id before first due is so_far
-
-pub all_sifted : (moments : List (Option Moment)) (t among rest : ℕ) (first : Option (Moment × ℕ)) → ((id : ℕ) → has_core_bit rest id ≡ false)
-    → IsFirstAmong moments (is_sifted moments t among rest) first → IsFirstAmong moments (λ id. has_core_bit among id && not (is_armed_due moments t id)) first
-all_sifted moments t among rest first none is =
-    among_fewer moments (is_sifted moments t among rest) (λ (id : ℕ). has_core_bit among id && not (is_armed_due moments t id)) first
-    (λ id m armed has.
-    ap (λ (b : Bool). b && not (is_armed_due moments t id)) (all_looked_at among rest none id (and_left (has_core_bit among id) (not (is_armed_due moments t id)) has))
-    ∙ and_right (has_core_bit among id) (not (is_armed_due moments t id)) has) is
+-- an id that is still to be looked at is not among those that have come
+pub not_come_yet : (moments : List (Option Moment)) (t among id rest come : ℕ) → IsLowest rest id → AreComeBut moments t among rest come → has_core_bit come id ≡ false
+not_come_yet moments t among id rest come low are =
+    are.come_is id low.few ∙ ap (λ (b : Bool). not b && (has_core_bit among id && is_armed_due moments t id)) low.has
 
 -- ---- one id takes its moment, or none
 
@@ -242,53 +220,27 @@ later_less told t (Some at) le = and_less (has_moment_come told (Some at)) (has_
 later_is : (moments : List (Option Moment)) (t id : ℕ) (at : Moment) → IsArmed moments id at → t < at.0 → is_later t (armed_moment moments id) ≡ true
 later_is moments t id at armed after = ap (is_later t) armed ∙ ap not (not_past_is t at after)
 
--- a moment told at which ids may come: those of the later ones that come, those that do not, and the first of these
-pub told_looked : (moments : List (Option Moment)) (words : Words) (t : Moment) (come both later : ℕ) (first : Option (Moment × ℕ)) (bound : Moment × ℕ)
+-- a moment told at which ids may come: those of the later ones that come, those that do not, and a bound of these
+pub told_looked : (moments : List (Option Moment)) (words : Words) (t : Moment) (come both later : ℕ) (soon : Moment) (next : ℕ)
     → AreWords moments words → words.told.0 ≤ t.0
     → ((id : ℕ) → id < 64 → has_core_bit come id ≡ (has_core_bit words.later id && is_armed_due moments t.0 id))
     → ((id : ℕ) → has_core_bit both id ≡ (has_core_bit words.come id || has_core_bit come id))
     → ((id : ℕ) → id < 64 → has_core_bit later id ≡ (has_core_bit words.later id && not (has_core_bit come id)))
-    → IsFirstAmong moments (has_core_bit later) first → bound ≡ unwrap_or first (words.soon, words.next)
-    → AreWords moments (record { told = t; come = both; later = later; soon = bound.0; next = bound.1 })
-told_looked moments words t come both later first bound are le come_is both_is later_is_of is_first bound_is = record {
+    → ((id : ℕ) (at : Moment) → has_core_bit words.later id ≡ true → IsArmed moments id at → t.0 < at.0 → GoesFirst soon next at id)
+    → AreWords moments (record { told = t; come = both; later = later; soon = soon; next = next })
+told_looked moments words t come both later soon next are le come_is both_is later_is_of bound = record {
   few = are.few;
   come = λ id few. both_is id ∙ ap (λ (b : Bool). has_core_bit words.come id || b) (came id few) ∙ ap (λ (b : Bool). b || (is_later words.told.0 (armed_moment moments id) && is_armed_due moments t.0 id)) (are.come id few)
       ∙ past_more words.told.0 t.0 (armed_moment moments id) le;
-  later = is_left;
+  later = λ id few. later_is_of id few ∙ ap (λ (b : Bool). has_core_bit words.later id && not b) (came id few)
+      ∙ ap (λ (b : Bool). b && not (is_later words.told.0 (armed_moment moments id) && is_armed_due moments t.0 id)) (are.later id few) ∙ later_less words.told.0 t.0 (armed_moment moments id) le;
   soon = λ id at armed after.
       let few : id < 64 = (let lt = armed_below moments id at armed in let few = are.few in omega (arith, lt, few)) in
-      by first bound_is is_first id at (is_left id few ∙ later_is moments t.0 id at armed after) armed;
+      bound id at (are.later id few ∙ later_is moments words.told.0 id at armed (omega (arith, le, after))) armed after;
 }
   where
     came : (id : ℕ) → id < 64 → has_core_bit come id ≡ (is_later words.told.0 (armed_moment moments id) && is_armed_due moments t.0 id)
     came id few = come_is id few ∙ ap (λ (b : Bool). b && is_armed_due moments t.0 id) (are.later id few)
-
-    is_left : (id : ℕ) → id < 64 → has_core_bit later id ≡ is_later t.0 (armed_moment moments id)
-    is_left id few = later_is_of id few ∙ ap (λ (b : Bool). has_core_bit words.later id && not b) (came id few)
-        ∙ ap (λ (b : Bool). b && not (is_later words.told.0 (armed_moment moments id) && is_armed_due moments t.0 id)) (are.later id few) ∙ later_less words.told.0 t.0 (armed_moment moments id) le
-
-    by : (f : Option (Moment × ℕ)) → bound ≡ unwrap_or f (words.soon, words.next) → IsFirstAmong moments (has_core_bit later) f
-        → (id : ℕ) (at : Moment) → has_core_bit later id ≡ true → IsArmed moments id at → GoesFirst bound.0 bound.1 at id
-    by None e is id at has armed = absurd (is id at has armed)
-    by (Some due) e is id at has armed = subst (λ (b : Moment × ℕ). GoesFirst b.0 b.1 at id) (sym e) (is.1 id at has armed)
-
--- the first of those that have not come is the first of the later ones that stay
-pub later_first : (moments : List (Option Moment)) (words : Words) (t come later : ℕ) (first : Option (Moment × ℕ)) → AreWords moments words
-    → ((id : ℕ) → id < 64 → has_core_bit come id ≡ (has_core_bit words.later id && is_armed_due moments t id))
-    → ((id : ℕ) → id < 64 → has_core_bit later id ≡ (has_core_bit words.later id && not (has_core_bit come id)))
-    → IsFirstAmong moments (λ id. has_core_bit words.later id && not (is_armed_due moments t id)) first → IsFirstAmong moments (has_core_bit later) first
-later_first moments words t come later first are come_is later_is_of is =
-    among_fewer moments (λ (id : ℕ). has_core_bit words.later id && not (is_armed_due moments t id)) (has_core_bit later) first
-    (λ id at armed has.
-    let lt = armed_below moments id at armed in
-    let few = are.few in
-    let in_words : id < 64 = omega (arith, lt, few) in
-    not_come (has_core_bit words.later id) (is_armed_due moments t id)
-    (ap (λ (b : Bool). has_core_bit words.later id && not b) (sym (come_is id in_words)) ∙ sym (later_is_of id in_words) ∙ has)) is
-  where
-    not_come : (later come : Bool) → (later && not (later && come)) ≡ true → (later && not come) ≡ true
-    not_come true come e = e
-    not_come false come e = e
 
 -- ---- the least id that has come, and the first armed id
 

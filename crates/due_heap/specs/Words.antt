@@ -2,6 +2,7 @@
 use Rattle.std.specs.Prelude.{ℕ, ◌≤◌, ◌<◌, ◌≡◌, ◌≢◌, ◌&&◌, not, is_some, Bool, true, false, Option, Some, None, List, length, if◌then◌else◌}
 use Rattle.sched_base.specs.declared.Moment.{Moment}
 pub use Rattle.sched_base.specs.CoreSets.{has_core_bit}
+use Rattle.due_heap.specs.declared.set.Sifted.{Sifted}
 use Rattle.due_heap.specs.declared.set.Words.{Words}
 use Rattle.due_heap.specs.Dues.{armed_moment, IsArmed, GoesFirst}
 use Rattle.due_heap.specs.Winners.{is_armed_due, precedes}
@@ -35,6 +36,12 @@ pub record TakesDue (id : ℕ) (due : Option Moment) (old new : Words) : Type 0 
   pub come : ChangesId id (has_moment_come old.told.0 due) old.come new.come
   pub later : ChangesId id (is_later old.told.0 due) old.later new.later
   pub soon : (at : Moment) → due ≡ Some at → old.told.0 < at.0 → GoesFirst new.soon new.next at id
+  pub others : (at : Moment) (other : ℕ) → GoesFirst old.soon old.next at other → GoesFirst new.soon new.next at other
+
+-- what a walk has found after one id more: it is among those that have come at t, or it does not go before the bound
+pub record Sifts (moments : List (Option Moment)) (id t : ℕ) (old new : Sifted) : Type 0 where
+  pub come : ChangesId id (is_armed_due moments t id) old.come new.come
+  pub soon : (at : Moment) → IsArmed moments id at → t < at.0 → GoesFirst new.soon new.next at id
   pub others : (at : Moment) (other : ℕ) → GoesFirst old.soon old.next at other → GoesFirst new.soon new.next at other
 
 -- of the first so far and an id with its moment, if it is armed, the one that goes first

@@ -7,7 +7,7 @@
 ghost use Rattle.std.specs.Prelude.{ℕ, ◌≡◌, ◌<◌, ◌≤◌, ◌^◌, ◌&&◌, not, true, false, if◌then◌else◌, length, IsTrue, IfNone, IfSome};
 ghost use Rattle.due_heap.specs.Dues.{IsArmed, GoesFirst};
 ghost use Rattle.due_heap.specs.Winners.{is_armed_due};
-ghost use Rattle.due_heap.specs.Words.{AreWords, IsFirstAmong, IsFirstCome, TakesDue, first_with_id, has_core_bit};
+ghost use Rattle.due_heap.specs.Words.{AreWords, IsFirstAmong, IsFirstCome, Sifts, TakesDue, first_with_id, has_core_bit};
 
 use crate::bits::{difference, lowest, put_id, union, without};
 use crate::order::{due_of, goes_before, is_due};
@@ -115,32 +115,51 @@ fn first_of(moments: &[Option<Moment>], set: u64) -> Option<(Moment, u16)>
     first
 }
 
-/// A moment, or none where it has come.
-#[inline]
-fn still_due(due: Option<Moment>, come: bool) -> Option<Moment>
-    ensures { result ≡ (if come then None else due) }
-{
-    if come { None } else { due }
+/// What a walk over some ids has found: those whose moment has come, and a bound that none of the others goes before.
+#[derive(Drop)]
+struct Sifted {
+    come: u64,
+    soon: Moment,
+    next: u16,
 }
 
-/// Those of a set whose moment has come at t, and the first of the others, by moment, then by id.
-fn sift(moments: &[Option<Moment>], set: u64, t: Moment) -> (u64, Option<(Moment, u16)>)
+/// One id more is looked at.
+#[inline]
+fn sift_one(moments: &[Option<Moment>], id: u16, t: Moment, sifted: &mut Sifted)
+    requires few { id < 64 }
+    requires new { has_core_bit sifted.old.come id ≡ false }
+    ensures { Sifts moments.now id t.0 sifted.old sifted.new }
+{
+    match due_of(moments, id) {
+        None => (),
+        Some(at) => if at.0 <= t.0 {
+            sifted.come = put_id(sifted.come, id, true);
+        } else if goes_before(at, id, sifted.soon, sifted.next) {
+            sifted.soon = at;
+            sifted.next = id;
+        },
+    }
+}
+
+/// Those of a set whose moment has come at t, and a bound that none of the others goes before.
+fn sift(moments: &[Option<Moment>], set: u64, t: Moment) -> Sifted
     requires { length moments.now ≤ 64 }
-    ensures come { (id : ℕ) → id < 64 → has_core_bit result.0 id
+    ensures come { (id : ℕ) → id < 64 → has_core_bit result.come id
         ≡ (has_core_bit set id && is_armed_due moments.now t.0 id) }
-    ensures first { IsFirstAmong moments.now (λ id. has_core_bit set id
-        && not (is_armed_due moments.now t.0 id)) result.1 }
+    ensures soon { (id : ℕ) (at : Moment) → has_core_bit set id ≡ true → IsArmed moments.now id at →
+        t.0 < at.0 → GoesFirst result.soon result.next at id }
 {
     let mut rest = set;
-    let mut come = 0;
-    let mut first = None;
+    let mut sifted = Sifted {
+        come: 0,
+        soon: Moment(u64::MAX),
+        next: 0,
+    };
     while let Some(id) = lowest(rest) {
         rest = without(rest, id);
-        let is_past = is_due(moments, id, t);
-        come = put_id(come, id, is_past);
-        first = first_with(first, still_due(due_of(moments, id), is_past), id);
+        sift_one(moments, id, t, &mut sifted);
     }
-    (come, first)
+    sifted
 }
 
 /// A moment is told at which an id may come.
@@ -150,13 +169,12 @@ fn look(moments: &[Option<Moment>], t: Moment, words: &mut Words)
     requires after { words.old.told.0 ≤ t.0 }
     ensures { AreWords moments.now words.new }
 {
-    let (come, first) = sift(moments, words.later, t);
-    let (soon, next) = first.unwrap_or((words.soon, words.next));
+    let sifted = sift(moments, words.later, t);
     words.told = t;
-    words.come = union(words.come, come);
-    words.later = difference(words.later, come);
-    words.soon = soon;
-    words.next = next;
+    words.come = union(words.come, sifted.come);
+    words.later = difference(words.later, sifted.come);
+    words.soon = sifted.soon;
+    words.next = sifted.next;
 }
 
 /// A moment is told. One that is not after the last one changes nothing.

@@ -5,7 +5,8 @@ use crate::opening::{open_pools, open_tool};
 use cpupool::ToolState;
 use machine_parts::places::read_firsts;
 use machine_parts::{
-    PoolSlot, Spares, Trail, perform_among, pool_of_event, whole_first, whole_next,
+    PoolSlot, Spares, Trail, perform_among, pool_of_event, pools_first, tool_rests, whole_first,
+    whole_next,
 };
 use sched_base::{Moment, NoMemory};
 use sched_model::action::Action;
@@ -33,6 +34,8 @@ pub struct Engine {
     firsts: Vec<Option<Action>>,
     nexts: Vec<Option<Moment>>,
     busy: usize,
+    /// Only where nothing of the tool may come in this moment, whatever the pools do. Then the pools alone are asked.
+    quiet: bool,
 }
 
 impl Model for Engine {
@@ -40,22 +43,26 @@ impl Model for Engine {
 
     ghost Value = { Standing };
 
+    ghost use Rattle.std.specs.Prelude.{IsTrue};
+    ghost use Rattle.machine_parts.specs.Rests.{ToolRests};
     ghost use Rattle.engine.specs.EngineState.{IsIdleFrom, IsRunning, standing_of};
 
     ghost view = { λ e. standing_of e.trail };
 
     ghost invariant = { λ e. IsRunning e.trail e.moment.0 e.horizon.0 e.granularity e.slots.items
         e.tool e.spares e.firsts.items e.nexts.items
-        × IsIdleFrom e.busy e.firsts.items };
+        × IsIdleFrom e.busy e.firsts.items
+        × (IsTrue e.quiet → ToolRests e.moment.0 e.tool) };
 }
 
 impl Engine {
-    ghost use Rattle.std.specs.Prelude.{◌≡◌, true, false, None, Some, IfOk, option_map};
+    ghost use Rattle.std.specs.Prelude.{◌≡◌, true, false, None, Some, IfNone, IfOk, IfSome, IsTrue, option_map};
     ghost use Rattle.sched_model.specs.declared.action.Action.TheVariants as actions;
     ghost use Rattle.sched_model.specs.declared.machine.Machine.{Machine};
     ghost use Rattle.sched_base.specs.Numbers.{moment};
     ghost use Rattle.sched_model.specs.Opening.{opening};
     ghost use Rattle.sched_model.specs.CheckedMachine.{IsChecked};
+    ghost use Rattle.composition_laws.specs.WholeFirst.{first_tool_action};
     ghost use Rattle.machine_parts.specs.Parts.{event_pool};
     ghost use Rattle.sched_model.specs.Machine.{is_action_enabled, first_enabled_action, next_in_horizon, event_of, after};
 
@@ -82,6 +89,7 @@ impl Engine {
         let (slots, firsts, nexts) = open_pools(alloc, config)?;
         let (trail, tool, spares) = open_tool(alloc, config, work)?;
         let busy = busy_places(firsts.as_slice());
+        let quiet = tool_rests(&tool, Moment(0));
         Ok(Engine {
             trail,
             moment: Moment(0),
@@ -93,6 +101,7 @@ impl Engine {
             firsts,
             nexts,
             busy,
+            quiet,
         })
     }
 
@@ -116,6 +125,26 @@ impl Engine {
         )
     }
 
+    /// Whether nothing of the tool may come in this moment, whatever the pools do.
+    pub(crate) fn is_quiet(&self) -> bool
+        ensures { IsTrue result → first_tool_action self.now.machine self.now.state self.now.state.now ≡ None }
+    {
+        self.quiet
+    }
+
+    /// The first action that may come now and the place of its pool, where nothing of the tool may; `None` where nothing may come.
+    pub(crate) fn first_of_pools(&self) -> Option<(u8, Action)>
+        requires { first_tool_action self.now.machine self.now.state self.now.state.now ≡ None }
+        ensures none { IfNone result (first_enabled_action self.now.machine self.now.state
+            self.now.state.now ≡ None) }
+        ensures first { IfSome result (λ found. first_enabled_action self.now.machine self.now.state
+            self.now.state.now ≡ Some found.1) }
+        ensures home { IfSome result (λ found. event_pool self.now.machine.config.granularity
+            self.now.state found.1 ≡ Some found.0) }
+    {
+        pools_first(&self.firsts[..self.busy])
+    }
+
     /// Does the event of the first action that may come now, and answers it with the fields that its line prints.
     pub fn perform(&mut self, action: Action) -> Event
         requires { first_enabled_action self.old.machine self.old.state self.old.state.now
@@ -132,7 +161,7 @@ impl Engine {
     }
 
     /// Does the event of an action that may come now, which is one of this pool.
-    fn perform_in_pool(&mut self, place: u8, action: Action) -> Event
+    pub(crate) fn perform_in_pool(&mut self, place: u8, action: Action) -> Event
         requires enabled { is_action_enabled self.old.machine self.old.state self.old.state.now
             action ≡ true }
         requires home { event_pool self.old.machine.config.granularity self.old.state action
@@ -198,6 +227,7 @@ impl Engine {
             self.nexts.as_mut_slice(),
         );
         self.busy = busy_places(self.firsts.as_slice());
+        self.quiet = tool_rests(&self.tool, self.moment);
         event
     }
 
@@ -230,5 +260,6 @@ impl Engine {
         self.moment = next;
         read_firsts(self.slots.as_slice(), next, self.firsts.as_mut_slice());
         self.busy = busy_places(self.firsts.as_slice());
+        self.quiet = tool_rests(&self.tool, next);
     }
 }

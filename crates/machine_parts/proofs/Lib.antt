@@ -13,3 +13,4 @@ pub mod AtPlaces
 pub mod Moving
 pub mod Firsts
 pub mod Performing
+pub mod Rests

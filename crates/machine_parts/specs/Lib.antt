@@ -7,3 +7,4 @@ pub mod Spares
 pub mod Counts
 pub mod Parts
 pub mod Ranks
+pub mod Rests

@@ -5,6 +5,7 @@ use Rattle.sched_model.specs.declared.action.Action.{Action}
 use Rattle.sched_model.specs.declared.action.Action.TheVariants.{Stall, Xl, Moved, DomMoved}
 use Rattle.sched_model.specs.declared.state.State.{State}
 use Rattle.sched_model.specs.Actions.{home_pool_of_action}
+use Rattle.sched_model.specs.Machine.{first_enabled_action}
 use Rattle.sched_model.specs.Places.{at_place}
 use Rattle.cpupool.specs.Tool.{Tool, tool_of}
 use Rattle.pool_laws.specs.FirstEvents.{IsFirstEnabled, IsNextMoment}
@@ -45,3 +46,8 @@ event_pool g s Xl = None
 event_pool g s (Moved r) = None
 event_pool g s (DomMoved d) = None
 event_pool g s action = home_pool_of_action g s action
+
+-- the action is the machine's first that may come at t, and is of this pool
+pub record IsFirstOfPool (w : Told) (t place : ℕ) (action : Action) : Type 0 where
+  pub first : first_enabled_action w.input (state_of w) t ≡ Some action
+  pub of_pool : event_pool w.input.config.granularity (state_of w) action ≡ Some place

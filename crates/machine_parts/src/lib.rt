@@ -21,7 +21,7 @@ pub mod trail;
 
 pub use among::perform_among;
 pub use counts::KindCounts;
-pub use first::{tool_first, whole_first};
+pub use first::{pools_first, tool_first, tool_rests, whole_first};
 pub use homes::pool_of_event;
 pub use next::whole_next;
 pub use slot::{AnyPool, PoolSlot};

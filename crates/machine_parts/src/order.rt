@@ -1,8 +1,9 @@
 //! Which of several actions comes first, and which of several moments is the least.
 
-ghost use Rattle.std.specs.Prelude.{◌≡◌, ◌+◌, ◌*◌, Some};
+ghost use Rattle.std.specs.Prelude.{◌≡◌, ◌+◌, ◌*◌, None, Some, IfNone, IfSome};
 ghost use Rattle.std.specs.Option.{ForSome};
-ghost use Rattle.composition_laws.specs.WholeFirst.{IsEarliest};
+ghost use Rattle.sched_model.specs.Places.{at_place};
+ghost use Rattle.composition_laws.specs.WholeFirst.{ComesEarliest, IsEarliest};
 ghost use Rattle.composition_laws.specs.WholeNext.{IsSoonest};
 ghost use Rattle.machine_parts.specs.Ranks.{IsSmall, rank_of, earlier_action};
 
@@ -66,6 +67,28 @@ pub fn earliest(firsts: &[Option<Action>]) -> Option<Action>
         i -= 1;
         if let Some(action) = firsts[i] {
             found = Some(earlier_of(action, found));
+        }
+    }
+    found
+}
+
+/// The place of the earliest of the actions, and that action. `None` where there are none.
+pub fn earliest_place(firsts: &[Option<Action>]) -> Option<(usize, Action)>
+    ensures none { IfNone result (IsEarliest firsts.now None) }
+    ensures earliest { IfSome result (λ found. ComesEarliest firsts.now found.1) }
+    ensures place { IfSome result (λ found. at_place firsts.now found.0 ≡ Some found.1) }
+{
+    let mut found = None;
+    let mut least = u32::MAX;
+    let mut i = firsts.len();
+    while i > 0 {
+        i -= 1;
+        if let Some(action) = firsts[i] {
+            let rank = rank_of_action(action);
+            if rank <= least {
+                least = rank;
+                found = Some((i, action));
+            }
         }
     }
     found

@@ -22,19 +22,21 @@ const BLOCK: usize = 65_536;
 #[derive(Drop)]
 pub struct OutSink<'a, P> {
     output: &'a P,
+    /// A whole block, of which the first `kept` bytes are to be written.
     block: Vec<u8>,
+    kept: usize,
     faults: u64,
 }
 
 impl<'a, P> Model for OutSink<'a, P> {
-    ghost use Rattle.std.specs.Prelude.{◌≤◌, length, vec_capacity};
+    ghost use Rattle.std.specs.Prelude.{◌≡◌, ◌≤◌, length};
     ghost use Rattle.sched_io.specs.Memory.{OutState};
 
     ghost Value = { OutState };
 
-    ghost view = { λ a. record { kept = length a.block.items; faults = a.faults } };
+    ghost view = { λ a. record { kept = a.kept; faults = a.faults } };
 
-    ghost invariant = { λ a. (length a.block.items ≤ 65536) × (65536 ≤ vec_capacity a.block) };
+    ghost invariant = { λ a. (length a.block.items ≡ 65536) × (a.kept ≤ 65536) };
 }
 
 impl<'a, P> OutSink<'a, P> {
@@ -44,7 +46,8 @@ impl<'a, P> OutSink<'a, P> {
     {
         Ok(OutSink {
             output,
-            block: Vec::with_capacity(alloc, BLOCK)?,
+            block: vec![in alloc; 0; BLOCK]?,
+            kept: 0,
             faults: 0,
         })
     }
@@ -97,13 +100,15 @@ impl<P: Print> Sink for OutSink<'_, P> {
             ≡ self.old.kept + length piece.now }
         ensures lost { OnErr result (self.new.kept ≡ 0) }
     {
-        if piece.len() > BLOCK - self.block.len() {
+        if piece.len() > BLOCK - self.kept {
             self.flush()?;
         }
         if piece.len() > BLOCK {
             return print_whole(self.output, piece, &mut self.faults);
         }
-        self.block.extend_from_slice(piece).unwrap();
+        let end = self.kept + piece.len();
+        self.block[self.kept..end].copy_from_slice(piece);
+        self.kept = end;
         Ok(())
     }
 
@@ -116,8 +121,8 @@ impl<P: Print> Sink for OutSink<'_, P> {
         ensures counts { self.old.faults ≤ self.new.faults }
         ensures cause { OnErr result (Rose self.old.faults self.new.faults) }
     {
-        let answer = print_whole(self.output, self.block.as_slice(), &mut self.faults);
-        self.block.clear();
+        let answer = print_whole(self.output, &self.block[..self.kept], &mut self.faults);
+        self.kept = 0;
         answer
     }
 }

@@ -7,3 +7,4 @@ pub mod Stuck
 pub mod EntryForms
 pub mod Found
 pub mod Steps
+pub mod Fronts

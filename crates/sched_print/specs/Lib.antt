@@ -4,3 +4,4 @@ pub mod Readers
 pub mod Forms
 pub mod Laws
 pub mod Places
+pub mod Lines

@@ -32,7 +32,7 @@ impl Model for LineBuf {
 }
 
 impl LineBuf {
-    ghost use Rattle.std.specs.Prelude.{◌≡◌, ◌+◌, ◌≤◌, ◌++◌, [], length, decimal};
+    ghost use Rattle.std.specs.Prelude.{◌≡◌, ◌+◌, ◌≤◌, ◌++◌, [], length, take, decimal};
     ghost use Rattle.std.specs.Fmt.{signed_decimal};
 
     /// A buffer without bytes.
@@ -49,6 +49,20 @@ impl LineBuf {
         ensures { self.new ≡ [] }
     {
         self.bytes.clear();
+    }
+
+    /// How many bytes there are.
+    pub fn len(&self) -> usize
+        ensures { result ≡ length self.now }
+    {
+        self.bytes.len()
+    }
+
+    /// Keeps the first bytes, so many of them, and takes out the rest.
+    pub fn cut(&mut self, count: usize)
+        ensures { self.new ≡ take count self.old }
+    {
+        self.bytes.truncate(count);
     }
 
     /// The bytes, of which there are at most 192.

@@ -1,11 +1,11 @@
-use Rattle.due_heap.specs.Words.{IsFirstAmong}
-use Rattle.due_heap.proofs.Told.{AreComeBut, is_sifted}
+use Rattle.due_heap.proofs.Told.{AreComeBut, IsBoundBut}
 use Rattle.due_heap.proofs.set.sift.Given as goal
 
+-- of the ids that are no longer to be looked at, those that have come are known, and the bound holds of the others
 abbrev pub invariant-loop-id : goal.invariant-loop-id
 invariant-loop-id l = record {
-  come : AreComeBut l.moments l.t.0 l.set l.rest l.come;
-  first : IsFirstAmong l.moments (is_sifted l.moments l.t.0 l.set l.rest) l.first;
+  come : AreComeBut l.moments l.t.0 l.set l.rest l.sifted.come;
+  soon : IsBoundBut l.moments l.t.0 l.set l.rest l.sifted.soon l.sifted.next;
 }
 
 abbrev pub decreases-loop-id : goal.decreases-loop-id

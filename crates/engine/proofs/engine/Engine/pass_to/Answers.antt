@@ -7,6 +7,7 @@ use Rattle.pool_core.specs.Seen.{Seen}
 use Rattle.machine_parts.specs.Places.{state_of}
 use Rattle.engine.specs.EngineState.{IsIdleFrom, IsRunning}
 use Rattle.sched_model.specs.Standing.{Standing}
+use Rattle.machine_parts.proofs.Rests.{tool-rests}
 use Rattle.engine.proofs.Kept.{written}
 use Rattle.engine.proofs.Passing.{running-later, standing-later}
 use Rattle.engine.proofs.engine.Engine.pass_to.Goals as goal
@@ -24,6 +25,7 @@ invariant_of-self c =
           (running-later w c.add.new.self in_self.moment.0 c.args.next.0 in_self.horizon.0 in_self.granularity in_self.slots.items in_self.tool in_self.spares in_self.firsts.items in_self.nexts.items c.self.invariant.0
           quiet comes c.add.ensures c.read_firsts.new.firsts count are),
       subst (IsIdleFrom c.busy_places-self-inside.result) c.as_slice-2.ensures.value c.busy_places-self-inside.ensures,
+      tool-rests c.args.next.0 in_self.tool c.tool_rests-self-inside.result c.tool_rests-self-inside.ensures,
     )
 
 pub returns : goal.returns

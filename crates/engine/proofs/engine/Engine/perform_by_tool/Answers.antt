@@ -6,6 +6,7 @@ use Rattle.machine_parts.specs.Places.{state_of}
 use Rattle.engine.specs.EngineState.{AreKept, IsIdleFrom}
 use Rattle.sched_model.specs.Standing.{Standing}
 use Rattle.engine.proofs.Clock.{now-done, standing-done}
+use Rattle.machine_parts.proofs.Rests.{tool-rests}
 use Rattle.engine.proofs.Kept.{written}
 use Rattle.engine.proofs.Performing.{running-acted, running-same}
 use Rattle.engine.proofs.engine.Engine.perform_by_tool.Goals as goal
@@ -28,6 +29,7 @@ invariant_of-self c =
           (running-acted w c.add.new.self in_self.moment.0 in_self.horizon.0 in_self.granularity in_self.slots.items left in_self.tool c.act_of_tool-event.new.tool in_self.spares c.act_of_tool-event.new.spares in_self.firsts.items in_self.nexts.items running
           c.act_of_tool-event.result c.add.ensures e.parts now e.spares c.read_all.new.firsts c.read_all.new.nexts kept),
       subst (IsIdleFrom c.busy_places-self-inside.result) c.as_slice-2.ensures.value c.busy_places-self-inside.ensures,
+      tool-rests in_self.moment.0 c.act_of_tool-event.new.tool c.tool_rests-self-inside.result c.tool_rests-self-inside.ensures,
     )
 
 pub returns-clause-state : goal.returns-clause-state

@@ -58,4 +58,5 @@ invariant_of-self c =
       running-same c.add.new.self in_self.moment.0 in_self.horizon.0 in_self.granularity in_self.tool in_self.spares _ left _ c.read_one.new.firsts _ c.read_one.new.nexts slots firsts nexts running,
       subst (IsIdleFrom c.max-self-inside.result) (sym firsts)
           (subst (λ (n : ℕ). IsIdleFrom n c.read_one.new.firsts) (sym c.max-self-inside.ensures) (idle-more c.args.place in_self.busy in_self.firsts.items c.read_one.new.firsts fits count_firsts other_firsts c.self.invariant.1)),
+      c.self.invariant.2,
     )
