@@ -1,11 +1,17 @@
 -- What the steps of a seat change of what it has seen and holds: locks that are taken or given back, the book, and an entry that is added.
 use Rattle.std.specs.Prelude.{ℕ, ◌≡◌, ◌≢◌, ◌<◌, ◌++◌, ◌∷◌, [], List, Some, None, length, true}
 use mathlib.Core.List.{IsPrefix}
+use Rattle.sched_base.specs.declared.Moment.{Moment}
+use Rattle.sched_model.specs.declared.action.Action.{Action}
 use Rattle.sched_model.specs.declared.event.Entry.{Entry}
 use Rattle.sched_model.specs.declared.event.Event.{Event}
+use Rattle.sched_model.specs.Machine.{event_of, is_action_enabled}
 use Rattle.sched_model.specs.Runs.{event_action}
 use Rattle.journal_core.specs.Books.{Chronicle}
 use Rattle.journal_core.specs.Histories.{part_at}
+use Rattle.machine_parts.specs.Places.{GoesOn, state_of}
+use Rattle.machine_parts.specs.Told.{told_of}
+use Rattle.lock_moves.specs.Plays.{Current}
 use Rattle.lock_moves.specs.Decisions.{who_decides}
 use Rattle.lock_moves.specs.Sets.{HasName, LockTable}
 use Rattle.lock_moves.specs.SeatSight.{Holds, Known, Seen, Sitting, find_lock, known_part}
@@ -51,6 +57,20 @@ pub record HasEntered (b : Chronicle) (entry : Entry) (old new : Sitting) : Type
   pub takes : new.view.takes ≡ old.view.takes
   pub front : new.view.front ≡ b.history ++ entry ∷ []
   pub own : new.view.own ≡ old.view.own ++ length b.history ∷ []
+
+-- the seat may do the action at t and add its entry: it has the book, which goes on and has room, and in the state to which that leads the action may come
+pub record MayAct (set : LockTable) (b : Chronicle) (s : Sitting) (action : Action) (t : Moment) : Type 0 where
+  pub has : HasBook set b s
+  pub current : Current s.view
+  pub goes : GoesOn (told_of b)
+  pub room : length b.history < b.limit
+  pub now : t.0 ≡ s.view.now
+  pub enabled : is_action_enabled b.input (state_of (told_of b)) (state_of (told_of b)).now action ≡ true
+
+-- the seat has done so: this is the action's event, and its entry is added
+pub record HasActed (b : Chronicle) (action : Action) (t : Moment) (done : Event) (old new : Sitting) : Type 0 where
+  pub event : done ≡ event_of b.input (state_of (told_of b)) (state_of (told_of b)).now action
+  pub entered : HasEntered b (record { at = t; event = done }) old new
 
 -- of each lock of a part the seat knows what it knew; it has this moment
 pub record KeepsLocksAt (now : ℕ) (old new : Seen) : Type 0 where

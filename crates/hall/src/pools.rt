@@ -8,7 +8,7 @@ ghost use Rattle.machine_parts.specs.Told.{told_of};
 ghost use Rattle.lock_moves.specs.Plays.{Current};
 ghost use Rattle.lock_moves.specs.Sets.{HasName};
 ghost use Rattle.hall.specs.SeatKnowledge.{KnowsPool};
-ghost use Rattle.hall.specs.Steps.{HasBook, HasEntered, KeepsOthers};
+ghost use Rattle.hall.specs.Steps.{HasActed, KeepsOthers, MayAct};
 ghost use Rattle.journal_core.specs.Parts.{tool_lock};
 
 use crate::book::enter;
@@ -30,21 +30,13 @@ pub(crate) fn perform_at(
     action: Action,
     t: Moment,
 ) -> Event
-    requires has { HasBook set.now book seat.old }
-    requires current { Current seat.old.view }
-    requires goes { GoesOn (told_of book) }
-    requires room { length book.history < book.limit }
-    requires now { t.0 ≡ seat.old.view.now }
+    requires may { MayAct set.now book seat.old action t }
     requires number { place < tool_lock }
     requires knows { KnowsPool place slot.old seat.old.view }
     requires own { IsOfPool action }
-    requires enabled { is_action_enabled book.input (state_of (told_of book))
-        (state_of (told_of book)).now action ≡ true }
     requires home { home_pool_of_action book.input.config.granularity (state_of (told_of book))
         action ≡ Some place }
-    ensures event { result ≡ event_of book.input (state_of (told_of book))
-        (state_of (told_of book)).now action }
-    ensures entered { HasEntered book (record { at = t; event = result }) seat.old seat.new }
+    ensures acted { HasActed book action t result seat.old seat.new }
     ensures knows { KnowsPool place slot.new seat.new.view }
     ensures names { (n : ℕ) → HasName place n seat.old.view → HasName place n seat.new.view }
     ensures others { KeepsOthers place seat.old.view seat.new.view }

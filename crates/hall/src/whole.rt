@@ -14,7 +14,7 @@ ghost use Rattle.lock_moves.specs.SeatSight.{Holds, find_lock};
 ghost use Rattle.cpupool.specs.Tool.{tool_of};
 ghost use Rattle.hall.specs.SeatKnowledge.{KnowsAll};
 ghost use Rattle.hall.specs.Moves.{HandsName, HandsNameOver, MayHand, after_handing, lock_or_tool};
-ghost use Rattle.hall.specs.Steps.{HasBook, HasEntered, KeepsLocks, KeepsLocksAt};
+ghost use Rattle.hall.specs.Steps.{HasActed, HasBook, HasEntered, KeepsLocks, KeepsLocksAt, MayAct};
 ghost use Rattle.lock_moves.specs.Words.{book_lock};
 
 use crate::all::AllParts;
@@ -123,23 +123,15 @@ fn act_as_tool(
     action: Action,
     t: Moment,
 ) -> Event
-    requires has { HasBook set.now book seat.old }
-    requires current { Current seat.old.view }
-    requires goes { GoesOn (told_of book) }
-    requires room { length book.history < book.limit }
-    requires now { t.0 ≡ seat.old.view.now }
+    requires may { MayAct set.now book seat.old action t }
     requires granularity { granularity ≡ book.input.config.granularity }
     requires knows { KnowsAll all.old seat.old.view }
-    requires enabled { is_action_enabled book.input (state_of (told_of book))
-        (state_of (told_of book)).now action ≡ true }
     requires first { action ≡ actions.Xl →
         is_action_enabled book.input (state_of (told_of book)) (state_of (told_of book)).now
         actions.Stall ≡ false }
     requires no_pool { event_pool book.input.config.granularity (state_of (told_of book))
         action ≡ None }
-    ensures event { result ≡ event_of book.input (state_of (told_of book))
-        (state_of (told_of book)).now action }
-    ensures entered { HasEntered book (record { at = t; event = result }) seat.old seat.new }
+    ensures acted { HasActed book action t result seat.old seat.new }
     ensures knows { KnowsAll all.new seat.new.view }
     ensures book { find_lock book_lock seat.new.view.held ≡ None }
 {
@@ -170,21 +162,13 @@ pub(crate) fn perform(
     action: Action,
     t: Moment,
 ) -> Event
-    requires has { HasBook set.now book seat.old }
-    requires current { Current seat.old.view }
-    requires goes { GoesOn (told_of book) }
-    requires room { length book.history < book.limit }
-    requires now { t.0 ≡ seat.old.view.now }
+    requires may { MayAct set.now book seat.old action t }
     requires granularity { granularity ≡ book.input.config.granularity }
     requires knows { KnowsAll all.old seat.old.view }
-    requires enabled { is_action_enabled book.input (state_of (told_of book))
-        (state_of (told_of book)).now action ≡ true }
     requires first { action ≡ actions.Xl →
         is_action_enabled book.input (state_of (told_of book)) (state_of (told_of book)).now
         actions.Stall ≡ false }
-    ensures event { result ≡ event_of book.input (state_of (told_of book))
-        (state_of (told_of book)).now action }
-    ensures entered { HasEntered book (record { at = t; event = result }) seat.old seat.new }
+    ensures acted { HasActed book action t result seat.old seat.new }
     ensures knows { KnowsAll all.new seat.new.view }
     ensures book { find_lock book_lock seat.new.view.held ≡ None }
 {

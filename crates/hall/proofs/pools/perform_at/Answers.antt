@@ -4,25 +4,25 @@ use Rattle.hall.proofs.AtPool.{decider-here, kept-here, next-here, others-after,
 use Rattle.hall.proofs.pools.perform_at.Goals as goal
 
 pub perform-event-requires-clause-now : goal.perform-event-requires-clause-now
-perform-event-requires-clause-now c = time-here c.args.set.now c.args.book c.args.seat.now c.requires.has c.requires.current c.requires.goes c.args.t.0 c.requires.now c.of-trail.result (c.of-trail.ensures ∙ ap told_of c.get.ensures)
+perform-event-requires-clause-now c = time-here c.args.set.now c.args.book c.args.seat.now c.requires.may.has c.requires.may.current c.requires.may.goes c.args.t.0 c.requires.may.now c.of-trail.result (c.of-trail.ensures ∙ ap told_of c.get.ensures)
 
 pub perform-event-requires-clause-stands : goal.perform-event-requires-clause-stands
-perform-event-requires-clause-stands c = stands-here c.args.set.now c.args.book c.args.seat.now c.requires.has c.requires.current c.requires.goes c.args.place c.args.slot.now c.requires.number c.requires.knows c.of-trail.result (c.of-trail.ensures ∙ ap told_of c.get.ensures)
+perform-event-requires-clause-stands c = stands-here c.args.set.now c.args.book c.args.seat.now c.requires.may.has c.requires.may.current c.requires.may.goes c.args.place c.args.slot.now c.requires.number c.requires.knows c.of-trail.result (c.of-trail.ensures ∙ ap told_of c.get.ensures)
 
 pub enter-requires-clause-next : goal.enter-requires-clause-next
-enter-requires-clause-next c = next-here c.args.set.now c.args.book c.args.seat.now c.requires.has c.requires.current c.requires.goes c.args.action c.requires.own c.requires.enabled c.args.place c.requires.home c.requires.number (c.requires.knows.known.0, c.requires.knows.known.1) c.args.t.0 c.requires.now c.perform-event.result c.of-trail.result (c.of-trail.ensures ∙ ap told_of c.get.ensures) c.perform-event.ensures.event
+enter-requires-clause-next c = next-here c.args.set.now c.args.book c.args.seat.now c.requires.may.has c.requires.may.current c.requires.may.goes c.args.action c.requires.own c.requires.may.enabled c.args.place c.requires.home c.requires.number (c.requires.knows.known.0, c.requires.knows.known.1) c.args.t.0 c.requires.may.now c.perform-event.result c.of-trail.result (c.of-trail.ensures ∙ ap told_of c.get.ensures) c.perform-event.ensures.event
 
 pub enter-requires-clause-kept : goal.enter-requires-clause-kept
-enter-requires-clause-kept c = kept-here c.args.set.now c.args.book c.args.seat.now c.requires.has c.requires.current c.requires.goes c.args.action c.requires.own c.requires.enabled c.args.place c.requires.home c.requires.number (c.requires.knows.known.0, c.requires.knows.known.1) c.args.t.0 c.requires.now c.perform-event.result c.of-trail.result (c.of-trail.ensures ∙ ap told_of c.get.ensures) c.perform-event.ensures.event
+enter-requires-clause-kept c = kept-here c.args.set.now c.args.book c.args.seat.now c.requires.may.has c.requires.may.current c.requires.may.goes c.args.action c.requires.own c.requires.may.enabled c.args.place c.requires.home c.requires.number (c.requires.knows.known.0, c.requires.knows.known.1) c.args.t.0 c.requires.may.now c.perform-event.result c.of-trail.result (c.of-trail.ensures ∙ ap told_of c.get.ensures) c.perform-event.ensures.event
 
 pub enter-requires-clause-placed : goal.enter-requires-clause-placed
-enter-requires-clause-placed c = placed-here c.args.set.now c.args.book c.args.seat.now c.requires.has c.requires.current c.requires.goes c.args.action c.requires.own c.requires.enabled c.args.place c.requires.home c.requires.number (c.requires.knows.known.0, c.requires.knows.known.1) c.args.t.0 c.requires.now c.perform-event.result c.of-trail.result (c.of-trail.ensures ∙ ap told_of c.get.ensures) c.perform-event.ensures.event
+enter-requires-clause-placed c = placed-here c.args.set.now c.args.book c.args.seat.now c.requires.may.has c.requires.may.current c.requires.may.goes c.args.action c.requires.own c.requires.may.enabled c.args.place c.requires.home c.requires.number (c.requires.knows.known.0, c.requires.knows.known.1) c.args.t.0 c.requires.may.now c.perform-event.result c.of-trail.result (c.of-trail.ensures ∙ ap told_of c.get.ensures) c.perform-event.ensures.event
 
 pub enter-requires-clause-core : goal.enter-requires-clause-core
-enter-requires-clause-core c = decider-here c.args.set.now c.args.book c.args.seat.now c.requires.has c.requires.current c.requires.goes c.args.action c.requires.own c.requires.enabled c.args.place c.requires.home c.requires.number (c.requires.knows.known.0, c.requires.knows.known.1) c.args.t.0 c.requires.now c.perform-event.result c.of-trail.result (c.of-trail.ensures ∙ ap told_of c.get.ensures) c.perform-event.ensures.event
+enter-requires-clause-core c = decider-here c.args.set.now c.args.book c.args.seat.now c.requires.may.has c.requires.may.current c.requires.may.goes c.args.action c.requires.own c.requires.may.enabled c.args.place c.requires.home c.requires.number (c.requires.knows.known.0, c.requires.knows.known.1) c.args.t.0 c.requires.may.now c.perform-event.result c.of-trail.result (c.of-trail.ensures ∙ ap told_of c.get.ensures) c.perform-event.ensures.event
 
 pub returns-clause-knows : goal.returns-clause-knows
-returns-clause-knows c = pool-after c.args.set.now c.args.book c.args.seat.now c.requires.has c.requires.current c.requires.goes c.args.action c.requires.own c.requires.enabled c.args.place c.requires.home c.requires.number (c.requires.knows.known.0, c.requires.knows.known.1) c.args.t.0 c.requires.now c.perform-event.result c.of-trail.result (c.of-trail.ensures ∙ ap told_of c.get.ensures) c.perform-event.ensures.event c.enter.new.seat.view c.enter.ensures.entered.input c.enter.ensures.knows c.perform-event.new.self c.perform-event.ensures.stands
+returns-clause-knows c = pool-after c.args.set.now c.args.book c.args.seat.now c.requires.may.has c.requires.may.current c.requires.may.goes c.args.action c.requires.own c.requires.may.enabled c.args.place c.requires.home c.requires.number (c.requires.knows.known.0, c.requires.knows.known.1) c.args.t.0 c.requires.may.now c.perform-event.result c.of-trail.result (c.of-trail.ensures ∙ ap told_of c.get.ensures) c.perform-event.ensures.event c.enter.new.seat.view c.enter.ensures.entered.input c.enter.ensures.knows c.perform-event.new.self c.perform-event.ensures.stands
 
 pub returns-clause-others : goal.returns-clause-others
-returns-clause-others c = others-after c.args.set.now c.args.book c.args.seat.now c.requires.has c.requires.current c.requires.goes c.args.action c.requires.own c.requires.enabled c.args.place c.requires.home c.requires.number (c.requires.knows.known.0, c.requires.knows.known.1) c.args.t.0 c.requires.now c.perform-event.result c.of-trail.result (c.of-trail.ensures ∙ ap told_of c.get.ensures) c.perform-event.ensures.event c.enter.new.seat.view c.enter.ensures.entered.input c.enter.ensures.knows
+returns-clause-others c = others-after c.args.set.now c.args.book c.args.seat.now c.requires.may.has c.requires.may.current c.requires.may.goes c.args.action c.requires.own c.requires.may.enabled c.args.place c.requires.home c.requires.number (c.requires.knows.known.0, c.requires.knows.known.1) c.args.t.0 c.requires.may.now c.perform-event.result c.of-trail.result (c.of-trail.ensures ∙ ap told_of c.get.ensures) c.perform-event.ensures.event c.enter.new.seat.view c.enter.ensures.entered.input c.enter.ensures.knows

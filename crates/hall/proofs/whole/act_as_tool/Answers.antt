@@ -22,7 +22,7 @@ name_move-moved-requires-clause-known c =
     let s = c.args.seat.now in
     let all = c.args.all.now in
     let told : c.of-trail.result ≡ told_of b = c.of-trail.ensures ∙ ap told_of c.get.ensures in
-    let parts = parts-held set b s c.requires.has c.requires.current all c.requires.goes c.requires.knows in
+    let parts = parts-held set b s c.requires.may.has c.requires.may.current all c.requires.may.goes c.requires.knows in
     subst (λ (w : Told). tool_of w.input (state_of w) ≡ c.deref.result.now.tool) (sym told) (parts.known ∙ ap (λ (x : ToolKept). x.tool) (sym c.deref.ensures))
 
 pub act_of_tool-event-requires-clause-parts : goal.act_of_tool-event-requires-clause-parts
@@ -32,7 +32,7 @@ act_of_tool-event-requires-clause-parts c =
     let s = c.args.seat.now in
     let all = c.args.all.now in
     let told : c.of-trail.result ≡ told_of b = c.of-trail.ensures ∙ ap told_of c.get.ensures in
-    let parts = parts-held set b s c.requires.has c.requires.current all c.requires.goes c.requires.knows in
+    let parts = parts-held set b s c.requires.may.has c.requires.may.current all c.requires.may.goes c.requires.knows in
     subst (λ (w : Told). AreParts w c.as_mut_slice.result.now c.deref_mut-kept.result.now.tool) (sym told)
     (subst (λ (xs : List (Option PoolSeen)). AreParts (told_of b) xs c.deref_mut-kept.result.now.tool) (sym c.as_mut_slice.ensures.value)
     (subst (λ (x : ToolKept). AreParts (told_of b) all.slots.items x.tool) (sym c.deref_mut-kept.ensures.value) parts))
@@ -44,7 +44,7 @@ act_of_tool-event-requires-clause-now c =
     let s = c.args.seat.now in
     let all = c.args.all.now in
     let told : c.of-trail.result ≡ told_of b = c.of-trail.ensures ∙ ap told_of c.get.ensures in
-    c.requires.now ∙ now-held set b s c.requires.has c.requires.current ∙ ap (λ (w : Told). (state_of w).now) (sym told)
+    c.requires.may.now ∙ now-held set b s c.requires.may.has c.requires.may.current ∙ ap (λ (w : Told). (state_of w).now) (sym told)
 
 pub hand_over-requires-clause-may : goal.hand_over-requires-clause-may
 hand_over-requires-clause-may c =
@@ -56,7 +56,7 @@ hand_over-requires-clause-may c =
     let event = c.act_of_tool-event.result in
     let ev : event ≡ event_of b.input (state_of (told_of b)) (state_of (told_of b)).now c.args.action = c.act_of_tool-event.ensures.event ∙ ap (λ (w : Told). event_of w.input (state_of w) (state_of w).now c.args.action) told in
     let hands : HandsName (told_of b) c.args.action c.name_move-moved.result = subst (λ (w : Told). HandsName w c.args.action c.name_move-moved.result) told c.name_move-moved.ensures in
-    may-done set b s c.requires.has c.requires.current c.requires.goes all c.requires.knows c.args.action c.requires.enabled c.args.t.0 c.requires.now event ev c.name_move-moved.result hands
+    may-done set b s c.requires.may.has c.requires.may.current c.requires.may.goes all c.requires.knows c.args.action c.requires.may.enabled c.args.t.0 c.requires.may.now event ev c.name_move-moved.result hands
 
 pub enter-requires-clause-has : goal.enter-requires-clause-has
 enter-requires-clause-has c =
@@ -68,7 +68,7 @@ enter-requires-clause-has c =
     let event = c.act_of_tool-event.result in
     let ev : event ≡ event_of b.input (state_of (told_of b)) (state_of (told_of b)).now c.args.action = c.act_of_tool-event.ensures.event ∙ ap (λ (w : Told). event_of w.input (state_of w) (state_of w).now c.args.action) told in
     let hands : HandsName (told_of b) c.args.action c.name_move-moved.result = subst (λ (w : Told). HandsName w c.args.action c.name_move-moved.result) told c.name_move-moved.ensures in
-    has-done set b s c.requires.has c.requires.current c.requires.goes all c.requires.knows c.args.action c.requires.enabled c.args.t.0 c.requires.now event ev c.name_move-moved.result hands c.hand_over.new.seat c.hand_over.ensures
+    has-done set b s c.requires.may.has c.requires.may.current c.requires.may.goes all c.requires.knows c.args.action c.requires.may.enabled c.args.t.0 c.requires.may.now event ev c.name_move-moved.result hands c.hand_over.new.seat c.hand_over.ensures
 
 pub enter-requires-clause-next : goal.enter-requires-clause-next
 enter-requires-clause-next c =
@@ -80,7 +80,7 @@ enter-requires-clause-next c =
     let event = c.act_of_tool-event.result in
     let ev : event ≡ event_of b.input (state_of (told_of b)) (state_of (told_of b)).now c.args.action = c.act_of_tool-event.ensures.event ∙ ap (λ (w : Told). event_of w.input (state_of w) (state_of w).now c.args.action) told in
     let hands : HandsName (told_of b) c.args.action c.name_move-moved.result = subst (λ (w : Told). HandsName w c.args.action c.name_move-moved.result) told c.name_move-moved.ensures in
-    next-done set b s c.requires.has c.requires.current c.requires.goes all c.requires.knows c.args.action c.requires.enabled c.args.t.0 c.requires.now event ev
+    next-done set b s c.requires.may.has c.requires.may.current c.requires.may.goes all c.requires.knows c.args.action c.requires.may.enabled c.args.t.0 c.requires.may.now event ev
 
 pub enter-requires-clause-kept : goal.enter-requires-clause-kept
 enter-requires-clause-kept c =
@@ -92,7 +92,7 @@ enter-requires-clause-kept c =
     let event = c.act_of_tool-event.result in
     let ev : event ≡ event_of b.input (state_of (told_of b)) (state_of (told_of b)).now c.args.action = c.act_of_tool-event.ensures.event ∙ ap (λ (w : Told). event_of w.input (state_of w) (state_of w).now c.args.action) told in
     let hands : HandsName (told_of b) c.args.action c.name_move-moved.result = subst (λ (w : Told). HandsName w c.args.action c.name_move-moved.result) told c.name_move-moved.ensures in
-    kept-done set b s c.requires.has c.requires.current c.requires.goes all c.requires.knows c.args.action c.requires.enabled c.args.t.0 c.requires.now event ev c.name_move-moved.result hands c.hand_over.new.seat c.hand_over.ensures
+    kept-done set b s c.requires.may.has c.requires.may.current c.requires.may.goes all c.requires.knows c.args.action c.requires.may.enabled c.args.t.0 c.requires.may.now event ev c.name_move-moved.result hands c.hand_over.new.seat c.hand_over.ensures
 
 pub enter-requires-clause-placed : goal.enter-requires-clause-placed
 enter-requires-clause-placed c =
@@ -104,7 +104,7 @@ enter-requires-clause-placed c =
     let event = c.act_of_tool-event.result in
     let ev : event ≡ event_of b.input (state_of (told_of b)) (state_of (told_of b)).now c.args.action = c.act_of_tool-event.ensures.event ∙ ap (λ (w : Told). event_of w.input (state_of w) (state_of w).now c.args.action) told in
     let hands : HandsName (told_of b) c.args.action c.name_move-moved.result = subst (λ (w : Told). HandsName w c.args.action c.name_move-moved.result) told c.name_move-moved.ensures in
-    placed-done set b s c.requires.has c.requires.current c.requires.goes all c.requires.knows c.args.action c.requires.enabled c.args.t.0 c.requires.now event ev c.name_move-moved.result hands c.hand_over.new.seat c.hand_over.ensures
+    placed-done set b s c.requires.may.has c.requires.may.current c.requires.may.goes all c.requires.knows c.args.action c.requires.may.enabled c.args.t.0 c.requires.may.now event ev c.name_move-moved.result hands c.hand_over.new.seat c.hand_over.ensures
 
 pub returns-clause-knows : goal.returns-clause-knows
 returns-clause-knows c =
@@ -120,5 +120,5 @@ returns-clause-knows c =
     let parts : AreParts (told_event (told_of b) c.args.t.0 event) act.new.slots act.new.tool = subst (λ (w : Told). AreParts (told_event w c.args.t.0 event) act.new.slots act.new.tool) told act.ensures.parts in
     let spares : AreSpares b.input c.args.t.0 act.new.tool.part act.new.spares = subst (λ (w : Told). AreSpares w.input c.args.t.0 act.new.tool.part act.new.spares) told act.ensures.spares in
     let items = items-with_items all.slots act.new.slots (parts.stand.count ∙ sym c.requires.knows.count) in
-    knows-done set b s c.requires.has c.requires.current c.requires.goes all c.requires.knows c.args.action c.requires.enabled c.args.t.0 c.requires.now event ev c.name_move-moved.result hands c.hand_over.new.seat c.hand_over.ensures c.enter.new.seat _ c.enter.ensures.entered c.enter.ensures.knows
+    knows-done set b s c.requires.may.has c.requires.may.current c.requires.may.goes all c.requires.knows c.args.action c.requires.may.enabled c.args.t.0 c.requires.may.now event ev c.name_move-moved.result hands c.hand_over.new.seat c.hand_over.ensures c.enter.new.seat _ c.enter.ensures.entered c.enter.ensures.knows
     (subst (λ (xs : List (Option PoolSeen)). AreParts (told_event (told_of b) c.args.t.0 event) xs act.new.tool) (sym items) parts) spares

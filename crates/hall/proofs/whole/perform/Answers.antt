@@ -19,9 +19,9 @@ bounds-as_mut_slice-from c =
     let s = c.args.seat.now in
     let all = c.args.all.now in
     let state = state_of (told_of b) in
-    let known : tool_of b.input state ≡ c.deref.result.now.tool = tool-held set b s c.requires.has c.requires.current all.tool.value.tool all.tool.value.spares c.requires.knows.tool ∙ ap (λ (x : ToolKept). x.tool) (sym c.deref.ensures) in
+    let known : tool_of b.input state ≡ c.deref.result.now.tool = tool-held set b s c.requires.may.has c.requires.may.current all.tool.value.tool all.tool.value.spares c.requires.knows.tool ∙ ap (λ (x : ToolKept). x.tool) (sym c.deref.ensures) in
     let of = of-pool b.input state c.args.action c.args.granularity c.requires.granularity c.pool_of_event.result (c.pool_of_event.ensures b.input state known) c.in-Some.i c.in-Some.is in
-    let low : c.in-Some.i.0 < 16 = few-pools (told_of b) c.requires.goes state.now refl c.args.action of.0 c.requires.enabled c.in-Some.i.0 of.1 in
+    let low : c.in-Some.i.0 < 16 = few-pools (told_of b) c.requires.may.goes state.now refl c.args.action of.0 c.requires.may.enabled c.in-Some.i.0 of.1 in
     let from = c.from.ensures in
     let count = ap (λ (xs : List (Option PoolSeen)). length xs) c.as_mut_slice.ensures.value ∙ c.requires.knows.count in
     omega (arith, low, from, count)
@@ -33,9 +33,9 @@ perform_at-requires-clause-number c =
     let s = c.args.seat.now in
     let all = c.args.all.now in
     let state = state_of (told_of b) in
-    let known : tool_of b.input state ≡ c.deref.result.now.tool = tool-held set b s c.requires.has c.requires.current all.tool.value.tool all.tool.value.spares c.requires.knows.tool ∙ ap (λ (x : ToolKept). x.tool) (sym c.deref.ensures) in
+    let known : tool_of b.input state ≡ c.deref.result.now.tool = tool-held set b s c.requires.may.has c.requires.may.current all.tool.value.tool all.tool.value.spares c.requires.knows.tool ∙ ap (λ (x : ToolKept). x.tool) (sym c.deref.ensures) in
     let of = of-pool b.input state c.args.action c.args.granularity c.requires.granularity c.pool_of_event.result (c.pool_of_event.ensures b.input state known) c.in-Some.i c.in-Some.is in
-    let low : c.in-Some.i.0 < 16 = few-pools (told_of b) c.requires.goes state.now refl c.args.action of.0 c.requires.enabled c.in-Some.i.0 of.1 in
+    let low : c.in-Some.i.0 < 16 = few-pools (told_of b) c.requires.may.goes state.now refl c.args.action of.0 c.requires.may.enabled c.in-Some.i.0 of.1 in
     low
 
 pub perform_at-requires-clause-knows : goal.perform_at-requires-clause-knows
@@ -45,9 +45,9 @@ perform_at-requires-clause-knows c =
     let s = c.args.seat.now in
     let all = c.args.all.now in
     let state = state_of (told_of b) in
-    let known : tool_of b.input state ≡ c.deref.result.now.tool = tool-held set b s c.requires.has c.requires.current all.tool.value.tool all.tool.value.spares c.requires.knows.tool ∙ ap (λ (x : ToolKept). x.tool) (sym c.deref.ensures) in
+    let known : tool_of b.input state ≡ c.deref.result.now.tool = tool-held set b s c.requires.may.has c.requires.may.current all.tool.value.tool all.tool.value.spares c.requires.knows.tool ∙ ap (λ (x : ToolKept). x.tool) (sym c.deref.ensures) in
     let of = of-pool b.input state c.args.action c.args.granularity c.requires.granularity c.pool_of_event.result (c.pool_of_event.ensures b.input state known) c.in-Some.i c.in-Some.is in
-    let low : c.in-Some.i.0 < 16 = few-pools (told_of b) c.requires.goes state.now refl c.args.action of.0 c.requires.enabled c.in-Some.i.0 of.1 in
+    let low : c.in-Some.i.0 < 16 = few-pools (told_of b) c.requires.may.goes state.now refl c.args.action of.0 c.requires.may.enabled c.in-Some.i.0 of.1 in
     let low_all : c.in-Some.i.0 < length all.slots.items = (let count = c.requires.knows.count in omega (arith, low, count)) in
     subst (λ (xs : List (Option PoolSeen)). KnowsPool c.in-Some.i.0 (slice_index_or xs c.from.result c.index-as_mut_slice-from.result) s.view) (sym c.as_mut_slice.ensures.value)
     (place-read all.slots.items c.from.result c.in-Some.i.0 c.index-as_mut_slice-from.result s.view c.from.ensures low_all (c.requires.knows.pools c.in-Some.i.0 low_all))
@@ -59,7 +59,7 @@ perform_at-requires-clause-own c =
     let s = c.args.seat.now in
     let all = c.args.all.now in
     let state = state_of (told_of b) in
-    let known : tool_of b.input state ≡ c.deref.result.now.tool = tool-held set b s c.requires.has c.requires.current all.tool.value.tool all.tool.value.spares c.requires.knows.tool ∙ ap (λ (x : ToolKept). x.tool) (sym c.deref.ensures) in
+    let known : tool_of b.input state ≡ c.deref.result.now.tool = tool-held set b s c.requires.may.has c.requires.may.current all.tool.value.tool all.tool.value.spares c.requires.knows.tool ∙ ap (λ (x : ToolKept). x.tool) (sym c.deref.ensures) in
     let of = of-pool b.input state c.args.action c.args.granularity c.requires.granularity c.pool_of_event.result (c.pool_of_event.ensures b.input state known) c.in-Some.i c.in-Some.is in
     of.0
 
@@ -70,7 +70,7 @@ perform_at-requires-clause-home c =
     let s = c.args.seat.now in
     let all = c.args.all.now in
     let state = state_of (told_of b) in
-    let known : tool_of b.input state ≡ c.deref.result.now.tool = tool-held set b s c.requires.has c.requires.current all.tool.value.tool all.tool.value.spares c.requires.knows.tool ∙ ap (λ (x : ToolKept). x.tool) (sym c.deref.ensures) in
+    let known : tool_of b.input state ≡ c.deref.result.now.tool = tool-held set b s c.requires.may.has c.requires.may.current all.tool.value.tool all.tool.value.spares c.requires.knows.tool ∙ ap (λ (x : ToolKept). x.tool) (sym c.deref.ensures) in
     let of = of-pool b.input state c.args.action c.args.granularity c.requires.granularity c.pool_of_event.result (c.pool_of_event.ensures b.input state known) c.in-Some.i c.in-Some.is in
     of.1
 
@@ -81,7 +81,7 @@ act_as_tool-requires-clause-no_pool c =
     let s = c.args.seat.now in
     let all = c.args.all.now in
     let state = state_of (told_of b) in
-    let known : tool_of b.input state ≡ c.deref.result.now.tool = tool-held set b s c.requires.has c.requires.current all.tool.value.tool all.tool.value.spares c.requires.knows.tool ∙ ap (λ (x : ToolKept). x.tool) (sym c.deref.ensures) in
+    let known : tool_of b.input state ≡ c.deref.result.now.tool = tool-held set b s c.requires.may.has c.requires.may.current all.tool.value.tool all.tool.value.spares c.requires.knows.tool ∙ ap (λ (x : ToolKept). x.tool) (sym c.deref.ensures) in
     of-none b.input state c.args.action c.args.granularity c.requires.granularity c.pool_of_event.result (c.pool_of_event.ensures b.input state known) c.in-None.is
 
 pub returns-in-Some-clause-knows : goal.returns-in-Some-clause-knows
@@ -91,11 +91,11 @@ returns-in-Some-clause-knows c =
     let s = c.args.seat.now in
     let all = c.args.all.now in
     let state = state_of (told_of b) in
-    let known : tool_of b.input state ≡ c.deref.result.now.tool = tool-held set b s c.requires.has c.requires.current all.tool.value.tool all.tool.value.spares c.requires.knows.tool ∙ ap (λ (x : ToolKept). x.tool) (sym c.deref.ensures) in
+    let known : tool_of b.input state ≡ c.deref.result.now.tool = tool-held set b s c.requires.may.has c.requires.may.current all.tool.value.tool all.tool.value.spares c.requires.knows.tool ∙ ap (λ (x : ToolKept). x.tool) (sym c.deref.ensures) in
     let of = of-pool b.input state c.args.action c.args.granularity c.requires.granularity c.pool_of_event.result (c.pool_of_event.ensures b.input state known) c.in-Some.i c.in-Some.is in
-    let low : c.in-Some.i.0 < 16 = few-pools (told_of b) c.requires.goes state.now refl c.args.action of.0 c.requires.enabled c.in-Some.i.0 of.1 in
+    let low : c.in-Some.i.0 < 16 = few-pools (told_of b) c.requires.may.goes state.now refl c.args.action of.0 c.requires.may.enabled c.in-Some.i.0 of.1 in
     let new = c.perform_at.new.slot in
     let did = c.perform_at.ensures in
     let items = items-with_items all.slots (slice_set c.as_mut_slice.result.now c.from.result new) (length-set c.as_mut_slice.result.now c.from.result new ∙ ap (λ (xs : List (Option PoolSeen)). length xs) c.as_mut_slice.ensures.value) in
-    knows-changed all _ s.view c.perform_at.new.seat.view c.requires.knows did.entered.input c.in-Some.i.0 low new did.knows did.others
+    knows-changed all _ s.view c.perform_at.new.seat.view c.requires.knows did.acted.entered.input c.in-Some.i.0 low new did.knows did.others
     (items ∙ ap (λ (xs : List (Option PoolSeen)). slice_set xs c.from.result new) c.as_mut_slice.ensures.value ∙ ap (λ (n : ℕ). slice_set all.slots.items n new) c.from.ensures) refl

@@ -1,4 +1,4 @@
-use Rattle.std.proofs.Common.{◌≡◌, ◌≤◌, ◌<◌, ◌∙◌, length, ap, subst}
+use Rattle.std.proofs.Common.{◌≡◌, ◌≤◌, ◌<◌, ◌∙◌, length, ap, refl, subst, sym}
 use Rattle.sched_model.specs.declared.event.Event.{Event}
 use Rattle.sched_model.specs.CheckedMachine.{IsChecked}
 use Rattle.sched_model.specs.Runs.{event_action}
@@ -6,6 +6,7 @@ use Rattle.std.specs.Prelude.{Some}
 use Rattle.journal_core.specs.Books.{Chronicle}
 use Rattle.lock_moves.specs.Sets.{LockTable}
 use Rattle.hall.specs.Seats.{IsCountBefore}
+use Rattle.hall.specs.Steps.{HasBook}
 use Rattle.hall.proofs.Calls.{finds-full}
 use Rattle.hall.proofs.UnderOne.{enabled-held, event-held, few-held, full-held, goes-held, home-held, nothing-held}
 use Rattle.hall.proofs.hall.Hall.settle.Goals as goal
@@ -24,11 +25,15 @@ returns-then-not-room_left-clause-full c =
 pub decides_before-decides-requires : goal.decides_before-decides-requires
 decides_before-decides-requires c = record { few = few-held c.args.self.now c.args.book c.args.seat.now c.requires.has c.requires.current (subst (λ (x : LockTable). IsChecked x.opened.input) c.self.view_is c.self.invariant.checked) c.requires.input c.args.index c.requires.number c.args.slot.now c.requires.knows c.requires.some c.args.t.0 c.requires.now c.args.actor c.requires.actor c.args.found c.requires.found c.in-Some.action c.in-Some.is }
 
-pub perform_at-event-requires-clause-goes : goal.perform_at-event-requires-clause-goes
-perform_at-event-requires-clause-goes c = goes-held c.args.self.now c.args.book c.args.seat.now c.requires.has c.requires.current (subst (λ (x : LockTable). IsChecked x.opened.input) c.self.view_is c.self.invariant.checked) c.requires.input c.args.index c.requires.number c.args.slot.now c.requires.knows c.requires.some c.args.t.0 c.requires.now c.args.actor c.requires.actor c.args.found c.requires.found c.in-Some.action c.in-Some.is
-
-pub perform_at-event-requires-clause-enabled : goal.perform_at-event-requires-clause-enabled
-perform_at-event-requires-clause-enabled c = enabled-held c.args.self.now c.args.book c.args.seat.now c.requires.has c.requires.current (subst (λ (x : LockTable). IsChecked x.opened.input) c.self.view_is c.self.invariant.checked) c.requires.input c.args.index c.requires.number c.args.slot.now c.requires.knows c.requires.some c.args.t.0 c.requires.now c.args.actor c.requires.actor c.args.found c.requires.found c.in-Some.action c.in-Some.is
+pub perform_at-event-requires-clause-may : goal.perform_at-event-requires-clause-may
+perform_at-event-requires-clause-may c = record {
+  has = subst (λ (x : LockTable). HasBook x c.args.book c.args.seat.now) (sym c.self.view_is) c.requires.has;
+  current = c.requires.current;
+  goes = goes-held c.args.self.now c.args.book c.args.seat.now c.requires.has c.requires.current (subst (λ (x : LockTable). IsChecked x.opened.input) c.self.view_is c.self.invariant.checked) c.requires.input c.args.index c.requires.number c.args.slot.now c.requires.knows c.requires.some c.args.t.0 c.requires.now c.args.actor c.requires.actor c.args.found c.requires.found c.in-Some.action c.in-Some.is;
+  room = subst (λ (x : Chronicle). length x.history < x.limit) c.get-2.ensures (c.if-not-room_left.ensures.0 refl);
+  now = c.requires.now;
+  enabled = enabled-held c.args.self.now c.args.book c.args.seat.now c.requires.has c.requires.current (subst (λ (x : LockTable). IsChecked x.opened.input) c.self.view_is c.self.invariant.checked) c.requires.input c.args.index c.requires.number c.args.slot.now c.requires.knows c.requires.some c.args.t.0 c.requires.now c.args.actor c.requires.actor c.args.found c.requires.found c.in-Some.action c.in-Some.is;
+}
 
 pub perform_at-event-requires-clause-home : goal.perform_at-event-requires-clause-home
 perform_at-event-requires-clause-home c = home-held c.args.self.now c.args.book c.args.seat.now c.requires.has c.requires.current (subst (λ (x : LockTable). IsChecked x.opened.input) c.self.view_is c.self.invariant.checked) c.requires.input c.args.index c.requires.number c.args.slot.now c.requires.knows c.requires.some c.args.t.0 c.requires.now c.args.actor c.requires.actor c.args.found c.requires.found c.in-Some.action c.in-Some.is
@@ -37,5 +42,5 @@ pub returns-clause-done : goal.returns-clause-done
 returns-clause-done c =
     event-held c.args.self.now c.args.book c.args.seat.now c.requires.has c.requires.current (subst (λ (x : LockTable). IsChecked x.opened.input) c.self.view_is c.self.invariant.checked) c.requires.input c.args.index c.requires.number c.args.slot.now c.requires.knows c.requires.some c.args.t.0 c.requires.now c.args.actor c.requires.actor c.args.found c.requires.found c.in-Some.action c.in-Some.is c.len-place.result c.perform_at-event.result c.decides_before-decides.result c.perform_at-event.new.seat
     (c.len-place.ensures ∙ ap (λ (x : Chronicle). length x.history) c.get-3.ensures)
-    c.perform_at-event.ensures.event c.perform_at-event.ensures.entered
+    c.perform_at-event.ensures.acted.event c.perform_at-event.ensures.acted.entered
     (subst (λ (x : Chronicle). (e : Event) → event_action e ≡ Some c.in-Some.action → IsCountBefore c.args.self.now.opened.input.config.granularity x.history e c.decides_before-decides.result) c.get-4.ensures c.decides_before-decides.ensures)

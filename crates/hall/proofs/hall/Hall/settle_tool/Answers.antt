@@ -1,4 +1,4 @@
-use Rattle.std.proofs.Common.{◌≡◌, ◌∙◌, ◌<◌, ◌≤◌, true, false, List, length, sym, ap, subst}
+use Rattle.std.proofs.Common.{◌≡◌, ◌∙◌, ◌<◌, ◌≤◌, true, false, List, length, sym, ap, refl, subst}
 use Rattle.std.specs.Prelude.{Option, Some}
 use Rattle.sched_model.specs.declared.action.Action.{Action}
 use Rattle.sched_model.specs.declared.action.Actor.TheVariants.{Tool}
@@ -14,6 +14,7 @@ use Rattle.machine_parts.specs.Parts.{AreParts}
 use Rattle.lock_moves.specs.Sets.{LockTable}
 use Rattle.hall.specs.declared.value.ToolKept.{ToolKept}
 use Rattle.hall.specs.Seats.{IsCountBefore}
+use Rattle.hall.specs.Steps.{HasBook}
 use Rattle.hall.specs.BookTurns.{state_in}
 use Rattle.hall.proofs.Calls.{actor-comes, adds-event, finds-full, settles-event, settles-full}
 use Rattle.hall.proofs.Parting.{goes-held, knows-put, parts-held}
@@ -82,24 +83,22 @@ decides_before-decides-requires c =
     let found = tool-found b c.tool_first.result c.of-trail.result c.now-t.result.0 (c.of-trail.ensures ∙ ap told_of c.get-3.ensures) now c.tool_first.ensures ∙ c.in-Some.is in
     record { few = λ p is. absurd (no-arrive b.input (state_in b) (state_in b).now p (found ∙ ap (λ (a : Action). Some a) is)) }
 
-pub perform-event-requires-clause-goes : goal.perform-event-requires-clause-goes
-perform-event-requires-clause-goes c =
+pub perform-event-requires-clause-may : goal.perform-event-requires-clause-may
+perform-event-requires-clause-may c =
     let b = c.args.book in
+    let s = c.args.seat.now in
     let checked : IsChecked b.input = subst IsChecked (ap (λ (x : LockTable). x.opened.input) c.self.view_is ∙ sym c.requires.input) c.self.invariant.checked in
     let over : (reached_by b.input b.history).over ≡ false = ap (λ (x : Chronicle). (reached_by x.input x.history).over) (sym c.get.ensures) ∙ sym c.if-is_over.ensures in
-    goes-held c.args.self.now b c.args.seat.now c.requires.has c.requires.current checked over
-
-pub perform-event-requires-clause-now : goal.perform-event-requires-clause-now
-perform-event-requires-clause-now c =
-    time-held c.args.self.now c.args.book c.args.seat.now c.requires.has c.requires.current c.now-t.result.0 (c.now-t.ensures ∙ ap (λ (x : Chronicle). now_at x.input x.history) c.get-2.ensures)
-
-pub perform-event-requires-clause-enabled : goal.perform-event-requires-clause-enabled
-perform-event-requires-clause-enabled c =
-    let b = c.args.book in
-    let checked : IsChecked b.input = subst IsChecked (ap (λ (x : LockTable). x.opened.input) c.self.view_is ∙ sym c.requires.input) c.self.invariant.checked in
     let now : c.now-t.result.0 ≡ now_at b.input b.history = c.now-t.ensures ∙ ap (λ (x : Chronicle). now_at x.input x.history) c.get-2.ensures in
     let found = tool-found b c.tool_first.result c.of-trail.result c.now-t.result.0 (c.of-trail.ensures ∙ ap told_of c.get-3.ensures) now c.tool_first.ensures ∙ c.in-Some.is in
-    actor-comes b.input (state_in b) Tool c.in-Some.action (first-is c.args.self.now b c.args.seat.now c.requires.has c.requires.current checked ∙ found)
+    record {
+      has = subst (λ (x : LockTable). HasBook x b s) (sym c.self.view_is) c.requires.has;
+      current = c.requires.current;
+      goes = goes-held c.args.self.now b s c.requires.has c.requires.current checked over;
+      room = subst (λ (x : Chronicle). length x.history < x.limit) c.get-5.ensures (c.if-not-room_left.ensures.0 refl);
+      now = time-held c.args.self.now b s c.requires.has c.requires.current c.now-t.result.0 now;
+      enabled = actor-comes b.input (state_in b) Tool c.in-Some.action (first-is c.args.self.now b s c.requires.has c.requires.current checked ∙ found);
+    }
 
 pub perform-event-requires-clause-first : goal.perform-event-requires-clause-first
 perform-event-requires-clause-first c =
@@ -117,7 +116,7 @@ returns-clause-done c =
     let found = tool-found b c.tool_first.result c.of-trail.result c.now-t.result.0 (c.of-trail.ensures ∙ ap told_of c.get-3.ensures) now c.tool_first.ensures ∙ c.in-Some.is in
     let e = c.perform-event.result in
     let decides = c.decides_before-decides.result in
-    settles-event b s c.perform-event.new.seat Tool c.in-Some.action (first-is c.args.self.now b s c.requires.has c.requires.current checked ∙ found) c.len-place.result e decides c.perform-event.ensures.event
+    settles-event b s c.perform-event.new.seat Tool c.in-Some.action (first-is c.args.self.now b s c.requires.has c.requires.current checked ∙ found) c.len-place.result e decides c.perform-event.ensures.acted.event
     (adds-event b s c.perform-event.new.seat c.in-Some.action c.now-t.result c.len-place.result e decides c.args.self.now.opened.input c.requires.input (now ∙ now_of-is (told_of b))
-    (c.len-place.ensures ∙ ap (λ (x : Chronicle). length x.history) c.get-6.ensures) c.perform-event.ensures.event c.perform-event.ensures.entered
+    (c.len-place.ensures ∙ ap (λ (x : Chronicle). length x.history) c.get-6.ensures) c.perform-event.ensures.acted.event c.perform-event.ensures.acted.entered
     (subst (λ (x : Chronicle). (e : Event) → event_action e ≡ Some c.in-Some.action → IsCountBefore c.args.self.now.opened.input.config.granularity x.history e decides) c.get-7.ensures c.decides_before-decides.ensures))
