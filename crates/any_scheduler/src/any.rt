@@ -90,6 +90,18 @@ impl Policy for AnyPolicy {
         call!(self, policy => policy.wanted(cores, t, home))
     }
 
+    fn wanted_for(&self, u: UnitId, cores: &[Option<Resource>], t: Moment, home: Cores) -> Cores {
+        call!(self, policy => policy.wanted_for(u, cores, t, home))
+    }
+
+    fn asks_moment(&self) -> bool {
+        call!(self, policy => policy.asks_moment())
+    }
+
+    fn frees(&self, cur: Option<UnitId>, leaving: bool) -> bool {
+        call!(self, policy => policy.frees(cur, leaving))
+    }
+
     fn timer_due(&self, t: Moment) -> Option<(Moment, Timer)> {
         call!(self, policy => policy.timer_due(t))
     }

@@ -273,6 +273,20 @@ impl Policy for Arinc {
         })
     }
 
+    fn wanted_for(&self, u: UnitId, cores: &[Option<Resource>], t: Moment, home: Cores) -> Cores {
+        self.wanted(cores, t, home)
+    }
+
+    fn asks_moment(&self) -> bool {
+        let _ = &self.records;
+        true
+    }
+
+    fn frees(&self, cur: Option<UnitId>, leaving: bool) -> bool {
+        let _ = &self.records;
+        true
+    }
+
     fn timer_due(&self, t: Moment) -> Option<(Moment, Timer)> {
         let _ = &self.records;
         None

@@ -21,11 +21,12 @@ use Rattle.sched_model.specs.EligibleUnits.{unit_cores}
 use Rattle.sched_model.specs.Policy.{next_refill_moment, pinned_cores as pinned}
 use Rattle.sched_model.specs.Credit2.{most_weight, unit_credit, domain_after_refill, refilled_pool, domain_with_weight, domain_with_cap, records_with_terms, change_domain, fresh_credit2_domain}
 use Rattle.sched_base.proofs.Bools.{clash}
+use Rattle.sched_base.proofs.Lists.{each_get}
 use Rattle.sched_laws.proofs.Choices.{at_unit}
 use Rattle.sched_laws.proofs.EachPlace.{at_place-put_at, at_place-put_at_other, at_place-clear_at_other, at_place-clear_at, EachAt-put_at, EachAt-clear_at, EachPlace-empty, by_option, at_place-change_at}
 use Rattle.sched_laws.proofs.Lists.{length_change_item, if_some}
 use Rattle.state_ranges.specs.Budgets.{BudgetFits, Nobody}
-use Rattle.state_ranges.specs.Fits.{Credit2DomainFits}
+use Rattle.state_ranges.specs.Fits.{Credit2DomainFits, UnitFits}
 use Rattle.state_ranges.proofs.Decided.{unit_rec, r_set_domain}
 use Rattle.state_ranges.specs.Budgets.{AllRunOnly, RunsOnly}
 use Rattle.sched_ops.specs.Conditions.{is_on, is_vacant, IsAway, HasNoneBusy, Keeps}
@@ -77,6 +78,8 @@ keeps_line h sound = record {
   apart = sound.line.apart;
   members = λ u there. at_unit (λ w. is_member_among h.affinity w ≡ true) u (arrivals h.queue.units) there sound.line.joined;
   off = λ u there. off_on h.records u (waits_off (arrivals h.queue.units) h.records u sound.line.off there);
+  once = tt;
+  cut = λ i n d x at there. (each_get (UnitFits h.latest d.weight) d.units n x (sound.range.credits.domains i d at).units there).residual;
 }
 
 -- one more waits

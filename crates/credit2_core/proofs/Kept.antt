@@ -22,7 +22,7 @@ use Rattle.arrival_queue.specs.Queues.{Queued, list_without, is_of, closed_up}
 use Rattle.queue_laws.proofs.Removed.{is_of_same}
 use Rattle.runq.specs.Queue.{Queue}
 use Rattle.credit2_core.specs.declared.state.Credit2State.{Credit2State}
-use Rattle.credit2_core.specs.declared.line.Ready.{Ready}
+use Rattle.credit2_core.specs.declared.run_queue.Ready.{Ready}
 use Rattle.sched_ops.specs.Affinity.{is_member_among}
 use Rattle.credit2_core.specs.Credit2State.{IsFree}
 use Rattle.credit2_core.specs.Choice.{first_ready_unit, first_with_unit}

@@ -10,6 +10,7 @@ pub mod Same
 pub mod Lines
 pub mod Choosing
 pub mod Looking
+pub mod Coming
 pub mod Deciding
 pub mod Keeping
 pub mod Refills

@@ -14,7 +14,7 @@ use Rattle.sched_ops.specs.Conditions.{IsOwnOf}
 use Rattle.sched_ops.specs.WantedCores.{MayAsk, is_core_wanted}
 use Rattle.queue_laws.specs.Arrivals.{arrivals}
 use Rattle.credit2_core.specs.declared.state.Credit2State.{Credit2State}
-use Rattle.credit2_core.specs.declared.line.Ready.{Ready}
+use Rattle.credit2_core.specs.declared.run_queue.Ready.{Ready}
 use Rattle.credit2_core.specs.Choice.{may_take, best_of}
 use Rattle.credit2_core.specs.Credit2State.{IsSound, scheduler_in}
 use Rattle.credit2_core.specs.Whole.{IsReadyIn}

@@ -8,7 +8,7 @@ use Rattle.arrival_queue.specs.Filters.{first_that, has_core_bit}
 use Rattle.arrival_queue.specs.Queues.{Queued}
 use Rattle.sched_ops.specs.Seen.{Seen, vacant_scheduler}
 use Rattle.credit2_core.specs.declared.state.Credit2State.{Credit2State}
-use Rattle.credit2_core.specs.declared.line.Ready.{Ready}
+use Rattle.credit2_core.specs.declared.run_queue.Ready.{Ready}
 use Rattle.credit2_core.specs.Choice.{first_ready_unit}
 use Rattle.credit2_core.specs.Domains.{AreRunnable, AreRunnableBut}
 use Rattle.credit2_core.specs.Credit2State.{IsSound, seen_in}

@@ -14,7 +14,7 @@ ghost use Rattle.credit2_core.specs.Credit2State.{IsFree, IsSound, IsLine, IsSam
 ghost use Rattle.credit2_core.specs.Choice.{best_of, credit_or_0, is_better_of};
 ghost use Rattle.credit2_core.specs.Whole.{IsReadyIn};
 
-use crate::line::{Ready, best_ready, may_be_on, rekey_all, richer};
+use crate::run_queue::{Ready, best_ready, may_be_on, rekey_all, richer};
 use crate::state::Credit2State;
 use sched_base::{Cores, Moment, ResId, UnitId};
 use sched_model::ask::Ask;

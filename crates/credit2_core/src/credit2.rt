@@ -23,8 +23,8 @@
 ghost use Rattle.std.specs.Prelude.{◌≡◌, ◌≤◌};
 ghost use Rattle.credit2_core.specs.Whole.{seen_by};
 
-use crate::line::{Ready, ready_in};
 use crate::room::DEFAULT_LIMIT;
+use crate::run_queue::{Ready, ready_in};
 use crate::state::Credit2State;
 use crate::{decide, params, queue, room, timers, wanted};
 use runq::Allowed;
@@ -171,6 +171,25 @@ impl Policy for Credit2 {
         match &self.state {
             None => Cores(0),
             Some(state) => wanted::wanted(state, &self.ready, cores, t, home),
+        }
+    }
+
+    fn wanted_for(&self, u: UnitId, cores: &[Option<Resource>], t: Moment, home: Cores) -> Cores {
+        match &self.state {
+            None => Cores(0),
+            Some(state) => wanted::wanted_for(state, &self.ready, u, cores, t, home),
+        }
+    }
+
+    fn asks_moment(&self) -> bool {
+        let _ = &self.state;
+        true
+    }
+
+    fn frees(&self, cur: Option<UnitId>, leaving: bool) -> bool {
+        match &self.state {
+            None => cur.is_some(),
+            Some(state) => wanted::frees(state, &self.ready, cur),
         }
     }
 

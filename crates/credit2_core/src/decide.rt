@@ -14,7 +14,7 @@ ghost use Rattle.credit2_core.specs.Choice.{records_after_run};
 ghost use Rattle.credit2_core.specs.Whole.{IsReadyIn};
 
 use crate::choice::{choice, leave, reset_pool};
-use crate::line::{Ready, follow};
+use crate::run_queue::{Ready, follow};
 use crate::slice::take_slice;
 use crate::state::Credit2State;
 use sched_base::{Moment, UnitId};

@@ -18,7 +18,7 @@ ghost use Rattle.credit2_core.specs.Domains.{AreRunnableBut, refreshed_cores};
 ghost use Rattle.credit2_core.specs.Whole.{IsReadyIn};
 
 use crate::domains::{count_at, rearm, set_masks};
-use crate::line::{Ready, follow};
+use crate::run_queue::{Ready, follow};
 use crate::state::Credit2State;
 use sched_base::{Cores, DomId, Moment};
 use sched_model::config::{ParamChange, Pins};

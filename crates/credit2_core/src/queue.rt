@@ -11,7 +11,7 @@ ghost use Rattle.credit2_core.specs.Credit2State.{IsSound, scheduler_in, seen_in
 ghost use Rattle.credit2_core.specs.Whole.{IsReadyIn};
 
 use crate::choice::leave;
-use crate::line::{Ready, first_ready, first_with, key_of};
+use crate::run_queue::{Ready, first_ready, first_with, key_of};
 use crate::state::Credit2State;
 use sched_base::UnitId;
 use sched_model::facts::Stored;

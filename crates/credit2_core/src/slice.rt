@@ -9,7 +9,7 @@ ghost use Rattle.credit2_core.specs.Whole.{IsReadyIn, IsReadyBut};
 ghost use Rattle.credit2_core.specs.Choice.{best_of, credit_or_0, unit_slice};
 
 use crate::choice::other_credit;
-use crate::line::{Ready, follow};
+use crate::run_queue::{Ready, follow};
 use crate::state::Credit2State;
 use sched_base::UnitId;
 use sched_model::ask::Ask;

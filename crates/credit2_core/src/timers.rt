@@ -11,7 +11,7 @@ ghost use Rattle.credit2_core.specs.Whole.{IsReadyIn};
 ghost use Rattle.credit2_core.specs.Timing.{come_at, domain_periods, domain_budget};
 
 use crate::domains::rearm;
-use crate::line::{Ready, follow};
+use crate::run_queue::{Ready, follow};
 use crate::state::Credit2State;
 use sched_base::{DomId, Moment};
 use sched_model::event::Event;

@@ -14,3 +14,4 @@ pub mod Units
 pub mod On
 pub mod Started
 pub mod Kept
+pub mod Readies

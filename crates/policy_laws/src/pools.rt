@@ -16,6 +16,7 @@ ghost use Rattle.sched_model.specs.Opening.{joined_core};
 ghost use Rattle.sched_model.specs.Policy.{empty_records};
 ghost use Rattle.sched_model.specs.Pool.{enabled_in, after_in, settled_pool, change_processor, pool_with_leaving, pool_with_moving, paused_pool, unpaused_pool, changed_pool, pool_with_domain, pool_without_domain, domain_unit_count};
 ghost use Rattle.state_ranges.specs.Counts.{Matches};
+ghost use Rattle.settle_laws.specs.Ready.{AreCut, AreReadyBy};
 ghost use Rattle.policy_laws.specs.Holds.{Holds};
 
 /// What holds of a pool holds after each step inside of it, after a core or a domain has come or gone, and of every pool that
@@ -58,4 +59,11 @@ pub fn law_pool_kept()
           domains = replicate domains None;
           resources = replicate places None;
         }) }
+{}
+
+/// A pool of which this holds keeps of its units what the laws of settling ask of a Credit2 pool, where what is left of each charge is below
+/// the weight of the unit's domain: those that wait have records and are not on, and those that cores have as their own have records.
+pub fn law_units_ready()
+    ensures { (g t : ℕ) → (pool : Pool) → Holds g t pool → AreCut pool.scheduler.records →
+        AreReadyBy pool.scheduler.records pool }
 {}

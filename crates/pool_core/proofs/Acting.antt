@@ -12,16 +12,20 @@ use Rattle.sched_model.specs.declared.state.Vcpu.{Vcpu}
 use Rattle.sched_model.specs.CheckedMachine.{most_span}
 use Rattle.sched_model.specs.Places.{change_each}
 use Rattle.sched_model.specs.declared.state.Doing.TheVariants.{Held}
-use Rattle.sched_model.specs.Pool.{after_arrive, after_block, after_in, change_processor, change_vcpu, with_doing, stopped_vcpu, cores_from, done_moment, enabled_in, running_guest, reconsidered_core, settled_pool, pool_vcpu, vcpu_among}
+use Rattle.sched_model.specs.Pool.{after_arrive, after_block, after_in, change_processor, change_vcpu, with_doing, stopped_vcpu, cores_from, done_moment, enabled_in, event_in, running_guest, reconsidered_core, settled_pool, pool_vcpu, vcpu_among}
 use Rattle.sched_base.proofs.Bools.{and_left}
 use Rattle.sched_laws.proofs.EachPlace.{by_cond, vcpu_is}
 use Rattle.sched_laws.proofs.Lists.{has_come-le}
+use Rattle.pool_laws.specs.CoreLooks.{IsSettled}
 use Rattle.policy_laws.specs.Holds.{Holds}
 use Rattle.policy_laws.proofs.Kept as kept
 use Rattle.unit_state.specs.Guests.{KeepsGuests}
 use Rattle.unit_state.specs.Seen.{Seen as GuestsSeen, done_among, is_due_among}
 use Rattle.core_state.specs.Seen.{Seen as CoresSeen}
 use Rattle.sched_ops.specs.Seen.{Seen as SchedulerSeen}
+use Rattle.pool_core.specs.declared.events.Outcome.{Outcome}
+use Rattle.pool_core.specs.CoreLooks.{pool_but}
+use Rattle.pool_core.specs.Events.{HasActed, MayAct}
 use Rattle.pool_core.specs.ProcessorEvents.{IsMoved}
 use Rattle.pool_core.specs.PoolState.{AreWorks, IsKept}
 use Rattle.pool_core.specs.Seen.{Seen, seen_after, pool_of}
@@ -62,29 +66,37 @@ kept_later t0 t guests cores s past early keeps = record {
 }
 
 -- after an event at t
-pub acted : (t0 t : ℕ) (guests next : GuestsSeen) (cores after : CoresSeen) (s s2 : SchedulerSeen) (action : Action) (works : List (Option Moment))
-    → IsKept t0 guests cores s → t0 ≤ t → t ≤ most_span → enabled_in guests.granularity t (pool_of guests cores s) action ≡ true
+pub acted : (t : ℕ) (guests next : GuestsSeen) (cores after : CoresSeen) (s s2 : SchedulerSeen) (action : Action) (works : List (Option Moment)) (outcome : Outcome)
+    → MayAct t action guests cores s → outcome.event ≡ event_in guests.granularity t (pool_of guests cores s) action
     → pool_of next after s2 ≡ after_in guests.granularity t (pool_of guests cores s) action
     → IsMoved t guests next cores after → s2.latest ≤ t → s2.spare ≡ s.spare → after.works ≡ works
-    → AreWorks guests.granularity works (after_in guests.granularity t (pool_of guests cores s) action) → IsKept t next after s2
-acted t0 t guests next cores after s s2 action works keeps past early on pool moved latest spare is are = record {
-  linked = record {
-    granularity = moved.processors ∙ keeps.linked.granularity ∙ sym moved.granularity;
-    guests_latest = moved.latest;
-    scheduler_latest = latest;
-    early = early;
-    spare = (let a = moved.spare in let b = keeps.linked.spare in omega (arith, a, b, spare));
-    works = subst (λ (g : ℕ). AreWorks g after.works (pool_of next after s2)) (sym moved.granularity)
-        (subst (λ (p : Pool). AreWorks guests.granularity after.works p) (sym pool) (subst (λ (ws : List (Option Moment)). AreWorks guests.granularity ws (after_in guests.granularity t (pool_of guests cores s) action)) (sym is) are));
+    → AreWorks guests.granularity works (after_in guests.granularity t (pool_of guests cores s) action)
+    → (outcome.spares ≡ true → IsSettled t (pool_of guests cores s) → IsSettled t (pool_but outcome.came (after_in guests.granularity t (pool_of guests cores s) action)))
+    → HasActed t action guests next cores after s s2 outcome
+acted t guests next cores after s s2 action works outcome may event pool moved latest spare is are settled = record {
+  event = event;
+  pool = pool;
+  kept = record {
+    linked = record {
+      granularity = moved.processors ∙ may.kept.linked.granularity ∙ sym moved.granularity;
+      guests_latest = moved.latest;
+      scheduler_latest = latest;
+      early = may.kept.linked.early;
+      spare = (let a = moved.spare in let b = may.kept.linked.spare in omega (arith, a, b, spare));
+      works = subst (λ (g : ℕ). AreWorks g after.works (pool_of next after s2)) (sym moved.granularity)
+          (subst (λ (p : Pool). AreWorks guests.granularity after.works p) (sym pool) (subst (λ (ws : List (Option Moment)). AreWorks guests.granularity ws (after_in guests.granularity t (pool_of guests cores s) action)) (sym is) are));
+    };
+    pool = subst (λ (g : ℕ). Holds g t (pool_of next after s2)) (sym moved.granularity)
+        (subst (λ (p : Pool). Holds guests.granularity t p) (sym pool) (kept.acts guests.granularity t (pool_of guests cores s) action may.enabled may.kept.pool));
   };
-  pool = subst (λ (g : ℕ). Holds g t (pool_of next after s2)) (sym moved.granularity)
-      (subst (λ (p : Pool). Holds guests.granularity t p) (sym pool)
-      (kept.acts guests.granularity t (pool_of guests cores s) action on (kept.later guests.granularity t0 t (pool_of guests cores s) past keeps.pool)));
+  granularity = moved.granularity;
+  spare = moved.spare;
+  settled = λ spares before. subst (λ (p : Pool). IsSettled t (pool_but outcome.came p)) (sym pool) (settled spares before);
 }
 
 -- the guests as they are, and cores with as many processors
-pub unmoved : (t0 t : ℕ) (guests : GuestsSeen) (cores after : CoresSeen) (s : SchedulerSeen) → IsKept t0 guests cores s → t0 ≤ t → after.granularity ≡ cores.granularity → IsMoved t guests guests cores after
-unmoved t0 t guests cores after s keeps past same = record { granularity = refl; spare = refl; latest = (let l = keeps.linked.guests_latest in omega (arith, l, past)); processors = same }
+pub unmoved : (t : ℕ) (guests : GuestsSeen) (cores after : CoresSeen) (s : SchedulerSeen) → IsKept t guests cores s → after.granularity ≡ cores.granularity → IsMoved t guests guests cores after
+unmoved t guests cores after s keeps same = record { granularity = refl; spare = refl; latest = keeps.linked.guests_latest; processors = same }
 
 -- a vCPU that may block has done its work
 pub block_done : (g t p : ℕ) (v : VcpuId) (pool : Pool) → enabled_in g t pool (Block (processor p)) ≡ true → running_guest g pool p ≡ Some v → has_moment_come t (done_among pool.domains v) ≡ true
@@ -96,6 +108,13 @@ block_done g t p v pool on guest =
     by_vcpu : (o : Option Vcpu) → elim o as (λ _. Bool) [ None ↦ false | Some x ↦ has_moment_come t (done_moment x) ] ≡ true → has_moment_come t (elim o as (λ _. Option Moment) [ None ↦ None | Some x ↦ done_moment x ]) ≡ true
     by_vcpu None e = absurd (cc)
     by_vcpu (Some x) e = e
+
+-- a processor that runs none may not block
+pub idle_blocks_not : (g t p : ℕ) (pool : Pool) → enabled_in g t pool (Block (processor p)) ≡ true → running_guest g pool p ≡ None → ⊥
+idle_blocks_not g t p pool on none =
+    let both = and_left (elim (running_guest g pool p) as (λ _. Bool) [ None ↦ false | Some w ↦ elim (pool_vcpu pool w) as (λ _. Bool) [ None ↦ false | Some x ↦ has_moment_come t (done_moment x) ] ]) _ on in
+    let clash : false ≡ true = subst (λ (o : Option VcpuId). elim o as (λ _. Bool) [ None ↦ false | Some w ↦ elim (pool_vcpu pool w) as (λ _. Bool) [ None ↦ false | Some x ↦ has_moment_come t (done_moment x) ] ] ≡ true) none both in
+    absurd (cc)
 
 -- a vCPU that may wake sleeps, and its wake moment has come
 pub wake_due : (g t : ℕ) (v : VcpuId) (pool : Pool) → enabled_in g t pool (Wake v) ≡ true → is_due_among t pool.domains v ≡ true
@@ -118,21 +137,19 @@ pub block_happens : (g t p : ℕ) (v : VcpuId) (pool : Pool) → running_guest g
 block_happens g t p v pool guest = ap (λ (o : Option VcpuId). elim o as (λ _. Pool) [ None ↦ pool | Some w ↦ after_block g t p w pool ]) (sym guest)
 
 -- what is seen after an event and after the cores were looked at
-pub happened_is : (t : ℕ) (guests next : GuestsSeen) (cores after : CoresSeen) (s s2 : SchedulerSeen) (latest : ℕ) (used : Bool) (action : Action) (before : Seen)
-    → pool_of next after s2 ≡ after_in guests.granularity t (pool_of guests cores s) action → IsMoved t guests next cores after
-    → ◌≡◌ {A = Seen} (record { pool = pool_of guests cores s; granularity = guests.granularity; spare = guests.spare; latest = latest; in_use = used }) before
-    → ◌≡◌ {A = Seen} (record { pool = settled_pool t (pool_of next after s2); granularity = next.granularity; spare = next.spare; latest = t; in_use = used }) (seen_after t action before)
-happened_is t guests next cores after s s2 latest used action before pool moved is =
-    let a : ◌≡◌ {A = Seen} (record { pool = settled_pool t (pool_of next after s2); granularity = next.granularity; spare = next.spare; latest = t; in_use = used })
-    (record { pool = settled_pool t (after_in guests.granularity t (pool_of guests cores s) action); granularity = next.granularity; spare = next.spare; latest = t; in_use = used }) =
-    ap (λ (p : Pool). record { pool = settled_pool t p; granularity = next.granularity; spare = next.spare; latest = t; in_use = used }) pool in
-    let b : ◌≡◌ {A = Seen} (record { pool = settled_pool t (after_in guests.granularity t (pool_of guests cores s) action); granularity = next.granularity; spare = next.spare; latest = t; in_use = used })
-    (record { pool = settled_pool t (after_in guests.granularity t (pool_of guests cores s) action); granularity = guests.granularity; spare = next.spare; latest = t; in_use = used }) =
-    ap (λ (k : ℕ). record { pool = settled_pool t (after_in guests.granularity t (pool_of guests cores s) action); granularity = k; spare = next.spare; latest = t; in_use = used }) moved.granularity in
-    let d : ◌≡◌ {A = Seen} (record { pool = settled_pool t (after_in guests.granularity t (pool_of guests cores s) action); granularity = guests.granularity; spare = next.spare; latest = t; in_use = used })
-    (record { pool = settled_pool t (after_in guests.granularity t (pool_of guests cores s) action); granularity = guests.granularity; spare = guests.spare; latest = t; in_use = used }) =
-    ap (λ (k : ℕ). record { pool = settled_pool t (after_in guests.granularity t (pool_of guests cores s) action); granularity = guests.granularity; spare = k; latest = t; in_use = used }) moved.spare in
-    a ∙ b ∙ d ∙ ap (λ (x : Seen). seen_after t action x) is
+pub happened_is : (t latest : ℕ) (guests next : GuestsSeen) (cores after : CoresSeen) (s s2 : SchedulerSeen) (was : ℕ) (used : Bool) (action : Action) (outcome : Outcome) (before : Seen)
+    → HasActed t action guests next cores after s s2 outcome → latest ≡ t
+    → ◌≡◌ {A = Seen} (record { pool = pool_of guests cores s; granularity = guests.granularity; spare = guests.spare; latest = was; in_use = used }) before
+    → ◌≡◌ {A = Seen} (record { pool = settled_pool latest (pool_of next after s2); granularity = next.granularity; spare = next.spare; latest = latest; in_use = used }) (seen_after t action before)
+happened_is t latest guests next cores after s s2 was used action outcome before has now is =
+    ap (λ (n : ℕ). made n (pool_of next after s2) next.granularity next.spare) now
+    ∙ ap (λ (p : Pool). made t p next.granularity next.spare) has.pool
+    ∙ ap (λ (k : ℕ). made t (after_in guests.granularity t (pool_of guests cores s) action) k next.spare) has.granularity
+    ∙ ap (made t (after_in guests.granularity t (pool_of guests cores s) action) guests.granularity) has.spare
+    ∙ ap (λ (x : Seen). seen_after t action x) is
+  where
+    made : ℕ → Pool → ℕ → ℕ → Seen
+    made n p g spare = record { pool = settled_pool n p; granularity = g; spare = spare; latest = n; in_use = used }
 
 -- a processor that arrives, where it ran nothing and where it ran a vCPU
 pub arrived_alone : (g t p : ℕ) (pool : Pool) → running_guest g pool p ≡ None → change_processor g p (with_doing Held) pool ≡ after_arrive g t p pool

@@ -1,172 +1,142 @@
--- Events after which no core is to be looked at, where that was done at the same moment before.
-use Rattle.sched_base.specs.Numbers.{core, processor}
-use Rattle.std.proofs.Common.{◌≡◌, ◌+◌, ◌*◌, ◌/◌, ◌%◌, ℕ, Bool, true, false, List, refl, sym, ap, subst, ◌∙◌, cond, arith}
-use Rattle.std.specs.Prelude.{Option, Some, None, not, option_map, slice_set, unwrap_or, ◌||◌, ◌&&◌}
+-- What the mark of a pool says, and what an event of a settled pool leaves to be looked at.
+use Rattle.std.proofs.Common.{◌≡◌, ℕ, Bool, true, false, not, List, [], ◌∷◌, ◌++◌, refl, sym, ap, subst, ◌∙◌, cond, arith}
+use Rattle.std.specs.Prelude.{Option, Some, None, is_some, unwrap_or, ◌||◌, ◌&&◌, ◌==◌, if◌then◌else◌}
 use Rattle.std.specs.List.{list_any}
+use Rattle.sched_base.specs.Numbers.{core}
+use Rattle.sched_base.specs.declared.Moment.{Moment}
+use Rattle.sched_base.specs.declared.ResId.{ResId}
 use Rattle.sched_base.specs.declared.UnitId.{UnitId}
 use Rattle.sched_base.specs.declared.VcpuId.{VcpuId}
-use Rattle.sched_model.specs.declared.action.Action.TheVariants.{Arrive, Block, Leave, Save, Slice, Wake}
-use Rattle.sched_model.specs.declared.state.Doing.{Doing}
-use Rattle.sched_model.specs.declared.state.Doing.TheVariants.{Guest, Idle, Held}
-use Rattle.sched_model.specs.declared.state.Domain.{Domain}
+use Rattle.sched_base.proofs.Bools.{and_left, and_right, or_left, or_right}
+use Rattle.sched_model.specs.declared.action.Action.TheVariants.{Decide, Save, Wake}
 use Rattle.sched_model.specs.declared.state.Pool.{Pool}
 use Rattle.sched_model.specs.declared.state.Resource.{Resource}
-use Rattle.sched_model.specs.declared.state.Scheduler.{Scheduler}
-use Rattle.sched_model.specs.declared.state.Vcpu.{Vcpu}
-use Rattle.sched_model.specs.Places.{at_place}
-use Rattle.sched_model.specs.Policy.{has_better_waiting}
+use Rattle.sched_model.specs.Places.{at_place, has_listed_unit, same_unit, without_unit}
 use Rattle.sched_model.specs.Pool as pools
-use Rattle.sched_model.specs.Pool.{after_in, change_core, change_processor, change_vcpu, cores_from, with_doing, running_guest, pool_core_set, is_held_back, is_unit_off, put_to_sleep, reconsidered_core, pending_core, settled_pool as settled, started_on, stopped_vcpu, vcpu_unit}
+use Rattle.sched_model.specs.Pool.{after_decide, after_in, change_core, change_vcpu, core_ask, enabled_in, event_in, is_held_back, is_unit_off, pool_core_set, queue_unit, saved_at, saved_core, vcpu_unit, woken_vcpu}
 use Rattle.sched_model.specs.State.{may_unit_run}
-use Rattle.sched_laws.proofs.EachPlace.{at_place-change_each, by_cond, by_option}
+use Rattle.sched_laws.proofs.Counts.{same_unit_refl}
+use Rattle.sched_laws.proofs.Lists.{some-test_at}
+use Rattle.sched_laws.specs.PoolFacts.{IsKnownPool}
 use Rattle.pool_laws.specs.CoreLooks.{IsSettled}
-use Rattle.pool_laws.proofs.Settled.{settled_alone}
+use Rattle.settle_laws.specs.Frees.{may_free}
+use Rattle.settle_laws.specs.Kept.{KeptOnce}
+use Rattle.settle_laws.specs.Ready.{AreReadyBy}
+use Rattle.settle_laws.specs.Wanted.{is_queued_by, reads_moment}
+use Rattle.settle_laws.proofs.Decides.{decides}
+use Rattle.settle_laws.proofs.Fixed.{none_wanted}
+use Rattle.settle_laws.proofs.Freeing.{frees_nothing}
+use Rattle.settle_laws.proofs.Moments.{settled_always}
+use Rattle.settle_laws.proofs.Spared.{spared_core, spared_save, spared_wake}
+use Rattle.settle_laws.proofs.Tests.{not_true}
+use Rattle.policy_laws.specs.Holds.{Holds}
 use Rattle.unit_state.specs.Seen.{Seen as GuestsSeen}
 use Rattle.core_state.specs.Seen.{Seen as CoresSeen}
 use Rattle.sched_ops.specs.Seen.{Seen as SchedulerSeen}
+use Rattle.sched_ops.specs.WantedCores.{is_core_wanted}
+use Rattle.pool_core.specs.declared.settling.Mark.{Mark}
+use Rattle.pool_core.specs.CoreLooks.{IsNoneWanted, is_decision_spared, is_still_settled, pool_but}
 use Rattle.pool_core.specs.PoolState.{IsAtRest, IsKept}
-use Rattle.pool_core.specs.Wakes.{is_queued_by}
+use Rattle.pool_core.specs.Wakes.{came_by_save, came_by_wake}
+use Rattle.pool_core.proofs.Asking.{saved_away}
 
 -- a pool whose mark says nothing
-pub unsettled : {t : ℕ} {guests : GuestsSeen} {cores : CoresSeen} {s : SchedulerSeen} → IsKept t guests cores s → IsAtRest false t guests cores s
-unsettled keeps = record { kept = keeps; settled = λ e. absurd (cc) }
+pub unsettled : (mark : Mark) {guests : GuestsSeen} {cores : CoresSeen} {s : SchedulerSeen} → IsKept mark.latest.0 guests cores s → IsAtRest (record mark { settled = false }) guests cores s
+unsettled mark keeps = record { kept = keeps; settled = λ e. absurd (cc) }
 
--- a mark that is kept, where no unit joined the queue
-pub mark_kept : (settled queued : Bool) → (settled && not queued) ≡ true → (settled ≡ true) × (queued ≡ false)
-mark_kept true true kept = absurd (cc)
-mark_kept true false kept = (refl, refl)
-mark_kept false queued kept = absurd (cc)
+pub unsettled_at : (t : Moment) {mark : Mark} {guests : GuestsSeen} {cores : CoresSeen} {s : SchedulerSeen} → mark ≡ record { latest = t; settled = false } → IsKept t.0 guests cores s → IsAtRest mark guests cores s
+unsettled_at t {mark} {guests} {cores} {s} is keeps = subst (λ (m : Mark). IsAtRest m guests cores s) (sym is) (unsettled (record { latest = t; settled = false }) keeps)
 
--- a core for which its scheduler is asked as before, if at all
-record AsksAsBefore (c d : Resource) : Type 0 where
-  pub cur : d.cur ≡ c.cur
-  pub since : d.since ≡ c.since
-  pub leaving : d.leaving ≡ c.leaving
-  pub pending : c.pending ≡ true → d.pending ≡ true
-
--- what a look makes of a core that asks whether b
-abbrev looked : Bool → Resource → Resource
-looked b c = cond c.leaving c (record c { pending = c.pending || b })
-
-looked_same : (b : Bool) (c d : Resource) → d.leaving ≡ c.leaving → (c.pending ≡ true → d.pending ≡ true) → looked b c ≡ c → looked b d ≡ d
-looked_same b c d leaving pending same = by_two d.leaving d.pending b refl refl refl
+-- a pool with the mark is settled at a moment for which that still holds
+pub still_settled : (mark : Mark) (t : ℕ) (pool : Pool) → (mark.settled ≡ true → IsSettled mark.latest.0 pool) → is_still_settled mark t pool.scheduler.records ≡ true → IsSettled t pool
+still_settled mark t pool before is = by_moment (mark.latest.0 == t) refl (and_right mark.settled (mark.latest.0 == t || not (reads_moment pool.scheduler.records)) is)
   where
-    by_two : (l p x : Bool) → d.leaving ≡ l → d.pending ≡ p → b ≡ x → cond l d (record d { pending = p || x }) ≡ d
-    by_two true p x e f is = refl
-    by_two false true x e f is = ap (λ (y : Bool). record d { pending = y }) (sym f)
-    by_two false false false e f is = ap (λ (y : Bool). record d { pending = y }) (sym f)
-    by_two false false true e f is = absurd (
-        let stays : c.leaving ≡ false = sym leaving ∙ e in
-        let risen : (c.pending || b) ≡ c.pending = ap (λ (y : Resource). y.pending) (subst (λ (l : Bool). cond l c (record c { pending = c.pending || b }) ≡ c) stays same) in
-        let was : c.pending ≡ true = by_pending c.pending b is risen in
-        let now = pending was in
-        cc)
-      where
-        by_pending : (q y : Bool) → y ≡ true → (q || y) ≡ q → q ≡ true
-        by_pending true y e f = refl
-        by_pending false true e f = sym f
-        by_pending false false e f = e
+    here : IsSettled mark.latest.0 pool
+    here = before (and_left mark.settled (mark.latest.0 == t || not (reads_moment pool.scheduler.records)) is)
 
-asks_same : (t home : ℕ) (s : Scheduler) (r : ℕ) (c d : Resource) → AsksAsBefore c d → reconsidered_core t home s r c ≡ c → reconsidered_core t home s r d ≡ d
-asks_same t home s r c d asks same =
-    let question : has_better_waiting d.cur d.since.0 t r home s ≡ has_better_waiting c.cur c.since.0 t r home s =
-    ap (λ cur. has_better_waiting cur d.since.0 t r home s) asks.cur ∙ ap (λ since. has_better_waiting c.cur since.0 t r home s) asks.since in
-    ap (λ (b : Bool). looked b d) question ∙ looked_same (has_better_waiting c.cur c.since.0 t r home s) c d asks.leaving asks.pending same
+    by_moment : (b : Bool) → (mark.latest.0 == t) ≡ b → (b || not (reads_moment pool.scheduler.records)) ≡ true → IsSettled t pool
+    by_moment true same e = (let at : mark.latest.0 ≡ t = grind (arith, same) in subst (λ (n : ℕ). IsSettled n pool) at here)
+    by_moment false other e = settled_always mark.latest.0 t pool (not_true (reads_moment pool.scheduler.records) e) here
 
--- other domains
-spared_domains : (t : ℕ) (domains : List (Option Domain)) (pool : Pool) → IsSettled t pool → IsSettled t (record pool { domains = domains })
-spared_domains t domains pool before = ap (λ (x : Pool). record x { domains = domains }) before
-
--- a core that changes, and asks as before
-spared_core : (t r : ℕ) (f : Resource → Resource) (pool : Pool) → ((c : Resource) → AsksAsBefore c (f c)) → IsSettled t pool → IsSettled t (change_core r f pool)
-spared_core t r f pool asks before =
-    settled_alone t r f pool before ∙ ap (λ (o : Option Resource). record pool { resources = slice_set pool.resources r o }) (by_place (at_place pool.resources r) here)
+-- no core of a settled pool is wanted
+pub unwanted_all : (t : ℕ) (pool : Pool) → IsSettled t pool → IsNoneWanted t pool.scheduler pool.resources
+unwanted_all t pool settled r = by_place (at_place pool.resources r) refl
   where
-    home : ℕ
-    home = pool_core_set pool
+    by_place : (o : Option Resource) → at_place pool.resources r ≡ o → is_core_wanted t (pool_core_set pool) pool.scheduler r o ≡ false
+    by_place None at = refl
+    by_place (Some c) at = none_wanted t pool settled r c at
 
-    here : option_map (reconsidered_core t home pool.scheduler r) (at_place pool.resources r) ≡ at_place pool.resources r
-    here =
-        let number : 0 + r ≡ r = omega arith in
-        ap (λ (k : ℕ). option_map (reconsidered_core t home pool.scheduler k) (at_place pool.resources r)) (sym number)
-        ∙ sym (at_place-change_each 0 r (reconsidered_core t home pool.scheduler) pool.resources)
-        ∙ ap (λ (x : Pool). at_place x.resources r) before
+-- the last of the waiting units, which waits nowhere else, taken away
+without_last : (u : UnitId) (units : List UnitId) → has_listed_unit units u ≡ false → without_unit u (units ++ (u ∷ [])) ≡ units
+without_last u [] none = ap (λ (b : Bool). cond (not b) (u ∷ []) []) (same_unit_refl u)
+without_last u (w ∷ units) none =
+    ap (λ (b : Bool). cond (not b) (w ∷ without_unit u (units ++ (u ∷ []))) (without_unit u (units ++ (u ∷ [])))) (or_left (same_unit u w) (has_listed_unit units u) none)
+    ∙ ap (λ (ws : List UnitId). w ∷ ws) (without_last u units (or_right (same_unit u w) (has_listed_unit units u) none))
 
-    by_place : (o : Option Resource) → option_map (reconsidered_core t home pool.scheduler r) o ≡ o → option_map (λ c. reconsidered_core t home pool.scheduler r (f c)) o ≡ option_map f o
-    by_place None e = refl
-    by_place (Some c) e =
-        let same : reconsidered_core t home pool.scheduler r c ≡ c = cc in
-        ap Some (asks_same t home pool.scheduler r c (f c) (asks c) same)
+-- a unit that has just come to wait in a settled pool
+queued_but : (t : ℕ) (u : UnitId) (pool : Pool) → has_listed_unit pool.scheduler.queue u ≡ false → IsSettled t pool → IsSettled t (pool_but (Some u) (queue_unit u pool))
+queued_but t u pool none settled =
+    subst (IsSettled t) (sym (ap (λ (units : List UnitId). record pool { scheduler = record pool.scheduler { queue = units } }) (without_last u pool.scheduler.queue none))) settled
 
--- a core that is to decide anew
-to_decide : (c : Resource) → AsksAsBefore c (pending_core c)
-to_decide c = record { cur = refl; since = refl; leaving = refl; pending = λ e. refl }
+-- a vCPU that wakes in a settled pool: but for its unit, where that comes to wait, the pool is settled
+pub woken_but : (g t : ℕ) (pool : Pool) (v : VcpuId) → IsSettled t pool → IsSettled t (pool_but (came_by_wake g v pool) (after_in g t pool (Wake v)))
+woken_but g t pool v before = by_queued (is_queued_by g v pool) refl
+  where
+    next : Pool
+    next = change_vcpu v woken_vcpu pool
 
--- a processor that does something else
-spared_processor : (g t p : ℕ) (doing : Doing) (pool : Pool) → IsSettled t pool → IsSettled t (change_processor g p (with_doing doing) pool)
-spared_processor g t p doing pool before = spared_core t (p / g) _ pool (λ c. record { cur = refl; since = refl; leaving = refl; pending = λ e. e }) before
+    u : UnitId
+    u = vcpu_unit g v
 
--- a vCPU that changes
-spared_vcpu : (t : ℕ) (v : VcpuId) (f : Vcpu → Vcpu) (pool : Pool) → IsSettled t pool → IsSettled t (change_vcpu v f pool)
-spared_vcpu t v f pool before = spared_domains t _ pool before
+    here : IsSettled t next
+    here = ap (λ (x : Pool). record x { domains = next.domains }) before
 
-module _ (g t : ℕ) (pool : Pool) (before : IsSettled t pool) where
-  pub spared_slice : (r : ℕ) → IsSettled t (after_in g t pool (Slice (core r)))
-  spared_slice r = spared_core t r pending_core pool to_decide before
+    by_queued : (b : Bool) → is_queued_by g v pool ≡ b → IsSettled t (pool_but (if b then Some u else None) (after_in g t pool (Wake v)))
+    by_queued false stays = spared_wake g t pool before v stays
+    by_queued true comes =
+        let off : is_unit_off next u ≡ true = and_right (may_unit_run g next u) (is_unit_off next u) comes in
+        let is : after_in g t pool (Wake v) ≡ queue_unit u next =
+        ap (λ (b : Bool). elim b as (λ _. Pool) [ false ↦ next | true ↦ cond (is_unit_off next u) (queue_unit u next) (pools.joined_siblings g t v next) ]) (and_left (may_unit_run g next u) (is_unit_off next u) comes)
+        ∙ ap (λ (b : Bool). cond b (queue_unit u next) (pools.joined_siblings g t v next)) off in
+        subst (λ (p : Pool). IsSettled t (pool_but (Some u) p)) (sym is)
+        (queued_but t u next (not_true (has_listed_unit next.scheduler.queue u) (and_left (not (has_listed_unit next.scheduler.queue u)) _ off)) here)
 
-  pub spared_arrive : (p : ℕ) → IsSettled t (after_in g t pool (Arrive (processor p)))
-  spared_arrive p =
-      by_option (λ (next : Pool). IsSettled t (change_processor g p (with_doing Held) next)) (running_guest g pool p) _ _
-      (λ is. spared_processor g t p Held pool before)
-      (λ v is. spared_processor g t p Held (change_vcpu v (stopped_vcpu t) pool) (spared_vcpu t v (stopped_vcpu t) pool before))
+-- a core that saves in a settled pool: but for its saved unit, where that comes to wait, the pool is settled
+pub saved_but : (g t : ℕ) (pool : Pool) (r : ℕ) → Holds g t pool → enabled_in g t pool (Save (core r)) ≡ true → IsSettled t pool → IsSettled t (pool_but (came_by_save (event_in g t pool (Save (core r)))) (after_in g t pool (Save (core r))))
+saved_but g t pool r holds on before =
+    let found = some-test_at pool.resources r (λ c. is_some c.saving && not (list_any is_held_back c.processors) && pools.is_first_processor_up t c) on in
+    by_saving found.0 found.1 found.0.saving refl
+    (and_left (is_some found.0.saving) (not (list_any is_held_back found.0.processors)) (and_left (is_some found.0.saving && not (list_any is_held_back found.0.processors)) (pools.is_first_processor_up t found.0) found.2))
+  where
+    next : Pool
+    next = change_core r saved_core pool
 
-  pub spared_block : (p : ℕ) → IsSettled t (after_in g t pool (Block (processor p)))
-  spared_block p =
-      by_option (IsSettled t) (running_guest g pool p) _ _ (λ is. before) (λ v is.
-      let next : Pool = change_processor g p (with_doing Idle) (change_vcpu v (put_to_sleep t) pool) in
-      let here : IsSettled t next = spared_processor g t p Idle (change_vcpu v (put_to_sleep t) pool) (spared_vcpu t v (put_to_sleep t) pool before) in
-      by_cond (IsSettled t) (may_unit_run g next (vcpu_unit g v)) _ _ (λ runs. here) (λ runs. spared_core t (p / g) pending_core next to_decide here))
+    here : IsSettled t next
+    here = spared_core t r saved_core pool (λ x. record { cur = refl; since = refl; leaving = refl; pending = λ e. e }) before
 
-  -- a core whose last processor leaves
-  opened : (c : Resource) → AsksAsBefore c (pools.reopened_core c)
-  opened c = by_cond (AsksAsBefore c) (list_any is_held_back c.processors) _ _ (λ is. record { cur = refl; since = refl; leaving = refl; pending = λ e. e }) (λ is. record { cur = refl; since = refl; leaving = refl; pending = λ e. e })
+    by_runs : (c : Resource) → at_place pool.resources r ≡ Some c → (u : UnitId) → c.saving ≡ Some u → saved_at pool r ≡ u → (b : Bool) → may_unit_run g pool (saved_at pool r) ≡ b
+        → IsSettled t (pool_but (if b then Some (saved_at pool r) else None) (after_in g t pool (Save (core r))))
+    by_runs c at u saving same false stays = spared_save g t pool before r stays
+    by_runs c at u saving same true runs =
+        let is : after_in g t pool (Save (core r)) ≡ queue_unit u next =
+        ap (λ (o : Option Resource). elim o as (λ _. Pool) [ None ↦ pool | Some x ↦ elim x.saving [ None ↦ pool | Some w ↦ pools.after_save g r w pool ] ]) at
+        ∙ ap (λ (o : Option UnitId). elim o as (λ _. Pool) [ None ↦ pool | Some w ↦ pools.after_save g r w pool ]) saving
+        ∙ ap (λ (b : Bool). cond b (queue_unit u next) next) (subst (λ (w : UnitId). may_unit_run g pool w ≡ true) same runs) in
+        subst (λ (w : UnitId). IsSettled t (pool_but (Some w) (after_in g t pool (Save (core r))))) (sym same)
+        (subst (λ (p : Pool). IsSettled t (pool_but (Some u) p)) (sym is) (queued_but t u next (saved_away g t pool u r c holds at saving).waits_not here))
 
-  pub spared_leave : (p : ℕ) → IsSettled t (after_in g t pool (Leave (processor p)))
-  spared_leave p =
-      by_option (IsSettled t) (at_place pool.resources (p / g)) _ _ (λ is. before) (λ c is.
-      by_option (λ (next : Pool). IsSettled t (change_core (p / g) pools.reopened_core next)) (pools.vcpu_to_run g pool c (p % g)) _ _
-      (λ none. spared_core t (p / g) pools.reopened_core _ opened (spared_processor g t p Idle pool before))
-      (λ v some. spared_core t (p / g) pools.reopened_core _ opened (spared_processor g t p (Guest v) _ (spared_vcpu t v _ pool before))))
+    by_saving : (c : Resource) → at_place pool.resources r ≡ Some c → (o : Option UnitId) → c.saving ≡ o → is_some c.saving ≡ true
+        → IsSettled t (pool_but (came_by_save (event_in g t pool (Save (core r)))) (after_in g t pool (Save (core r))))
+    by_saving c at None saving some = absurd (let clash : false ≡ true = sym (ap (λ (o : Option UnitId). is_some o) saving) ∙ some in cc)
+    by_saving c at (Some u) saving some =
+        let there : pools.saving_among pool.resources r ≡ Some u = ap (λ (o : Option Resource). elim o as (λ _. Option UnitId) [ None ↦ None | Some x ↦ x.saving ]) at ∙ saving in
+        by_runs c at u saving (ap (λ (o : Option UnitId). unwrap_or o pools.no_unit) there) (may_unit_run g pool (saved_at pool r)) refl
 
-  -- a vCPU that wakes, and whose unit does not join the queue
-  pub spared_wake : (v : VcpuId) → is_queued_by g v pool ≡ false → IsSettled t (after_in g t pool (Wake v))
-  spared_wake v stays =
-      elim (may_unit_run g next u) as (λ runs. (runs && is_unit_off next u) ≡ false → IsSettled t (elim runs as (λ _. Pool) [ false ↦ next | true ↦ cond (is_unit_off next u) (pools.queue_unit u next) (pools.joined_siblings g t v next) ])) [
-        | false ↦ λ e. here
-        | true ↦ λ on. subst (λ (b : Bool). IsSettled t (cond b (pools.queue_unit u next) (pools.joined_siblings g t v next))) (sym on) joined
-      ] stays
-    where
-      next : Pool
-      next = change_vcpu v pools.woken_vcpu pool
-
-      u : UnitId
-      u = vcpu_unit g v
-
-      here : IsSettled t next
-      here = spared_vcpu t v pools.woken_vcpu pool before
-
-      joined : IsSettled t (pools.joined_siblings g t v next)
-      joined =
-          by_option (IsSettled t) (pools.unit_core next u) _ _ (λ is. here) (λ r is.
-          by_option (IsSettled t) (pools.pool_processor g next (r * g + v.n % g)) _ _ (λ none. here) (λ q some.
-          by_cond (IsSettled t) (pools.is_idling q) _ _ (λ idles. spared_processor g t (r * g + v.n % g) (Guest v) _ (spared_vcpu t v _ next here)) (λ busy. here)))
-
-  -- a core that puts away a unit that does not join the queue
-  pub spared_save : (r : ℕ) → may_unit_run g pool (pools.saved_at pool r) ≡ false → IsSettled t (after_in g t pool (Save (core r)))
-  spared_save r stays =
-      by_option (IsSettled t) (at_place pool.resources r) _ _ (λ is. before) (λ c at.
-      by_option (IsSettled t) c.saving _ _ (λ is. before) (λ u is.
-      let saving : pools.saving_among pool.resources r ≡ Some u = ap (λ (o : Option Resource). elim o as (λ _. Option UnitId) [ None ↦ None | Some x ↦ x.saving ]) at ∙ is in
-      let off : may_unit_run g pool u ≡ false = ap (λ (o : Option UnitId). may_unit_run g pool (unwrap_or o pools.no_unit)) (sym saving) ∙ stays in
-      by_cond (IsSettled t) (may_unit_run g pool u) _ _ (λ runs. absurd (let clash : true ≡ false = sym runs ∙ off in cc)) (λ idles.
-      spared_core t r pools.saved_core pool (λ x. record { cur = refl; since = refl; leaving = refl; pending = λ e. e }) before)))
+-- a decision that frees nothing leaves a settled pool settled
+pub decided_settled : (g t : ℕ) (r : ResId) (pool : Pool) → IsKnownPool g pool → AreReadyBy pool.scheduler.records pool → KeptOnce pool.scheduler.records → is_decision_spared pool.resources r.0 pool.scheduler.records ≡ true → IsSettled t pool
+    → IsSettled t (after_in g t pool (Decide r))
+decided_settled g t r pool known ready once is before = by_place (at_place pool.resources r.0) refl is
+  where
+    by_place : (o : Option Resource) → at_place pool.resources r.0 ≡ o → elim o as (λ _. Bool) [ None ↦ true | Some c ↦ not (may_free c.cur c.leaving pool.scheduler.records) ] ≡ true → IsSettled t (after_in g t pool (Decide r))
+    by_place None at e = subst (λ (o : Option Resource). IsSettled t (elim o as (λ _. Pool) [ None ↦ pool | Some c ↦ after_decide g t r.0 c pool ])) (sym at) before
+    by_place (Some c) at e = decides g t r.0 c pool at known ready once (frees_nothing (core_ask g t pool r.0 c) pool.scheduler (not_true (may_free c.cur c.leaving pool.scheduler.records) e)) before

@@ -1,8 +1,18 @@
--- Cores changed one after another, and those of a set made pending.
-use Rattle.std.specs.Prelude.{ℕ, zero, suc, List, [], ◌∷◌, Option, option_map, if◌then◌else◌}
+-- Cores changed one after another, those of a set made pending, and what is known of a look before it is taken.
+use Rattle.std.specs.Prelude.{ℕ, zero, suc, ◌≡◌, ◌&&◌, ◌||◌, ◌==◌, Bool, true, false, not, List, [], ◌∷◌, Option, Some, None, option_map, if◌then◌else◌}
+use Rattle.sched_base.specs.declared.UnitId.{UnitId}
+use Rattle.sched_model.specs.declared.state.Pool.{Pool}
+use Rattle.sched_model.specs.declared.state.Records.{Records}
 use Rattle.sched_model.specs.declared.state.Resource.{Resource}
-use Rattle.sched_model.specs.Pool.{pending_core}
+use Rattle.sched_model.specs.declared.state.Scheduler.{Scheduler}
+use Rattle.sched_model.specs.Places.{at_place}
+use Rattle.sched_model.specs.Pool.{cores_from, pending_core}
 use Rattle.sched_model.specs.State.{has_core_bit}
+use Rattle.settle_laws.specs.Wanted.{reads_moment}
+use Rattle.settle_laws.specs.Frees.{may_free}
+use Rattle.sched_ops.specs.Seen.{scheduler_without_unit}
+use Rattle.sched_ops.specs.WantedCores.{is_core_wanted}
+use Rattle.pool_core.specs.declared.settling.Mark.{Mark}
 
 -- the first n things that stand at places changed by f, which is told the number of the place; the first place has the number k
 abbrev pub change_first : {X : Type 0} → ℕ → ℕ → (ℕ → X → X) → List (Option X) → List (Option X)
@@ -13,3 +23,23 @@ change_first (suc n) k f (x ∷ places) = option_map (f k) x ∷ change_first n 
 -- the core is pending where the set has its number
 abbrev pub pending_where : ℕ → ℕ → Resource → Resource
 pending_where set r c = (if has_core_bit set r then pending_core c else c)
+
+-- none of these cores becomes pending at a look at t
+abbrev pub IsNoneWanted : ℕ → Scheduler → List (Option Resource) → Type 0
+IsNoneWanted t scheduler cores = (r : ℕ) → is_core_wanted t (cores_from 0 cores) scheduler r (at_place cores r) ≡ false
+
+-- the scheduler, or the pool, without the unit among those that wait, where one is named
+abbrev pub scheduler_but : Option UnitId → Scheduler → Scheduler
+scheduler_but None scheduler = scheduler
+scheduler_but (Some u) scheduler = scheduler_without_unit u scheduler
+
+abbrev pub pool_but : Option UnitId → Pool → Pool
+pool_but came pool = record pool { scheduler = scheduler_but came pool.scheduler }
+
+-- whether a pool of these records with this mark is settled at t
+abbrev pub is_still_settled : Mark → ℕ → Records → Bool
+is_still_settled mark t records = mark.settled && (mark.latest.0 == t || not (reads_moment records))
+
+-- whether the decision of the core at the place r, if there is one, frees nothing
+abbrev pub is_decision_spared : List (Option Resource) → ℕ → Records → Bool
+is_decision_spared cores r records = elim (at_place cores r) [ None ↦ true | Some c ↦ not (may_free c.cur c.leaving records) ]

@@ -2,6 +2,7 @@ pub mod Seen
 pub mod PoolState
 pub mod CoreLooks
 pub mod ProcessorEvents
+pub mod Events
 pub mod Order
 pub mod Wakes
 pub mod Domains

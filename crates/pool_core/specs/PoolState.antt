@@ -1,5 +1,5 @@
 -- What a pool's state keeps of its parts.
-use Rattle.std.specs.Prelude.{ℕ, ◌≡◌, ◌≤◌, Bool, true, List, Option}
+use Rattle.std.specs.Prelude.{ℕ, ◌≡◌, ◌≤◌, true, List, Option}
 use Rattle.sched_base.specs.declared.Moment.{Moment}
 use Rattle.sched_model.specs.declared.state.Pool.{Pool}
 use Rattle.sched_model.specs.CheckedMachine.{most_span}
@@ -10,6 +10,7 @@ use Rattle.policy_laws.specs.Holds.{Holds}
 use Rattle.unit_state.specs.Seen as guests
 use Rattle.core_state.specs.Seen as cores
 use Rattle.sched_ops.specs.Seen as schedulers
+use Rattle.pool_core.specs.declared.settling.Mark.{Mark}
 use Rattle.pool_core.specs.Seen.{pool_of}
 
 -- for each processor stands the moment at which the work of the vCPU that it runs is done
@@ -31,7 +32,7 @@ pub record IsKept (t : ℕ) (guests : guests.Seen) (cores : cores.Seen) (schedul
   pub linked : AreLinked t guests cores scheduler
   pub pool : Holds guests.granularity t (pool_of guests cores scheduler)
 
--- and where the mark says so, looking at the cores changes nothing
-pub record IsAtRest (looked : Bool) (t : ℕ) (guests : guests.Seen) (cores : cores.Seen) (scheduler : schedulers.Seen) : Type 0 where
-  pub kept : IsKept t guests cores scheduler
-  pub settled : looked ≡ true → IsSettled t (pool_of guests cores scheduler)
+-- so it is at the mark's moment, and where the mark says so, looking at the cores then changes nothing
+pub record IsAtRest (mark : Mark) (guests : guests.Seen) (cores : cores.Seen) (scheduler : schedulers.Seen) : Type 0 where
+  pub kept : IsKept mark.latest.0 guests cores scheduler
+  pub settled : mark.settled ≡ true → IsSettled mark.latest.0 (pool_of guests cores scheduler)

@@ -4,12 +4,13 @@ use Rattle.sched_base.specs.declared.Moment.{Moment}
 use Rattle.sched_base.specs.declared.VcpuId.{VcpuId}
 use Rattle.sched_model.specs.declared.config.PoolParams.{PoolParams}
 use Rattle.sched_model.specs.declared.action.Action.{Action}
+use Rattle.sched_model.specs.declared.event.Event.{Event}
 use Rattle.sched_model.specs.declared.state.Doing.TheVariants.{Guest, Idle, Held}
 use Rattle.sched_model.specs.declared.state.Pool.{Pool}
 use Rattle.sched_model.specs.declared.state.Resource.{Resource}
 use Rattle.sched_model.specs.Opening.{joined_core}
 use Rattle.sched_model.specs.Places.{at_place, clear_at, put_at}
-use Rattle.sched_model.specs.Pool.{after_in, change_processor, settled_pool}
+use Rattle.sched_model.specs.Pool.{after_in, change_processor, enabled_in, event_in, settled_pool}
 use Rattle.sched_laws.specs.RecordRanges.{IsFrom}
 use Rattle.unit_state.specs.Seen as guests
 use Rattle.core_state.specs.Seen as cores
@@ -46,6 +47,16 @@ with_spare spare seen = record seen { spare = spare }
 -- after an event at t, and after the cores were looked at
 abbrev pub seen_after : ℕ → Action → Seen → Seen
 seen_after t action seen = seen_at t (settled_pool t (after_in seen.granularity t seen.pool action)) seen
+
+-- the event may come at t, and t is not before the latest moment given
+pub record MayHappen (t : ℕ) (action : Action) (seen : Seen) : Type 0 where
+  pub now : IsNow seen t
+  pub enabled : enabled_in seen.granularity t seen.pool action ≡ true
+
+-- the event came at t: it is answered with its fields, and the pool is the one after it
+pub record HasHappened (t : ℕ) (action : Action) (before after : Seen) (answer : Event) : Type 0 where
+  pub event : answer ≡ event_in before.granularity t before.pool action
+  pub after_is : after ≡ seen_after t action before
 
 -- the vCPU that the processor runs, where these are the cores and each has g processors
 abbrev pub guest_among : ℕ → List (Option Resource) → ℕ → Option VcpuId

@@ -1,5 +1,5 @@
 -- What the waking of a vCPU does to the cores.
-use Rattle.std.specs.Prelude.{ℕ, ◌≡◌, ◌*◌, ◌+◌, ◌%◌, ◌||◌, ◌&&◌, Bool, false, true, List, Option, Some, None, slice_set, if◌then◌else◌}
+use Rattle.std.specs.Prelude.{ℕ, ◌≡◌, ◌*◌, ◌+◌, ◌%◌, ◌||◌, Bool, false, true, List, Option, Some, None, slice_set, if◌then◌else◌}
 use Rattle.std.specs.List.{list_any}
 use Rattle.sched_base.specs.Numbers.{moment}
 use Rattle.sched_base.specs.declared.Moment.{Moment}
@@ -14,6 +14,7 @@ use Rattle.sched_model.specs.declared.state.Vcpu.{Vcpu}
 use Rattle.sched_model.specs.Places.{first_place, is_unit, numbered_items}
 use Rattle.sched_model.specs.Pool.{is_idling, is_unit_off, vcpu_unit, change_vcpu, woken_vcpu, change_among}
 use Rattle.sched_model.specs.State.{may_unit_run}
+use Rattle.settle_laws.specs.Wanted.{is_queued_by}
 use Rattle.unit_state.specs.Seen.{done_among}
 use Rattle.core_state.specs.Seen.{processor_among}
 use Rattle.sched_ops.specs.Seen as schedulers
@@ -47,14 +48,14 @@ woken_works g t v pool works =
       | true ↦ (if is_unit_off next (vcpu_unit g v) then works else joined_works g v (done_started t v next.domains) pool.resources works)
     ]
 
--- whether the unit of the vCPU joins the queue when that wakes: it is runnable then, and was nowhere
-abbrev pub is_queued_by : ℕ → VcpuId → Pool → Bool
-is_queued_by g v pool = let next : Pool = change_vcpu v woken_vcpu pool in may_unit_run g next (vcpu_unit g v) && is_unit_off next (vcpu_unit g v)
+-- the unit of the vCPU, where it joins the queue when that wakes
+abbrev pub came_by_wake : ℕ → VcpuId → Pool → Option UnitId
+came_by_wake g v pool = (if is_queued_by g v pool then Some (vcpu_unit g v) else None)
 
--- whether it is the event of a core whose saved unit joins the queue
-abbrev pub is_queued_save : Event → Bool
-is_queued_save (event.Save r u queued) = queued
-is_queued_save _ = false
+-- the unit that joins the queue by the event of a core that saved it
+abbrev pub came_by_save : Event → Option UnitId
+came_by_save (event.Save r u queued) = (if queued then Some u else None)
+came_by_save _ = None
 
 -- a scheduler has as much room as before, and no later moment
 pub record KeepsRoom (before after : schedulers.Seen) : Type 0 where

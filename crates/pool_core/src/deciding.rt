@@ -6,6 +6,7 @@ ghost use Rattle.sched_model.specs.State.{runnable_among};
 ghost use Rattle.sched_model.specs.Pool.{after_in, enabled_in, event_in};
 ghost use Rattle.sched_ops.specs.Conditions.{IsNow};
 ghost use Rattle.policy_laws.specs.Holds.{Holds};
+ghost use Rattle.pool_core.specs.CoreLooks.{is_decision_spared};
 ghost use Rattle.pool_core.specs.Seen.{pool_of};
 ghost use Rattle.sched_ops.specs.Seen.{Seen as SchedulerSeen};
 
@@ -43,6 +44,17 @@ fn ask_of(guests: &Guests, home: Cores, t: Moment, r: ResId, core: &Resource) ->
         at: t,
         core: r,
         home,
+    }
+}
+
+/// Whether the decision of the core frees nothing.
+pub fn frees_nothing<P: Policy>(cores: &CoreState, policy: &P, r: ResId) -> bool
+    ensures { result ≡ is_decision_spared cores.now.resources r.0
+        (P.seen policy.now).scheduler.records }
+{
+    match cores.core(r) {
+        None => true,
+        Some(c) => !policy.frees(c.cur, c.leaving),
     }
 }
 

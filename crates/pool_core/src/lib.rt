@@ -5,10 +5,12 @@
 #![tactic(auto)]
 
 mod actors;
+mod calls;
 mod deciding;
 mod doing;
 pub mod domains;
 mod due;
+mod events;
 mod params;
 pub mod pool;
 mod settling;

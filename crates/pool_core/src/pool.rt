@@ -8,9 +8,10 @@
 //! the scheduler. Each call answers the event with its printed fields, and leaves the pool that the definitions say.
 //!
 //! *Settling.* After each event the scheduler is asked once which of the cores that are not leaving have to decide again (`wanted`): those
-//! that idle while a unit waits for them, whose unit may not be there, or for which a better unit waits. These become pending. That is left
-//! out where it would change nothing: `settled` says that it was done at the greatest moment given, and that nothing changed since on which
-//! it depends.
+//! that idle while a unit waits for them, whose unit may not be there, or for which a better unit waits. These become pending. A mark says
+//! that this was done, and that nothing changed since on which it depends. Then an event that concerns no waiting unit leaves nothing to
+//! look at, and after one by which a unit came to wait that unit alone is compared (`wanted_for`). Time alone takes the mark away only
+//! where the scheduler's answers depend on it.
 //!
 //! *Queue scheme.* The queue of waiting units is the scheduler's. Whether a unit waits is asked of no queue: a unit waits exactly where it
 //! is runnable and no core has it as its own or saves it. From when on each event may come is kept in sets and heaps of moments, by core,
@@ -23,23 +24,21 @@
 //! then by index. Moments never fall from call to call.
 
 use crate::actors::enabled_for;
-use crate::deciding::{decide, replenish};
-use crate::doing::{arrive, block, guest_of, leave};
 use crate::domains::{join, pause, set_moving, take, unpause};
 use crate::due::{first_enabled, next_moment};
+use crate::events::act;
 use crate::params::{facts, part_of, set_params};
-use crate::settling::settle;
+use crate::settling::{Mark, settle};
 use crate::units::set_units;
-use crate::waking::{is_queued, save, wake};
 use core_state::CoreState;
 use pool_records::cores::has_come;
 use pool_records::leaving::fresh_core;
-use sched_base::{DomId, Moment, NoMemory, PoolId, ProcId, ResId, UnitId, VcpuId};
+use sched_base::{DomId, Moment, NoMemory, PoolId, ProcId, ResId, UnitId};
 use sched_model::action::{Action, Actor};
 use sched_model::config::{DomParams, ParamChange, PoolParams};
 use sched_model::event::Event;
 use sched_model::facts::{Facts, ResPart, RtdsGiven};
-use sched_ops::{Places, Policy, Timer};
+use sched_ops::{Places, Policy};
 use std::alloc::Global;
 use std::marker::Model;
 use unit_state::{DomPart, Guests};
@@ -53,10 +52,8 @@ pub struct PoolState<P: Policy> {
     guests: Guests,
     cores: CoreState,
     policy: P,
-    latest: Moment,
+    mark: Mark,
     in_use: bool,
-    /// Whether the cores were looked at, at the greatest moment given, and nothing changed since that a look depends on.
-    settled: bool,
 }
 
 impl<P: Policy> Model for PoolState<P> {
@@ -70,15 +67,15 @@ impl<P: Policy> Model for PoolState<P> {
       pool = pool_of a.guests a.cores (P.seen a.policy);
       granularity = a.guests.granularity;
       spare = a.guests.spare;
-      latest = a.latest.0;
+      latest = a.mark.latest.0;
       in_use = a.in_use;
     } };
 
-    ghost invariant = { λ a. IsAtRest a.settled a.latest.0 a.guests a.cores (P.seen a.policy) };
+    ghost invariant = { λ a. IsAtRest a.mark a.guests a.cores (P.seen a.policy) };
 }
 
 impl<P: Policy> PoolState<P> {
-    ghost use Rattle.std.specs.Prelude.{◌≡◌, ℕ, ◌≤◌, ◌<◌, ◌+◌, ◌-◌, ◌*◌, true, false, is_some, IsTrue, IfOk, None, Some, length, map, option_map};
+    ghost use Rattle.std.specs.Prelude.{◌≡◌, ℕ, ◌≤◌, ◌<◌, ◌+◌, ◌-◌, ◌*◌, true, false, is_some, IfOk, None, Some, length, map, option_map};
     ghost use Rattle.sched_model.specs.CheckedMachine.{IsGranularity};
     ghost use Rattle.sched_model.specs.State.{has_core_bit};
     ghost use Rattle.sched_model.specs.Commands.{pool_with_rtds};
@@ -97,8 +94,9 @@ impl<P: Policy> PoolState<P> {
     ghost use Rattle.unit_state.specs.Seen.{units_at};
     ghost use Rattle.pool_laws.specs.Actors.{IsFirstBy};
     ghost use Rattle.pool_laws.specs.FirstEvents.{IsFirstEnabled, IsNextMoment};
-    ghost use Rattle.sched_model.specs.declared.action.Action.TheVariants.{Arrive, Block, Decide, DomMoved, Leave, Moved, Refill, Repl, Save, Slice, Wake};
+    ghost use Rattle.sched_model.specs.declared.action.Action.TheVariants.{DomMoved, Moved};
     ghost use Rattle.sched_model.specs.Pool.{enabled_in, event_in, paused_pool, pool_processor, pool_with_leaving, pool_with_moving, changed_pool, settled_pool, domain_unit_count, unpaused_pool, pool_with_domain, pool_without_domain};
+    ghost use Rattle.pool_core.specs.CoreLooks.{pool_but};
     ghost use Rattle.pool_core.specs.Seen.{IsEmpty, IsNow, seen_after, seen_at, vacant_pool, with_core, with_spare, with_stall, without_core};
 
     /// A pool with so many places for domains and for cores of 1, 2 or 4 processors each, at most 64 domains and 64 processors, and room
@@ -129,9 +127,8 @@ impl<P: Policy> PoolState<P> {
             guests,
             cores,
             policy,
-            latest: Moment(0),
+            mark: Mark::unsettled(Moment(0)),
             in_use: false,
-            settled: false,
         })
     }
 
@@ -147,7 +144,7 @@ impl<P: Policy> PoolState<P> {
           in_use = true;
         } }
     {
-        self.settled = false;
+        self.mark.settled = false;
         self.policy.restart(params);
         self.in_use = true;
     }
@@ -181,9 +178,8 @@ impl<P: Policy> PoolState<P> {
     {
         self.cores.keeps();
         self.cores.put(core.r, fresh_core(&core.stall_ends));
-        self.latest = t;
-        self.settled = false;
-        self.look();
+        self.mark = Mark::unsettled(t);
+        self.look(false, None);
     }
 
     /// A core that is leaving, and whose part in this is done, goes out: its number and the ends of its processors' stalls.
@@ -200,9 +196,8 @@ impl<P: Policy> PoolState<P> {
             unreachable!();
         };
         let part = part_of(r, &core);
-        self.latest = t;
-        self.settled = false;
-        self.look();
+        self.mark = Mark::unsettled(t);
+        self.look(false, None);
         part
     }
 
@@ -215,9 +210,8 @@ impl<P: Policy> PoolState<P> {
             (settled_pool t.0 (changed_pool change.now t.0 self.old.pool)) self.old }
     {
         set_params(&self.guests, &mut self.cores, &mut self.policy, change, t);
-        self.latest = t;
-        self.settled = false;
-        self.look();
+        self.mark = Mark::unsettled(t);
+        self.look(false, None);
     }
 
     /// So many units of the domain, from the unit first on, get new RTDS parameters; what is not given stays as it was set. They are
@@ -233,9 +227,8 @@ impl<P: Policy> PoolState<P> {
     {
         self.guests.keeps();
         set_units(&mut self.policy, d, first, count, given, t);
-        self.latest = t;
-        self.settled = false;
-        self.look();
+        self.mark = Mark::unsettled(t);
+        self.look(false, None);
     }
 
     /// The rate limit in microseconds, 0 where the scheduler has none, and the set values of the units of the domain, where one is
@@ -284,9 +277,8 @@ impl<P: Policy> PoolState<P> {
             params,
             t,
         );
-        self.latest = t;
-        self.settled = false;
-        self.look();
+        self.mark = Mark::unsettled(t);
+        self.look(false, None);
     }
 
     /// A domain that is moving, and no unit of which a core has, goes out.
@@ -301,7 +293,7 @@ impl<P: Policy> PoolState<P> {
             (self.old.spare + domain_unit_count result.granularity result.domain)
             (record self.old { pool = pool_without_domain d.0 self.old.pool }) }
     {
-        self.settled = false;
+        self.mark.settled = false;
         take(&mut self.guests, &mut self.policy, d)
     }
 
@@ -309,7 +301,7 @@ impl<P: Policy> PoolState<P> {
     pub fn set_leaving(&mut self, r: ResId)
         ensures { self.new ≡ record self.old { pool = pool_with_leaving r.0 self.old.pool } }
     {
-        self.settled = false;
+        self.mark.settled = false;
         self.cores.set_leaving(r);
     }
 
@@ -320,26 +312,20 @@ impl<P: Policy> PoolState<P> {
         ensures after { self.new ≡ record self.old
             { pool = with_stall self.old.granularity p.0 result self.old.pool } }
     {
-        self.settled = false;
+        self.mark.settled = false;
         self.cores.stall(p, until)
     }
 
-    /// Whether a look at the cores, at t, was taken and would change nothing now.
-    fn is_settled(&self, t: Moment) -> bool
-        ensures { IsTrue result → IsSettled t.0 self.now.pool }
-    {
-        self.settled && self.latest.0 == t.0
-    }
-
-    /// Each core is looked at, at the greatest moment given, unless that would change nothing.
-    fn look(&mut self)
+    /// The end of every call that changes the pool: the cores are looked at, at the greatest moment given. Where the pool is settled, but
+    /// for the unit that came to wait, that unit alone is compared, and nothing where none came.
+    fn look(&mut self, settled: bool, came: Option<UnitId>)
+        requires { settled ≡ true → IsSettled self.old.latest (pool_but came self.old.pool) }
         ensures { self.new ≡ seen_at self.old.latest (settled_pool self.old.latest self.old.pool)
             self.old }
     {
-        if !self.settled {
-            settle(&mut self.cores, &self.policy, self.latest);
-            self.settled = true;
-        }
+        let t = self.mark.latest;
+        settle(&mut self.cores, &self.policy, settled, came, t);
+        self.mark.settled = true;
     }
 
     /// From now on what has come at t is at hand.
@@ -355,10 +341,9 @@ impl<P: Policy> PoolState<P> {
         ensures { self.new ≡ seen_at t.0 (settled_pool t.0 self.old.pool) self.old }
     {
         self.tell(t);
-        let settled = self.is_settled(t);
-        self.latest = t;
-        self.settled = settled;
-        self.look();
+        let settled = self.mark.is_settled(&self.policy, t);
+        self.mark = Mark::unsettled(t);
+        self.look(settled, None);
     }
 
     /// The first event of the pool that may come at t: by kind, then by number and index. `None` where none may.
@@ -408,7 +393,7 @@ impl<P: Policy> PoolState<P> {
     pub fn keeps(&self)
         ensures { Holds self.now.granularity self.now.latest self.now.pool }
     {
-        let _ = &self.latest;
+        let _ = &self.mark;
     }
 
     /// An event of the pool that may come at t.
@@ -420,18 +405,17 @@ impl<P: Policy> PoolState<P> {
         ensures after { self.new ≡ seen_after t.0 action self.old }
     {
         self.tell(t);
-        match action {
-            Action::Wake(v) => self.wake(v, t),
-            Action::Block(p) => self.block(p, t),
-            Action::Slice(r) => self.slice(r, t),
-            Action::Repl(u) => self.replenish(u, t),
-            Action::Refill(d) => self.refill(d, t),
-            Action::Arrive(p) => self.arrive(p, t),
-            Action::Decide(r) => self.decide(r, t),
-            Action::Leave(p) => self.leave(p, t),
-            Action::Save(r) => self.save(r, t),
-            Action::Stall | Action::Xl | Action::Moved(_) | Action::DomMoved(_) => unreachable!(),
-        }
+        let settled = self.mark.is_settled(&self.policy, t);
+        let outcome = act(
+            &mut self.guests,
+            &mut self.cores,
+            &mut self.policy,
+            action,
+            t,
+        );
+        self.mark = Mark::unsettled(t);
+        self.look(settled & outcome.spares, outcome.came);
+        outcome.event
     }
 
     /// A domain is paused: its units stop waiting, and the cores that run one are to decide anew. Where it is not here or paused
@@ -442,9 +426,8 @@ impl<P: Policy> PoolState<P> {
             ≡ seen_at t.0 (settled_pool t.0 (paused_pool d.0 self.old.pool)) self.old }
     {
         pause(&mut self.guests, &mut self.cores, &mut self.policy, d);
-        self.latest = t;
-        self.settled = false;
-        self.look();
+        self.mark = Mark::unsettled(t);
+        self.look(false, None);
     }
 
     /// A domain goes on: its units that are runnable wait. Where it is not here or not paused, nothing changes but by the look at
@@ -455,9 +438,8 @@ impl<P: Policy> PoolState<P> {
             (settled_pool t.0 (unpaused_pool self.old.granularity d.0 self.old.pool)) self.old }
     {
         unpause(&mut self.guests, &self.cores, &mut self.policy, d);
-        self.latest = t;
-        self.settled = false;
-        self.look();
+        self.mark = Mark::unsettled(t);
+        self.look(false, None);
     }
 
     /// A domain is moving to a pool: its units stop waiting, and the cores that run one are to decide anew.
@@ -467,152 +449,7 @@ impl<P: Policy> PoolState<P> {
             (pool_with_moving d.0 to.0 self.old.pool)) self.old }
     {
         set_moving(&mut self.guests, &mut self.cores, &mut self.policy, d, to);
-        self.latest = t;
-        self.settled = false;
-        self.look();
-    }
-
-    /// A vCPU that sleeps, and whose wake moment has come at t, wakes. Its unit waits, where it is runnable now and was nowhere; where
-    /// it is a core's own, its own processor runs the vCPU, if that idles.
-    pub fn wake(&mut self, v: VcpuId, t: Moment) -> Event
-        requires now { IsNow self.old t.0 }
-        requires enabled { enabled_in self.old.granularity t.0 self.old.pool (Wake v) ≡ true }
-        ensures event { result ≡ event_in self.old.granularity t.0 self.old.pool (Wake v) }
-        ensures after { self.new ≡ seen_after t.0 (Wake v) self.old }
-    {
-        let settled = self.is_settled(t);
-        self.guests.keeps();
-        self.cores.keeps();
-        let queued = wake(&mut self.guests, &mut self.cores, &mut self.policy, v, t);
-        self.latest = t;
-        self.settled = settled & !queued;
-        self.look();
-        Event::Wake { v }
-    }
-
-    /// A vCPU that a processor runs, and whose work is done at t, sleeps. Its core is to decide anew, where its unit is no longer
-    /// runnable.
-    pub fn block(&mut self, p: ProcId, t: Moment) -> Event
-        requires now { IsNow self.old t.0 }
-        requires enabled { enabled_in self.old.granularity t.0 self.old.pool (Block p) ≡ true }
-        ensures event { result ≡ event_in self.old.granularity t.0 self.old.pool (Block p) }
-        ensures after { self.new ≡ seen_after t.0 (Block p) self.old }
-    {
-        let settled = self.is_settled(t);
-        let Some(v) = guest_of(&self.cores, p) else {
-            unreachable!();
-        };
-        block(&mut self.guests, &mut self.cores, p, v, t);
-        self.latest = t;
-        self.settled = settled;
-        self.look();
-        Event::Block { p, v }
-    }
-
-    /// A core whose due has come at t is to decide anew.
-    pub fn slice(&mut self, r: ResId, t: Moment) -> Event
-        requires now { IsNow self.old t.0 }
-        requires enabled { enabled_in self.old.granularity t.0 self.old.pool (Slice r) ≡ true }
-        ensures event { result ≡ event_in self.old.granularity t.0 self.old.pool (Slice r) }
-        ensures after { self.new ≡ seen_after t.0 (Slice r) self.old }
-    {
-        let settled = self.is_settled(t);
-        self.cores.set_pending(r);
-        self.latest = t;
-        self.settled = settled;
-        self.look();
-        Event::Slice { r }
-    }
-
-    /// An RTDS unit whose deadline has come at t has its budget anew. A core that runs it asks again when that is used up, if not
-    /// before.
-    pub fn replenish(&mut self, u: UnitId, t: Moment) -> Event
-        requires now { IsNow self.old t.0 }
-        requires enabled { enabled_in self.old.granularity t.0 self.old.pool (Repl u) ≡ true }
-        ensures event { result ≡ event_in self.old.granularity t.0 self.old.pool (Repl u) }
-        ensures after { self.new ≡ seen_after t.0 (Repl u) self.old }
-    {
-        let event = replenish(&self.guests, &mut self.cores, &mut self.policy, u, t);
-        self.latest = t;
-        self.settled = false;
-        self.look();
-        event
-    }
-
-    /// The budget of a capped Credit2 domain, whose refill has come at t, is filled.
-    pub fn refill(&mut self, d: DomId, t: Moment) -> Event
-        requires now { IsNow self.old t.0 }
-        requires enabled { enabled_in self.old.granularity t.0 self.old.pool (Refill d) ≡ true }
-        ensures event { result ≡ event_in self.old.granularity t.0 self.old.pool (Refill d) }
-        ensures after { self.new ≡ seen_after t.0 (Refill d) self.old }
-    {
-        let event = self.policy.timer(Timer::Refill(d), t);
-        self.latest = t;
-        self.settled = false;
-        self.look();
-        event
-    }
-
-    /// A processor of a core that is to decide anew waits for its siblings. A vCPU that it ran is stopped.
-    pub fn arrive(&mut self, p: ProcId, t: Moment) -> Event
-        requires now { IsNow self.old t.0 }
-        requires enabled { enabled_in self.old.granularity t.0 self.old.pool (Arrive p) ≡ true }
-        ensures event { result ≡ event_in self.old.granularity t.0 self.old.pool (Arrive p) }
-        ensures after { self.new ≡ seen_after t.0 (Arrive p) self.old }
-    {
-        let settled = self.is_settled(t);
-        arrive(&mut self.guests, &mut self.cores, p, t);
-        self.latest = t;
-        self.settled = settled;
-        self.look();
-        Event::Arrive { p }
-    }
-
-    /// A core, all of whose processors wait, decides: its scheduler chooses its unit, and its old one, where that is another, is to
-    /// be saved.
-    pub fn decide(&mut self, r: ResId, t: Moment) -> Event
-        requires now { IsNow self.old t.0 }
-        requires enabled { enabled_in self.old.granularity t.0 self.old.pool (Decide r) ≡ true }
-        ensures event { result ≡ event_in self.old.granularity t.0 self.old.pool (Decide r) }
-        ensures after { self.new ≡ seen_after t.0 (Decide r) self.old }
-    {
-        let event = decide(&self.guests, &mut self.cores, &mut self.policy, r, t);
-        self.latest = t;
-        self.settled = false;
-        self.look();
-        event
-    }
-
-    /// A processor leaves its siblings after their core decided, and runs the vCPU of the core's unit at its place, where that is
-    /// awake.
-    pub fn leave(&mut self, p: ProcId, t: Moment) -> Event
-        requires now { IsNow self.old t.0 }
-        requires enabled { enabled_in self.old.granularity t.0 self.old.pool (Leave p) ≡ true }
-        ensures event { result ≡ event_in self.old.granularity t.0 self.old.pool (Leave p) }
-        ensures after { self.new ≡ seen_after t.0 (Leave p) self.old }
-    {
-        let settled = self.is_settled(t);
-        self.cores.keeps();
-        let v = leave(&mut self.guests, &mut self.cores, p, t);
-        self.latest = t;
-        self.settled = settled;
-        self.look();
-        Event::Leave { p, v }
-    }
-
-    /// A core, none of whose processors waits any more, puts away the unit that it saves, which waits again where it is runnable.
-    pub fn save(&mut self, r: ResId, t: Moment) -> Event
-        requires now { IsNow self.old t.0 }
-        requires enabled { enabled_in self.old.granularity t.0 self.old.pool (Save r) ≡ true }
-        ensures event { result ≡ event_in self.old.granularity t.0 self.old.pool (Save r) }
-        ensures after { self.new ≡ seen_after t.0 (Save r) self.old }
-    {
-        let settled = self.is_settled(t);
-        let event = save(&self.guests, &mut self.cores, &mut self.policy, r, t);
-        let queued = is_queued(&event);
-        self.latest = t;
-        self.settled = settled & !queued;
-        self.look();
-        event
+        self.mark = Mark::unsettled(t);
+        self.look(false, None);
     }
 }

@@ -9,7 +9,7 @@ ghost use Rattle.sched_ops.specs.Seen.{Seen as SchedulerSeen};
 ghost use Rattle.unit_state.specs.Seen.{IsNow, is_awake_among, is_due_among};
 ghost use Rattle.pool_core.specs.Seen.{pool_of};
 ghost use Rattle.pool_core.specs.ProcessorEvents.{IsMoved};
-ghost use Rattle.pool_core.specs.Wakes.{done_started, idles_among, is_held_among, is_queued_save, is_queued_by, joined_works, woken_works, KeepsRoom};
+ghost use Rattle.pool_core.specs.Wakes.{done_started, idles_among, is_held_among, came_by_save, came_by_wake, joined_works, woken_works, KeepsRoom};
 
 use core_state::CoreState;
 use pool_records::cores::is_idle;
@@ -62,14 +62,14 @@ fn has_place(guests: &Guests, cores: &CoreState, u: UnitId) -> bool
 }
 
 /// The vCPU, whose wake moment has come, wakes. Its unit waits, where it is runnable now and was nowhere; where it is a core's own,
-/// the vCPU is started on its own processor, if that idles. Whether the unit waits now, and did not before.
+/// the vCPU is started on its own processor, if that idles. The unit that waits now, and did not before.
 pub fn wake<P: Policy>(
     guests: &mut Guests,
     cores: &mut CoreState,
     policy: &mut P,
     v: VcpuId,
     t: Moment,
-) -> bool
+) -> Option<UnitId>
     requires now { IsNow guests.old t.0 }
     requires same { cores.old.granularity ≡ guests.old.granularity }
     requires due { is_due_among t.0 guests.old.domains v ≡ true }
@@ -78,7 +78,7 @@ pub fn wake<P: Policy>(
     ensures pool { pool_of guests.new cores.new (P.seen policy.new)
         ≡ after_wake guests.old.granularity t.0 v
         (pool_of guests.old cores.old (P.seen policy.old)) }
-    ensures queued { result ≡ is_queued_by guests.old.granularity v
+    ensures came { result ≡ came_by_wake guests.old.granularity v
         (pool_of guests.old cores.old (P.seen policy.old)) }
     ensures works { cores.new.works ≡ woken_works guests.old.granularity t.0 v
         (pool_of guests.old cores.old (P.seen policy.old)) cores.old.works }
@@ -89,24 +89,24 @@ pub fn wake<P: Policy>(
     let had_place = has_place(guests, cores, u);
     guests.wake(v, t);
     if !guests.runnable(u) {
-        return false;
+        return None;
     }
     if had_place {
         join_siblings(guests, cores, v, t);
-        false
+        None
     } else {
         policy.enqueue(u);
-        true
+        Some(u)
     }
 }
 
-/// Whether it is the event of a core whose saved unit waits again.
-pub fn is_queued(event: &Event) -> bool
-    ensures { result ≡ is_queued_save event.now }
+/// The unit that waits again by the event of a core that saved it.
+pub fn came_of(event: &Event) -> Option<UnitId>
+    ensures { result ≡ came_by_save event.now }
 {
     match event {
-        Event::Save { queued, .. } => *queued,
-        _ => false,
+        Event::Save { u, queued, .. } => { if *queued { Some(*u) } else { None } }
+        _ => None,
     }
 }
 

@@ -1,3 +1,4 @@
 pub mod Waiting
 pub mod Whole
 pub mod Marking
+pub mod Taking

@@ -24,7 +24,7 @@ use Rattle.std.proofs.Math.Bool.{or-false}
 set_here : (marks : List Bool) (u : UnitId) (mark : Bool) → has_unit_place u ≡ true → unit_index u < length marks → is_marked (slice_set marks (unit_index u) mark) u ≡ mark
 set_here marks u mark place low = rw place (get_or-set_same marks (unit_index u) mark false low)
 
-apart_index : (u w : UnitId) → has_unit_place u ≡ true → has_unit_place w ≡ true → same_unit w u ≡ false → unit_index w ≡ unit_index u → ⊥
+pub apart_index : (u w : UnitId) → has_unit_place u ≡ true → has_unit_place w ≡ true → same_unit w u ≡ false → unit_index w ≡ unit_index u → ⊥
 apart_index u w place_u place_w other same = (let n = low_unit u place_u in let m = low_unit w place_w in let d : w.dom.0 ≡ u.dom.0 = omega (arith, same, n, m) in let k : w.n ≡ u.n = omega (arith, same, n, m) in grind (arith, other, d, k))
 
 set_elsewhere : (marks : List Bool) (u w : UnitId) (mark : Bool) → has_unit_place u ≡ true → same_unit w u ≡ false → is_marked (slice_set marks (unit_index u) mark) w ≡ is_marked marks w

@@ -3,8 +3,8 @@
 //! It is what the schedulers without keys have in common: nothing but the order of arrival tells their waiting units apart.
 #![tactic(auto)]
 
-ghost use Rattle.std.specs.Prelude.{◌≡◌, ◌≤◌, ◌<◌, Some, None, true, false, length, IfOk, unwrap_or, [], slice_set};
-ghost use Rattle.sched_model.specs.Places.{at_place, change_at, has_listed_unit};
+ghost use Rattle.std.specs.Prelude.{◌≡◌, ◌≤◌, ◌<◌, Some, None, true, false, length, IfNone, IfOk, IfSome, unwrap_or, [], slice_get, slice_set};
+ghost use Rattle.sched_model.specs.Places.{at_place, change_at, has_listed_unit, without_unit};
 ghost use Rattle.sched_model.specs.Policy.{pinned_cores};
 ghost use Rattle.sched_model.specs.EligibleUnits.{is_allowed_by};
 ghost use Rattle.sched_ops.specs.Conditions.{IsApart};
@@ -18,9 +18,9 @@ use sched_model::places::{item_at, set_place};
 use sched_model::row::{Row, empty_places};
 use sched_model::short::{Short, copies};
 use sched_model::state::Queue;
+use sched_model::units::is_same;
 use scheduler_records::eligible::is_allowed;
 use scheduler_records::pins::pin;
-use scheduler_records::queue::drop_unit;
 use std::alloc::Global;
 use std::marker::Model;
 
@@ -72,10 +72,34 @@ fn pin_sets(affinity: &mut Option<Row<Option<Pins>>>, d: DomId, unit: Option<u8>
     }
 }
 
+/// Where the unit stands among these, looked for from the end. `None` where it does not.
+fn last_place(units: &[UnitId], u: UnitId) -> Option<usize>
+    ensures absent { IfNone result (has_listed_unit units.now u ≡ false) }
+    ensures here { IfSome result (λ place. slice_get units.now place ≡ Some u) }
+{
+    for place in (0..units.len()).rev() {
+        if is_same(u, units[place]) {
+            return Some(place);
+        }
+    }
+    None
+}
+
+/// The unit is taken out of the queue, in which none stands twice. It is looked for from the end: one that has just come is mostly the next to go.
+fn take_out(queue: &mut Queue, u: UnitId)
+    requires { IsApart queue.old }
+    ensures { queue.new ≡ without_unit u queue.old }
+{
+    if let Some(place) = last_place(queue.as_slice(), u) {
+        let _ = queue.remove(place);
+    }
+}
+
 impl PoolUnits {
     ghost use Rattle.std.specs.Prelude.{◌≡◌, ◌≤◌, ◌<◌, Some, None, true, false, length, IfOk};
     ghost use Rattle.pool_units.specs.Units.{vacant_units, HasNoneWaiting, after_join, after_part, after_enqueue, after_dequeue, pinned_in};
     ghost use Rattle.sched_ops.specs.Affinity.{joined_unit_count, is_member_among};
+    ghost use Rattle.unit_places.specs.Places.{has_unit_place};
     /// No unit, no place for a domain and no room. It has no memory.
     pub fn empty() -> Self
         ensures { result ≡ vacant_units 0 0 }
@@ -155,7 +179,7 @@ impl PoolUnits {
             return;
         }
         self.marks.set(u, false);
-        drop_unit(&mut self.queue, u);
+        take_out(&mut self.queue, u);
     }
 
     /// Whether the unit waits.
@@ -197,11 +221,13 @@ impl PoolUnits {
         }
     }
 
-    /// Does nothing, and tells what is always so: no unit waits twice, and those that wait have joined.
+    /// Does nothing, and tells what is always so: no unit waits twice, those that wait have joined, and each of these has a place in tables.
     pub fn keeps(&self)
         ensures apart { IsApart self.now.queue }
         ensures members { (u : UnitId) → has_listed_unit self.now.queue u ≡ true →
             is_member_among self.now.affinity u ≡ true }
+        ensures places { (u : UnitId) → is_member_among self.now.affinity u ≡ true →
+            has_unit_place u ≡ true }
     {
         let _ = &self.queue;
     }

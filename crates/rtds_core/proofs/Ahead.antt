@@ -28,7 +28,7 @@ use Rattle.rtds_core.proofs.Queues.{IsOrdered}
 use Rattle.std.proofs.Math.Bool.{or-true}
 
 -- the set of all 64 cores has each of them
-every_core : (r : ℕ) → r < 64 → has_core_bit (2 ^ 64 - 1) r ≡ true
+pub every_core : (r : ℕ) → r < 64 → has_core_bit (2 ^ 64 - 1) r ≡ true
 every_core r low = ap (λ n. n == 1) (bit_at_ones 64 r low)
 
 -- where a set has none of the pool's cores, each is allowed
@@ -45,7 +45,7 @@ module _ (domains : List (Option (List RtdsUnit))) (own : UnitId) (p : UnitId �
       by_record (Some a) = ap (λ (o : Option RtdsUnit). elim o as (λ _. Bool) [ None ↦ false | Some b ↦ is_record_before a b ]) none
 
   -- a unit behind one that does not go before the core's own does not either
-  behind : (e x : Queued) → IsEligible domains e → IsEligible domains x → goes_before e x ≡ true → is_unit_before domains e.unit own ≡ false → is_unit_before domains x.unit own ≡ false
+  pub behind : (e x : Queued) → IsEligible domains e → IsEligible domains x → goes_before e x ≡ true → is_unit_before domains e.unit own ≡ false → is_unit_before domains x.unit own ≡ false
   behind e x first other before not_first = by_own (rtds_unit_at domains own) refl
     where
       by_own : (o : Option RtdsUnit) → rtds_unit_at domains own ≡ o → is_unit_before domains x.unit own ≡ false
@@ -80,7 +80,7 @@ module _ (domains : List (Option (List RtdsUnit))) (own : UnitId) (p : UnitId �
 
 module _ (domains : List (Option (List RtdsUnit))) (affinity : List (Option (List Cores))) (q : Lists) (masks : List Cores) (spare latest : ℕ) (shape : IsShaped domains affinity) (queued : AreQueued domains q) (are : AreMasks affinity masks) (order : IsOrdered q) where
   -- the core's own unit has its set of cores in the table
-  own_set : (home core : ℕ) (u : UnitId) (x : RtdsUnit) → rtds_unit_at domains u ≡ Some x → may_run masks (record { 0 = core }) (record { 0 = home }) u ≡ is_allowed_by affinity home core u
+  pub own_set : (home core : ℕ) (u : UnitId) (x : RtdsUnit) → rtds_unit_at domains u ≡ Some x → may_run masks (record { 0 = core }) (record { 0 = home }) u ≡ is_allowed_by affinity home core u
   own_set home core u x at =
       let s = sets_of domains affinity u x shape at in
       ap (λ (k : ℕ). is_core_allowed k core home) (are.each u s.sets s.at s.inside)

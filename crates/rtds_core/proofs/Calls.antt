@@ -113,6 +113,8 @@ keeps_of domains affinity q masks dues spare latest order kept = record {
   apart = apart_arrivals (q.eligible ++ q.spent) (once_units (q.eligible ++ q.spent) order.units) (low_queued domains affinity q kept.shape kept.queued);
   members = λ u waiting. (let k = waiting_known domains q u kept.queued waiting in record_member domains affinity u k.0 kept.shape k.1);
   off = λ u waiting. (let k = waiting_known domains q u kept.queued waiting in ap on_in k.1 ∙ ap (λ (o : Option ℕ). is_some o) k.2);
+  once = tt;
+  cut = tt;
 }
 
 -- the first of the queues that may have the core, as a scan finds it

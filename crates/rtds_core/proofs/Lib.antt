@@ -11,3 +11,5 @@ pub mod Joining
 pub mod Calls
 pub mod Vacant
 pub mod Ahead
+pub mod Coming
+pub mod Behind

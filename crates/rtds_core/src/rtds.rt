@@ -175,6 +175,25 @@ impl Policy for Rtds {
         }
     }
 
+    fn wanted_for(&self, u: UnitId, cores: &[Option<Resource>], t: Moment, home: Cores) -> Cores {
+        match &self.state {
+            None => Cores(0),
+            Some(state) => state.wanted_for(u, cores, t, home),
+        }
+    }
+
+    /// No: a unit that waits is charged nothing, and one that runs is compared by what it had when its core last decided.
+    fn asks_moment(&self) -> bool {
+        law_kind(&self.state, self.early);
+        false
+    }
+
+    /// No: a core that leaves or idles lets no unit go elsewhere that could not before.
+    fn frees(&self, _cur: Option<UnitId>, _leaving: bool) -> bool {
+        law_kind(&self.state, self.early);
+        false
+    }
+
     fn timer_due(&self, t: Moment) -> Option<(Moment, Timer)> {
         match &self.state {
             None => None,

@@ -7,12 +7,13 @@ ghost use Rattle.sched_model.specs.Places.{at_place};
 ghost use Rattle.rtds_queue.specs.Lists.{empty_lists, holds};
 ghost use Rattle.unit_places.specs.Places.{unit_index};
 ghost use Rattle.rtds_core.specs.RtdsParts.{size, renewed_if, rearmed_dues};
+ghost use Rattle.rtds_core.specs.WantedCores.{is_ready};
 
 use crate::alarms::Alarms;
 use crate::best::{due_of, key_of, pick, start, stop};
 use crate::masks::set_masks;
 use crate::records::join_records;
-use crate::wanted::wanted;
+use crate::wanted::{Ahead, open_cores, outrun_by, stands_behind, wanted};
 use rtds_queue::RtdsQueues;
 use sched_base::{Cores, DomId, Moment, NoMemory, Span, UnitId};
 use sched_model::ask::Ask;
@@ -25,7 +26,9 @@ use sched_model::short::copies;
 use sched_model::state::{Resource, RtdsUnit, RtdsUnits};
 use sched_ops::{Choice, Places, Timer};
 use scheduler_records::pins::pin;
-use scheduler_records::rtds::{burn_cur, replenish, replenishment, rtds_unit, set_next};
+use scheduler_records::rtds::{
+    budget_left, burn_cur, replenish, replenishment, rtds_unit, set_next,
+};
 use std::alloc::Global;
 use std::marker::Model;
 use unit_places::Masks;
@@ -77,8 +80,15 @@ fn count_units(affinity: &[Option<Pins>], d: DomId) -> usize
     }
 }
 
+/// Whether the unit waits with budget left.
+fn waits_ready(domains: &[Option<RtdsUnits>], queues: &RtdsQueues, u: UnitId) -> bool
+    ensures { result ≡ is_ready domains.now queues.now u }
+{
+    queues.has(u) && budget_left(domains, u) > 0
+}
+
 impl RtdsState {
-    ghost use Rattle.std.specs.Prelude.{◌≡◌, ℕ, ◌≤◌, ◌<◌, ◌+◌, ◌-◌, true, IfOk, None, Some, length};
+    ghost use Rattle.std.specs.Prelude.{◌≡◌, ℕ, ◌≤◌, ◌<◌, ◌+◌, ◌-◌, true, false, IfOk, None, Some, length};
     ghost use Rattle.sched_model.specs.State.{has_core_bit};
     ghost use Rattle.sched_laws.specs.EachPlace.{EachPlace};
     ghost use Rattle.sched_model.specs.declared.config.PoolParams.TheVariants as pool_params;
@@ -242,6 +252,31 @@ impl RtdsState {
             cores,
             home,
         )
+    }
+
+    /// The same, where none of them would be to decide anew without this unit. Where it waits with budget left, these are the cores that it
+    /// outruns: none, where another unit stands first and may be on each. The queue is not searched.
+    pub fn wanted_for(&self, u: UnitId, cores: &[Option<Resource>], t: Moment, home: Cores) -> Cores
+        requires few { length cores.now ≤ 64 }
+        requires asks { EachPlace (MayAsk t.0 self.now.scheduler) cores.now }
+        requires before { (r : ℕ)
+            → is_core_wanted t.0 home.0 (scheduler_without_unit u self.now.scheduler) r
+            (at_place cores.now r) ≡ false }
+        ensures { (r : ℕ) → has_core_bit result.0 r
+            ≡ is_core_wanted t.0 home.0 self.now.scheduler r (at_place cores.now r) }
+    {
+        self.queues.law_order();
+        if !waits_ready(self.domains.as_slice(), &self.queues, u) {
+            return Cores(0);
+        }
+        if stands_behind(&self.queues, &self.masks, u, home) {
+            return Cores(0);
+        }
+        let coming = Ahead {
+            unit: u,
+            cores: open_cores(self.masks.get(u), home),
+        };
+        outrun_by(self.domains.as_slice(), coming, cores)
     }
 
     /// The first replenishment, by domain and unit, whose moment has come at t; where there is none, the one of the least

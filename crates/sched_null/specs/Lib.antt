@@ -1,1 +1,2 @@
 pub mod KeptCores
+pub mod Coming

@@ -1,21 +1,28 @@
 //! The units for which the cores are kept.
 
-ghost use Rattle.std.specs.Prelude.{◌≡◌, [], None, replicate, unwrap_or, slice_set, length, IfOk, ◌==◌};
-ghost use Rattle.sched_model.specs.Places.{same_unit};
+ghost use Rattle.std.specs.Prelude.{◌≡◌, [], None, Some, true, replicate, unwrap_or, slice_set, length, IfOk, ◌==◌};
+ghost use Rattle.sched_model.specs.Places.{at_place, same_unit};
 ghost use Rattle.sched_model.specs.NullScheduler.{kept_without};
+ghost use Rattle.unit_places.specs.Places.{has_unit_place, unit_index};
+ghost use Rattle.sched_null.specs.KeptCores.{lasts_after};
 
 use sched_base::{DomId, NoMemory, ResId, UnitId};
-use sched_model::places::set_place;
+use sched_model::places::{item_at, set_place};
 use sched_model::row::{Row, empty_places};
 use sched_model::units::is_there;
 use scheduler_records::null::{release_domain, release_unit};
 use std::alloc::Global;
 use std::marker::Model;
+use unit_places::{PLACES, has_place, index_of};
 
 /// A unit, or none, for each core: no unit for two of them. Contracts see the list of them, by the numbers of the cores.
+///
+/// Beside them stands, at the place of each unit, the core that was last kept for it. So the core of a unit is read and not looked for: it is that
+/// one, or none where that is kept for it no more.
 #[derive(Drop)]
 pub struct Kept {
     places: Option<Row<Option<UnitId>>>,
+    lasts: Option<Row<Option<ResId>>>,
 }
 
 impl Model for Kept {
@@ -27,7 +34,7 @@ impl Model for Kept {
 
     ghost view = { λ a. unwrap_or a.places [] };
 
-    ghost invariant = { λ a. IsKept (unwrap_or a.places []) };
+    ghost invariant = { λ a. IsKept (unwrap_or a.places []) (unwrap_or a.lasts []) };
 }
 
 /// What the core is kept for from now on, where there is such a core.
@@ -36,6 +43,37 @@ fn set_kept(places: &mut Option<Row<Option<UnitId>>>, core: ResId, unit: Option<
 {
     if let Some(kept) = places {
         set_place(kept, core.0, unit);
+    }
+}
+
+/// The core is the last of the place, where there is such a place.
+fn set_last(lasts: &mut Option<Row<Option<ResId>>>, place: usize, core: ResId)
+    ensures { unwrap_or lasts.new [] ≡ slice_set (unwrap_or lasts.old []) place (Some core) }
+{
+    if let Some(cores) = lasts
+        && place < cores.len()
+    {
+        cores.replace(place, Some(core));
+    }
+}
+
+/// The core is the last of the unit, where that has a place.
+fn note_last(lasts: &mut Option<Row<Option<ResId>>>, u: UnitId, core: ResId)
+    ensures { unwrap_or lasts.new [] ≡ lasts_after u core (unwrap_or lasts.old []) }
+{
+    if has_place(u) {
+        set_last(lasts, index_of(u), core);
+    }
+}
+
+/// The last core of a unit that has a place.
+fn last_of(lasts: &Option<Row<Option<ResId>>>, u: UnitId) -> Option<ResId>
+    requires { has_unit_place u ≡ true }
+    ensures { result ≡ at_place (unwrap_or lasts.now []) (unit_index u) }
+{
+    match lasts {
+        None => None,
+        Some(cores) => item_at(cores.as_slice(), index_of(u)).copied(),
     }
 }
 
@@ -77,7 +115,9 @@ fn release_all(places: &mut Option<Row<Option<UnitId>>>)
 }
 
 impl Kept {
-    ghost use Rattle.std.specs.Prelude.{◌≡◌, ◌≤◌, [], None, replicate, length, IfOk, ◌==◌};
+    ghost use Rattle.std.specs.Prelude.{◌≡◌, ◌≢◌, ◌≤◌, ◌<◌, ℕ, [], None, Some, true, replicate, length, IfNone, IfOk, IfSome, ◌==◌};
+    ghost use Rattle.sched_base.specs.declared.UnitId.{UnitId as UnitName};
+    ghost use Rattle.unit_places.specs.Places.{has_unit_place};
     ghost use Rattle.sched_model.specs.Places.{at_place, clear_at};
     ghost use Rattle.sched_model.specs.NullScheduler.{kept_without, kept_for};
 
@@ -85,7 +125,10 @@ impl Kept {
     pub fn empty() -> Self
         ensures { result ≡ [] }
     {
-        Kept { places: None }
+        Kept {
+            places: None,
+            lasts: None,
+        }
     }
 
     /// So many cores, kept for no unit.
@@ -94,8 +137,10 @@ impl Kept {
         ensures { IfOk result (λ kept. kept ≡ replicate cores None) }
     {
         let places = empty_places(alloc, usize::from(cores))?;
+        let lasts = empty_places(alloc, PLACES)?;
         Ok(Kept {
             places: Some(places),
+            lasts: Some(lasts),
         })
     }
 
@@ -123,6 +168,18 @@ impl Kept {
         }
     }
 
+    /// The core that is kept for a unit that has a place: the last one, if that still is.
+    pub fn core_of(&self, u: UnitId) -> Option<ResId>
+        requires { has_unit_place u ≡ true }
+        ensures none { IfNone result ((r : ℕ) → at_place self.now r ≢ Some u) }
+        ensures kept { IfSome result (λ core. at_place self.now core.0 ≡ Some u) }
+        ensures few { IfSome result (λ core. core.0 < 64) }
+    {
+        let core = last_of(&self.lasts, u)?;
+        let still = is_there(self.at(core), u);
+        if still { Some(core) } else { None }
+    }
+
     /// The core is kept for the unit, and no other core is.
     pub fn keep(&mut self, core: ResId, u: UnitId)
         ensures { self.new ≡ kept_for core.0 u self.old }
@@ -132,6 +189,7 @@ impl Kept {
         }
         release_one(&mut self.places, u);
         set_kept(&mut self.places, core, Some(u));
+        note_last(&mut self.lasts, u, core);
     }
 
     /// The core is kept for no unit.
@@ -153,5 +211,12 @@ impl Kept {
         ensures { self.new ≡ replicate (length self.old) None }
     {
         release_all(&mut self.places);
+    }
+    /// Does nothing, and tells that no unit is kept for two cores.
+    pub fn keeps(&self)
+        ensures { (q r : ℕ) → (u : UnitName) → at_place self.now q ≡ Some u →
+            at_place self.now r ≡ Some u → q ≡ r }
+    {
+        let _ = &self.places;
     }
 }

@@ -6,22 +6,26 @@
 //! There is nothing to charge and no end of a slice: a core decides again where its unit stops, or may not be there any more.
 //!
 //! *Queue scheme.* Units wait in order of arrival, with a mark for each in a table (`pool_units`). A core that is given to a unit asks for
-//! that mark alone. The queue is walked only for a core that is given to none, and not at all while no unit waits.
+//! that mark alone. The queue is walked only for a core that is given to none, and not at all while no unit waits. A unit that comes to wait is
+//! taken by its own core, if that idles; one that is given none, by a core that is given to none.
 //!
 //! *Locking.* There is none here: a scheduler is owned by its pool, and a pool is what a schedule lock guards (`hall`). Only `reserve`
 //! takes memory.
 //!
 //! *Ordering.* The unit that came to wait earlier goes first. No unit is better than a core's own. There are no timers.
 
-ghost use Rattle.std.specs.Prelude.{◌≡◌, ◌≤◌, ◌<◌, ◌&&◌, ℕ, [], false, Some, None, if◌then◌else◌, length};
-ghost use Rattle.sched_model.specs.Places.{has_listed_unit};
+ghost use Rattle.std.specs.Prelude.{◌≡◌, ◌==◌, ◌≤◌, ◌<◌, ◌&&◌, ℕ, [], true, false, Some, None, IfNone, IfSome, if◌then◌else◌, length};
+ghost use Rattle.sched_model.specs.Places.{at_place, has_listed_unit};
 ghost use Rattle.sched_model.specs.declared.state.Records.TheVariants.{NullPool};
 ghost use Rattle.sched_model.specs.State.{has_core_bit};
-ghost use Rattle.sched_model.specs.EligibleUnits.{is_allowed_by, is_unit_placed, eligible_units};
+ghost use Rattle.sched_model.specs.EligibleUnits.{is_allowed_by, is_unit_placed, is_core_given, has_given_core, eligible_units};
 ghost use Rattle.sched_model.specs.Policy.{has_better_waiting};
 ghost use Rattle.sched_model.specs.NullScheduler.{earliest_unit, null_choice, null_decision};
 ghost use Rattle.scheduler_records.specs.Parts.{scheduler_of};
 ghost use Rattle.sched_ops.specs.Seen.{Tells};
+ghost use Rattle.sched_ops.specs.WantedCores.{IsAnswer};
+ghost use Rattle.unit_places.specs.Places.{has_unit_place};
+ghost use Rattle.sched_null.specs.Coming.{is_idle, is_open_to};
 
 use crate::kept::Kept;
 use pool_units::PoolUnits;
@@ -30,6 +34,7 @@ use sched_model::ask::Ask;
 use sched_model::config::{DomParams, ParamChange, Pins, PoolParams};
 use sched_model::event::Event;
 use sched_model::facts::Stored;
+use sched_model::places::item_at;
 use sched_model::state::Resource;
 use sched_model::units::is_there;
 use sched_ops::{Choice, Places, Policy, Timer, wanted_where};
@@ -78,6 +83,36 @@ fn is_placed(units: &PoolUnits, kept: &Kept, home: Cores, core: ResId, u: UnitId
         (NullPool kept.now)) kept.now home.0 core.0 u }
 {
     is_there(kept.at(core), u) && may_have(units, home, core, u)
+}
+
+/// Whether the core is given to some unit.
+fn is_given(units: &PoolUnits, kept: &Kept, home: Cores, core: ResId) -> bool
+    requires { core.0 < 64 }
+    ensures { result ≡ is_core_given (scheduler_of units.now.queue units.now.affinity
+        (NullPool kept.now)) kept.now home.0 core.0 }
+{
+    match kept.at(core) {
+        None => false,
+        Some(w) => may_have(units, home, core, w),
+    }
+}
+
+/// The core that is given to a unit that has a place in tables: the one that is kept for it, where the unit may have that.
+fn given_core(units: &PoolUnits, kept: &Kept, home: Cores, u: UnitId) -> Option<ResId>
+    requires { has_unit_place u ≡ true }
+    ensures none { IfNone result (has_given_core (scheduler_of units.now.queue units.now.affinity
+        (NullPool kept.now)) kept.now home.0 u ≡ false) }
+    ensures given { IfSome result (λ core. is_unit_placed (scheduler_of units.now.queue
+        units.now.affinity (NullPool kept.now)) kept.now home.0 core.0 u ≡ true) }
+    ensures few { IfSome result (λ core. core.0 < 64) }
+{
+    kept.keeps();
+    let core = kept.core_of(u)?;
+    if may_have(units, home, core, u) {
+        Some(core)
+    } else {
+        None
+    }
 }
 
 /// The first waiting unit that may have the core, by a look at each of them.
@@ -146,6 +181,66 @@ fn is_wanted(
         None => waits && first_eligible(units, kept, home, core).is_some(),
         Some(own) => !units.is_allowed(home, core, own),
     }
+}
+
+/// Whether the core at the place is asked, and idles.
+fn idles(cores: &[Option<Resource>], core: ResId) -> bool
+    ensures { result ≡ is_idle (at_place cores.now core.0) }
+{
+    match item_at(cores, core.0 as usize) {
+        None => false,
+        Some(c) => !c.leaving && !c.pending && c.cur.is_none(),
+    }
+}
+
+/// The one core, where it is asked and idles. No other place is looked at.
+fn if_idle(cores: &[Option<Resource>], core: ResId) -> Cores
+    requires { core.0 < 64 }
+    ensures { (r : ℕ) → has_core_bit result.0 r
+        ≡ (r == core.0 && is_idle (at_place cores.now r)) }
+{
+    if idles(cores, core) {
+        Cores(1 << core.0)
+    } else {
+        Cores(0)
+    }
+}
+
+/// Whether a core with this unit of its own is open to a unit that is given none.
+fn is_open(
+    units: &PoolUnits,
+    kept: &Kept,
+    cur: Option<UnitId>,
+    core: ResId,
+    home: Cores,
+    u: UnitId,
+) -> bool
+    requires { core.0 < 64 }
+    ensures { result ≡ is_open_to (scheduler_of units.now.queue units.now.affinity
+        (NullPool kept.now)) kept.now home.0 core.0 u cur }
+{
+    match cur {
+        None => units.is_allowed(home, core, u) && !is_given(units, kept, home, core),
+        Some(_) => false,
+    }
+}
+
+/// The cores, of those at these places, that are open to a unit that is given none.
+fn open_cores(
+    units: &PoolUnits,
+    kept: &Kept,
+    cores: &[Option<Resource>],
+    home: Cores,
+    u: UnitId,
+) -> Cores
+    requires { length cores.now ≤ 64 }
+    ensures { (r : ℕ) → IsAnswer (λ core cur since answer. answer
+        ≡ is_open_to (scheduler_of units.now.queue units.now.affinity (NullPool kept.now)) kept.now
+        home.0 core.0 u cur) r (at_place cores.now r) (has_core_bit result.0 r) }
+{
+    wanted_where(cores, |core, cur, _since| {
+        is_open(units, kept, cur, core, home, u)
+    })
 }
 
 /// The core's own unit, where it was given the core and may go on, and else one that waits.
@@ -257,6 +352,30 @@ impl Policy for Null {
         })
     }
 
+    fn wanted_for(&self, u: UnitId, cores: &[Option<Resource>], t: Moment, home: Cores) -> Cores {
+        self.units.keeps();
+        self.kept.keeps();
+        if !self.units.waits(u) {
+            return Cores(0);
+        }
+        match given_core(&self.units, &self.kept, home, u) {
+            Some(core) => if_idle(cores, core),
+            None => open_cores(&self.units, &self.kept, cores, home, u),
+        }
+    }
+
+    /// No: nothing is charged, and nothing comes with time.
+    fn asks_moment(&self) -> bool {
+        let _ = &self.kept;
+        false
+    }
+
+    /// A core that leaves gives its unit free, which may have another one then.
+    fn frees(&self, cur: Option<UnitId>, leaving: bool) -> bool {
+        let _ = &self.kept;
+        leaving
+    }
+
     fn timer_due(&self, t: Moment) -> Option<(Moment, Timer)> {
         let _ = &self.kept;
         None
@@ -286,5 +405,6 @@ impl Policy for Null {
 
     fn keeps(&self) {
         self.units.keeps();
+        self.kept.keeps();
     }
 }

@@ -1,3 +1,4 @@
 pub mod Bits
 pub mod Affinity
 pub mod Wanting
+pub mod Coming

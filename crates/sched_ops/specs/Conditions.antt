@@ -19,6 +19,8 @@ use Rattle.sched_model.specs.Places.{at_place, has_listed_unit}
 use Rattle.sched_model.specs.EligibleUnits.{rtds_unit_at}
 use Rattle.sched_model.specs.CheckedMachine.{IsWithin}
 use Rattle.sched_laws.specs.RecordRanges.{IsFrom, IsFrame, IsWeight, IsCap}
+use Rattle.settle_laws.specs.Kept.{KeptOnce}
+use Rattle.settle_laws.specs.Ready.{AreCut}
 use Rattle.sched_ops.specs.Affinity.{is_member_among}
 use Rattle.sched_ops.specs.Seen.{Seen, units_of}
 
@@ -122,8 +124,11 @@ abbrev pub IsApart : List UnitId → Type 0
 IsApart [] = Unit {0}
 IsApart (u ∷ units) = (has_listed_unit units u ≡ false) × IsApart units
 
--- what every scheduler keeps: no unit waits twice, and those that wait have joined and are not on
+-- what every scheduler keeps: no unit waits twice, and those that wait have joined and are not on. The null scheduler keeps no unit for two
+-- cores, and Credit2 what is left of a charge below the weight of the unit's domain
 pub record Keeps (seen : Seen) : Type 0 where
   pub apart : IsApart seen.scheduler.queue
   pub members : (u : UnitId) → has_listed_unit seen.scheduler.queue u ≡ true → is_member seen.scheduler u ≡ true
   pub off : (u : UnitId) → has_listed_unit seen.scheduler.queue u ≡ true → is_on seen.scheduler.records u ≡ false
+  pub once : KeptOnce seen.scheduler.records
+  pub cut : AreCut seen.scheduler.records

@@ -32,6 +32,8 @@ pub trait Policy: Drop {
     ghost use Rattle.sched_ops.specs.Conditions.{IsNow, IsAsked, IsAway, HasNoneBusy, ArePoolParams, AreDomParams, IsChange, Keeps, is_member, is_vacant, has_joined_domain};
     ghost use Rattle.sched_ops.specs.Timers.{next_scheduler_timer, is_due, timer_event, after_timer};
     ghost use Rattle.sched_ops.specs.WantedCores.{MayAsk, is_core_wanted};
+    ghost use Rattle.settle_laws.specs.Wanted.{reads_moment};
+    ghost use Rattle.settle_laws.specs.Frees.{may_free};
     ghost use Rattle.sched_ops.specs.Told.{IsInRange};
     ghost use Rattle.sched_model.specs.Policy.{unit_stored};
 
@@ -117,6 +119,29 @@ pub trait Policy: Drop {
             → has_core_bit result.0 r
             ≡ is_core_wanted t.0 home.0 (seen self.now).scheduler r (at_place cores.now r) };
 
+    /// The same, where without the unit none of them would be to decide anew: one that has just come to wait, or was replenished while it
+    /// waits. So this unit alone may make a core decide.
+    fn wanted_for(&self, u: UnitId, cores: &[Option<Resource>], t: Moment, home: Cores) -> Cores
+        requires now { IsNow (seen self.now) t.0 }
+        requires few { length cores.now ≤ 64 }
+        requires asks { EachPlace (MayAsk t.0 (seen self.now).scheduler) cores.now }
+        requires before { (r : ℕ)
+            → is_core_wanted t.0 home.0 (scheduler_without_unit u (seen self.now).scheduler) r
+            (at_place cores.now r) ≡ false }
+        ensures { (r : ℕ)
+            → has_core_bit result.0 r
+            ≡ is_core_wanted t.0 home.0 (seen self.now).scheduler r (at_place cores.now r) };
+
+    /// Whether the answer to a core may change with the moment alone. Where it may not, cores that are not wanted at one moment are
+    /// not wanted at any other, as long as nothing else changes.
+    fn asks_moment(&self) -> bool
+        ensures { result ≡ reads_moment (seen self.now).scheduler.records };
+
+    /// Whether a decision of a core that has this unit of its own, and is leaving or not, may free something, so that a core is wanted
+    /// then that was not before.
+    fn frees(&self, cur: Option<UnitId>, leaving: bool) -> bool
+        ensures { result ≡ may_free cur leaving (seen self.now).scheduler.records };
+
     /// The first timer, by domain and unit, whose moment has come at t; where there is none, the one of the least moment. `None`
     /// where no timer is armed. A replenishment is armed while its unit waits or is on.
     fn timer_due(&self, t: Moment) -> Option<(Moment, Timer)>
@@ -149,7 +174,8 @@ pub trait Policy: Drop {
     fn rate(&self) -> u32
         ensures { result ≡ pool_rate_limit (seen self.now).scheduler.records };
 
-    /// Does nothing, and tells what every scheduler keeps: no unit waits twice, and those that wait have joined and are not on.
+    /// Does nothing, and tells what every scheduler keeps: no unit waits twice, those that wait have joined and are not on, no unit is
+    /// kept for two cores, and what is left of a charge is below the weight of the unit's domain.
     fn keeps(&self)
         ensures { Keeps (seen self.now) };
 }

@@ -7,27 +7,20 @@ use Rattle.sched_base.proofs.Bools.{and_left, and_right, not_false}
 use Rattle.sched_model.specs.declared.action.Action.{Action}
 use Rattle.sched_model.specs.declared.action.Action.TheVariants.{Arrive, Leave, Block, Slice, Decide}
 use Rattle.sched_base.specs.declared.ResId.{ResId}
-use Rattle.sched_base.specs.declared.UnitId.{UnitId}
-use Rattle.sched_model.specs.declared.ask.Ask.{Ask}
-use Rattle.sched_model.specs.declared.state.Credit2Records.{Credit2Records}
 use Rattle.sched_model.specs.declared.state.Pool.{Pool}
-use Rattle.sched_model.specs.declared.state.Records.{Records}
-use Rattle.sched_model.specs.declared.state.Records.TheVariants.{Credit2Pool, RtdsPool, ArincPool, NullPool}
 use Rattle.sched_model.specs.declared.state.Resource.{Resource}
-use Rattle.sched_model.specs.declared.state.Scheduler.{Scheduler}
-use Rattle.sched_model.specs.Credit2.{has_domain_budget}
-use Rattle.sched_model.specs.EligibleUnits.{is_core_given}
-use Rattle.sched_model.specs.Policy.{decision_of}
 use Rattle.sched_model.specs.Places.{at_place}
 use Rattle.sched_model.specs.Pool.{after_decide, after_in, core_ask, settled_pool}
 use Rattle.sched_laws.proofs.EachPlace.{at_place-put_at, at_place-put_at_other, place_below}
 use Rattle.sched_laws.proofs.Lists.{some_same}
 use Rattle.pool_laws.specs.CoreLooks.{IsSettled}
 use Rattle.pool_laws.proofs.Settled.{settled_again}
-use Rattle.settle_laws.specs.Frees.{frees, frees_by, lets_run}
+use Rattle.settle_laws.specs.Frees.{may_free}
 use Rattle.settle_laws.proofs.Decides.{decides}
+use Rattle.settle_laws.proofs.Freeing.{frees_nothing}
+use Rattle.settle_laws.proofs.Tests.{not_true}
 use Rattle.settle_laws.proofs.Spared.{spared_arrive, spared_leave, spared_block, spared_slice}
-use Rattle.sched_plain.specs.SettledPools.{AreSettled, MayDecide, is_decision_spared, is_spared, may_free}
+use Rattle.sched_plain.specs.SettledPools.{AreSettled, MayDecide, is_decision_spared, is_spared}
 
 no_mark : (n i : ℕ) → slice_index_or (replicate n false) i false ≡ false
 no_mark zero i = refl
@@ -42,36 +35,13 @@ none_settled t pools marks none = record {
       cc);
 }
 
--- a decision that may free nothing frees nothing
-frees_nothing : (ask : Ask) (c : Resource) (s : Scheduler) → ask.cur ≡ c.cur → ask.leaving ≡ c.leaving → not (may_free s.records c) ≡ true → frees ask s ≡ false
-frees_nothing ask c s cur leaving is = by_records s.records is
-  where
-    by_budget : (b x : Bool) → not (not b) ≡ true → (not b && x) ≡ false
-    by_budget true x e = refl
-    by_budget false x e = absurd (cc)
-
-    by_cur : (records : Credit2Records) (o : Option UnitId) → not (elim o as (λ _. Bool) [ None ↦ false | Some u ↦ not (has_domain_budget records u) ]) ≡ true
-        → elim o as (λ _. Bool) [ None ↦ false | Some u ↦ not (has_domain_budget records u) && lets_run (decision_of ask s).records u ] ≡ false
-    by_cur records None e = refl
-    by_cur records (Some u) e = by_budget (has_domain_budget records u) (lets_run (decision_of ask s).records u) e
-
-    by_leaving : (b x : Bool) → not b ≡ true → (b && x) ≡ false
-    by_leaving true x e = absurd (cc)
-    by_leaving false x e = refl
-
-    by_records : (records : Records) → not (may_free records c) ≡ true → frees_by records ask s ≡ false
-    by_records (Credit2Pool records) e = by_cur records ask.cur (subst (λ (o : Option UnitId). not (elim o as (λ _. Bool) [ None ↦ false | Some u ↦ not (has_domain_budget records u) ]) ≡ true) (sym cur) e)
-    by_records (RtdsPool domains) e = refl
-    by_records (ArincPool records) e = absurd (cc)
-    by_records (NullPool kept) e = by_leaving ask.leaving (is_core_given s kept ask.home.0 ask.core.0) (ap not leaving ∙ e)
-
 -- a decision after which nothing is to be looked at
 spared_decide : (g t : ℕ) (r : ResId) (pool : Pool) → MayDecide g pool → IsSettled t pool → is_decision_spared r.0 pool ≡ true → IsSettled t (after_in g t pool (Decide r))
 spared_decide g t r pool may before is = by_place (at_place pool.resources r.0) refl is
   where
-    by_place : (o : Option Resource) → at_place pool.resources r.0 ≡ o → elim o as (λ _. Bool) [ None ↦ true | Some c ↦ not (may_free pool.scheduler.records c) ] ≡ true → IsSettled t (after_in g t pool (Decide r))
+    by_place : (o : Option Resource) → at_place pool.resources r.0 ≡ o → elim o as (λ _. Bool) [ None ↦ true | Some c ↦ not (may_free c.cur c.leaving pool.scheduler.records) ] ≡ true → IsSettled t (after_in g t pool (Decide r))
     by_place None at e = subst (λ (o : Option Resource). IsSettled t (elim o as (λ _. Pool) [ None ↦ pool | Some c ↦ after_decide g t r.0 c pool ])) (sym at) before
-    by_place (Some c) at e = decides g t r.0 c pool at may.known may.units may.once (frees_nothing (core_ask g t pool r.0 c) c pool.scheduler refl refl e) before
+    by_place (Some c) at e = decides g t r.0 c pool at may.known may.units may.once (frees_nothing (core_ask g t pool r.0 c) pool.scheduler (not_true (may_free c.cur c.leaving pool.scheduler.records) e)) before
 
 -- an event after which nothing is to be looked at
 pub spared : (g t : ℕ) (pool : Pool) (action : Action) → MayDecide g pool → IsSettled t pool → is_spared action pool ≡ true → IsSettled t (after_in g t pool action)

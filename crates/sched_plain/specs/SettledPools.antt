@@ -3,13 +3,10 @@ use Rattle.std.specs.Prelude.{ℕ, ◌≡◌, Bool, true, false, not, List, Opti
 use Rattle.sched_model.specs.declared.action.Action.{Action}
 use Rattle.sched_model.specs.declared.action.Action.TheVariants.{Arrive, Leave, Block, Slice, Decide}
 use Rattle.sched_model.specs.declared.state.Pool.{Pool}
-use Rattle.sched_model.specs.declared.state.Records.{Records}
-use Rattle.sched_model.specs.declared.state.Records.TheVariants.{Credit2Pool, RtdsPool, ArincPool, NullPool}
-use Rattle.sched_model.specs.declared.state.Resource.{Resource}
-use Rattle.sched_model.specs.Credit2.{has_domain_budget}
 use Rattle.sched_model.specs.Places.{at_place}
 use Rattle.sched_laws.specs.PoolFacts.{IsKnownPool}
 use Rattle.pool_laws.specs.CoreLooks.{IsSettled}
+use Rattle.settle_laws.specs.Frees.{may_free}
 use Rattle.settle_laws.specs.Kept.{KeptOnce}
 use Rattle.settle_laws.specs.Ready.{AreReadyBy}
 
@@ -17,17 +14,9 @@ use Rattle.settle_laws.specs.Ready.{AreReadyBy}
 pub record AreSettled (t : ℕ) (pools : List (Option Pool)) (marks : List Bool) : Type 0 where
   pub each : (i : ℕ) (pool : Pool) → slice_index_or marks i false ≡ true → at_place pools i ≡ Some pool → IsSettled t pool
 
--- whether a decision of the core may free something that another core may have: the budget of its own unit's domain, or what a leaving core was
--- given. An ARINC 653 pool is looked at after each decision
-abbrev pub may_free : Records → Resource → Bool
-may_free (Credit2Pool records) c = elim c.cur [ None ↦ false | Some u ↦ not (has_domain_budget records u) ]
-may_free (RtdsPool domains) c = false
-may_free (ArincPool records) c = true
-may_free (NullPool kept) c = c.leaving
-
 -- whether the core's decision frees nothing
 abbrev pub is_decision_spared : ℕ → Pool → Bool
-is_decision_spared r pool = elim (at_place pool.resources r) [ None ↦ true | Some c ↦ not (may_free pool.scheduler.records c) ]
+is_decision_spared r pool = elim (at_place pool.resources r) [ None ↦ true | Some c ↦ not (may_free c.cur c.leaving pool.scheduler.records) ]
 
 -- whether the event leaves the pool settled where it was: it changes neither the scheduler nor what a core asks it, or is a decision that frees
 -- nothing

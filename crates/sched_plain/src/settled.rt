@@ -1,7 +1,8 @@
 //! Which pools were settled at the present moment, so that settling them again would change nothing.
 
 ghost use Rattle.std.specs.Prelude.{◌≡◌, ◌&&◌, not};
-ghost use Rattle.sched_plain.specs.SettledPools.{is_decision_spared, is_spared, may_free};
+ghost use Rattle.settle_laws.specs.Frees.{may_free};
+ghost use Rattle.sched_plain.specs.SettledPools.{is_decision_spared, is_spared};
 
 use sched_base::ResId;
 use sched_model::action::Action;
@@ -62,7 +63,7 @@ impl Settled {
 /// Whether a decision of the core may free something that another core may have: the budget of its own unit's domain, or what a leaving core
 /// was given. An ARINC 653 pool is looked at after each decision.
 fn decision_may_free(records: &Records, core: &Resource) -> bool
-    ensures { result ≡ may_free records.now core.now }
+    ensures { result ≡ may_free core.now.cur core.now.leaving records.now }
 {
     match records {
         Records::Credit2Pool(records) => match core.cur {

@@ -47,7 +47,7 @@ pub waits_by : (cur : Option UnitId) (since t core home : ℕ) (s : Scheduler) (
 waits_by None since t core home s queue u = eligible_by s queue home core t u
 waits_by (Some cur) since t core home s queue u = ap (λ (b : Bool). b && is_unit_better s.records cur since t u) (eligible_by s queue home core t u)
 
-not_allowed_by : (cur : Option UnitId) (core home : ℕ) (s : Scheduler) (queue : List UnitId) → not_allowed cur core home (record s { queue = queue }) ≡ not_allowed cur core home s
+pub not_allowed_by : (cur : Option UnitId) (core home : ℕ) (s : Scheduler) (queue : List UnitId) → not_allowed cur core home (record s { queue = queue }) ≡ not_allowed cur core home s
 not_allowed_by None core home s queue = refl
 not_allowed_by (Some cur) core home s queue = refl
 

@@ -36,10 +36,10 @@ use Rattle.settle_laws.proofs.Budgets.{budget_burned, budget_off, budget_reset, 
 use Rattle.settle_laws.proofs.Tests.{false_if}
 
 -- the order by credit
-abbrev before : Credit2Records → UnitId → UnitId → Bool
+abbrev pub before : Credit2Records → UnitId → UnitId → Bool
 before records u best = int_lt (unit_credit records best) (unit_credit records u)
 
-strict : (records : Credit2Records) → IsStrict (before records)
+pub strict : (records : Credit2Records) → IsStrict (before records)
 strict records = record {
   own = λ u. own (unit_credit records u);
   chain = λ u w x a b. chain (unit_credit records u) (unit_credit records w) (unit_credit records x) a b;
@@ -51,7 +51,7 @@ strict records = record {
     chain : (a b c : ℤ) → int_lt b a ≡ true → int_lt c b ≡ true → int_lt c a ≡ true
     chain a b c f s = grind (arith, ints, f, s)
 
-greatest_is : (records : Credit2Records) (best : Option UnitId) (units : List UnitId) → richest_unit records best units ≡ best_by (before records) best units
+pub greatest_is : (records : Credit2Records) (best : Option UnitId) (units : List UnitId) → richest_unit records best units ≡ best_by (before records) best units
 greatest_is records best [] = refl
 greatest_is records None (u ∷ units) = greatest_is records (Some u) units
 greatest_is records (Some best) (u ∷ units) = greatest_is records (Some (cond (before records u best) u best)) units

@@ -57,7 +57,7 @@ ahead (ArincPool records) s home core t since u w cur may_u may_w behind better 
     subst (λ (x : UnitId). not (same_unit x cur) ≡ true) same better
 ahead (NullPool kept) s home core t since u w cur may_u may_w behind better = absurd (cc)
 
-asks_too : (cur : Option UnitId) (since t core home : ℕ) (s : Scheduler) (u w : UnitId) → is_unit_eligible s home core t w ≡ true → goes_before s.records u w ≡ false
+pub asks_too : (cur : Option UnitId) (since t core home : ℕ) (s : Scheduler) (u w : UnitId) → is_unit_eligible s home core t w ≡ true → goes_before s.records u w ≡ false
     → waits_for cur since t core home s u ≡ true → waits_for cur since t core home s w ≡ true
 asks_too None since t core home s u w may behind is = may
 asks_too (Some cur) since t core home s u w may behind is =

@@ -8,6 +8,7 @@ pub mod Rtds
 pub mod Arinc
 pub mod Null
 pub mod Decides
+pub mod Freeing
 pub mod Heads
 pub mod Events
 pub mod Spared

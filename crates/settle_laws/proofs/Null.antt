@@ -26,7 +26,7 @@ use Rattle.settle_laws.proofs.Waiting.{has_filter, all_filter}
 use Rattle.settle_laws.proofs.Spares.{Spares, others_from, own_from}
 use Rattle.settle_laws.proofs.Tests.{false_if, or_last, not_true}
 
-abbrev Kept : Type 0
+abbrev pub Kept : Type 0
 Kept = List (Option UnitId)
 
 -- what is found among what is numbered, and what is there is found
@@ -50,7 +50,7 @@ found test n (Some u ∷ kept) any = elim (or_cases (test n) (list_any (λ (e : 
       record { place = suc f.place; unit = f.unit; at = f.at; passes = subst (λ (k : ℕ). test k ≡ true) e f.passes })
 ]
 
-finds : (test : ℕ → Bool) (n i : ℕ) (u : UnitId) (kept : Kept) → at_place kept i ≡ Some u → test (n + i) ≡ true → list_any (λ (e : ℕ × UnitId). test e.0) (numbered_items n kept) ≡ true
+pub finds : (test : ℕ → Bool) (n i : ℕ) (u : UnitId) (kept : Kept) → at_place kept i ≡ Some u → test (n + i) ≡ true → list_any (λ (e : ℕ × UnitId). test e.0) (numbered_items n kept) ≡ true
 finds test n i u [] at is = absurd (cc)
 finds test n zero u (None ∷ kept) at is = absurd (cc)
 finds test n zero u (Some x ∷ kept) at is = (let e : n + 0 ≡ n = omega arith in or_more (test n) _ (subst (λ (k : ℕ). test k ≡ true) e is))
@@ -58,7 +58,7 @@ finds test n (suc i) u (None ∷ kept) at is = (let e : n + suc i ≡ suc n + i 
 finds test n (suc i) u (Some x ∷ kept) at is = (let e : n + suc i ≡ suc n + i = omega arith in or_last (test n) _ (finds test (suc n) i u kept at (subst (λ (k : ℕ). test k ≡ true) e is)))
 
 module _ (s : Scheduler) (home : ℕ) where
-  placed_at : (kept : Kept) (k : ℕ) (u : UnitId) → is_unit_placed s kept home k u ≡ true → at_place kept k ≡ Some u
+  pub placed_at : (kept : Kept) (k : ℕ) (u : UnitId) → is_unit_placed s kept home k u ≡ true → at_place kept k ≡ Some u
   placed_at kept k u is = is_unit_same (at_place kept k) u (and_left (is_unit (at_place kept k) u) (has_core_bit home k) (and_left (is_unit (at_place kept k) u && has_core_bit home k) (is_unit_allowed s home k u) is))
 
   placed_same : (kept next : Kept) (k : ℕ) (u : UnitId) → at_place kept k ≡ at_place next k → is_unit_placed s kept home k u ≡ is_unit_placed s next home k u
@@ -67,7 +67,7 @@ module _ (s : Scheduler) (home : ℕ) where
   taken_same : (kept next : Kept) (k : ℕ) → at_place kept k ≡ at_place next k → is_core_given s kept home k ≡ is_core_given s next home k
   taken_same kept next k same = ap (λ (o : Option UnitId). elim o as (λ _. Bool) [ None ↦ false | Some u ↦ (is_unit o u && has_core_bit home k) && is_unit_allowed s home k u ]) same
 
-  taken_by : (kept : Kept) (k : ℕ) (u : UnitId) → is_unit_placed s kept home k u ≡ true → is_core_given s kept home k ≡ true
+  pub taken_by : (kept : Kept) (k : ℕ) (u : UnitId) → is_unit_placed s kept home k u ≡ true → is_core_given s kept home k ≡ true
   taken_by kept k u is = ap (λ (o : Option UnitId). elim o as (λ _. Bool) [ None ↦ false | Some w ↦ is_unit_placed s kept home k w ]) (placed_at kept k u is) ∙ is
 
   record Taker (kept : Kept) (k : ℕ) : Type 0 where
@@ -81,14 +81,14 @@ module _ (s : Scheduler) (home : ℕ) where
       by_unit None none = absurd (cc)
       by_unit (Some w) some = record { unit = w; is = some }
 
-  has_by : (kept : Kept) (k : ℕ) (u : UnitId) → is_unit_placed s kept home k u ≡ true → has_given_core s kept home u ≡ true
+  pub has_by : (kept : Kept) (k : ℕ) (u : UnitId) → is_unit_placed s kept home k u ≡ true → has_given_core s kept home u ≡ true
   has_by kept k u is = finds (λ j. is_unit_placed s kept home j u) 0 k u kept (placed_at kept k u is) (let e : k ≡ 0 + k = omega arith in subst (λ (j : ℕ). is_unit_placed s kept home j u ≡ true) e is)
 
-  record Placed (kept : Kept) (u : UnitId) : Type 0 where
-    place : ℕ
-    is : is_unit_placed s kept home place u ≡ true
+  pub record Placed (kept : Kept) (u : UnitId) : Type 0 where
+    pub place : ℕ
+    pub is : is_unit_placed s kept home place u ≡ true
 
-  has_at : (kept : Kept) (u : UnitId) → has_given_core s kept home u ≡ true → Placed kept u
+  pub has_at : (kept : Kept) (u : UnitId) → has_given_core s kept home u ≡ true → Placed kept u
   has_at kept u has =
       let f = found (λ j. is_unit_placed s kept home j u) 0 kept has in
       let e : 0 + f.place ≡ f.place = omega arith in

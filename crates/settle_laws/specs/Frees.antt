@@ -1,5 +1,5 @@
 -- Decisions after which a core may be wanted that was not wanted before.
-use Rattle.std.specs.Prelude.{◌&&◌, Bool, false, not, Some, None}
+use Rattle.std.specs.Prelude.{◌&&◌, Bool, true, false, not, Option, Some, None}
 use Rattle.sched_base.specs.declared.UnitId.{UnitId}
 use Rattle.sched_model.specs.declared.ask.Ask.{Ask}
 use Rattle.sched_model.specs.declared.state.Records.{Records}
@@ -28,3 +28,11 @@ frees_by (NullPool kept) ask scheduler = ask.leaving && is_core_given scheduler 
 
 abbrev pub frees : Ask → Scheduler → Bool
 frees ask scheduler = frees_by scheduler.records ask scheduler
+
+-- whether a decision of a core may free something, as far as the records tell before it: of a core with this unit, that is leaving or not.
+-- An ARINC 653 pool is looked at after each decision
+abbrev pub may_free : Option UnitId → Bool → Records → Bool
+may_free cur leaving (Credit2Pool records) = elim cur [ None ↦ false | Some u ↦ not (has_domain_budget records u) ]
+may_free cur leaving (RtdsPool domains) = false
+may_free cur leaving (ArincPool records) = true
+may_free cur leaving (NullPool kept) = leaving

@@ -21,7 +21,7 @@ ghost use Rattle.sched_laws.specs.EachPlace.{EachAt};
 ghost use Rattle.sched_laws.specs.PoolFacts.{IsKnownPool};
 ghost use Rattle.pool_laws.specs.CoreLooks.{IsSettled};
 ghost use Rattle.settle_laws.specs.Exceptions.{answer_after, answer_before, asks, capped, framed, given};
-ghost use Rattle.settle_laws.specs.Frees.{frees};
+ghost use Rattle.settle_laws.specs.Frees.{frees, may_free};
 ghost use Rattle.settle_laws.specs.Kept.{KeptOnce};
 ghost use Rattle.settle_laws.specs.Ready.{AreReadyBy};
 ghost use Rattle.settle_laws.specs.Wanted.{NoneWanted, goes_before, reads_moment, settled_for, waits_for, is_queued_by};
@@ -92,6 +92,12 @@ pub fn law_decides()
         IsKnownPool g pool → AreReadyBy pool.scheduler.records pool →
         KeptOnce pool.scheduler.records → frees (core_ask g t pool r c) pool.scheduler ≡ false →
         IsSettled t pool → IsSettled t (after_in g t pool (Decide (core r))) }
+{}
+
+/// Where the records tell before a decision that it may free nothing, it frees nothing.
+pub fn law_frees()
+    ensures { (ask : Ask) → (scheduler : Scheduler) →
+        may_free ask.cur ask.leaving scheduler.records ≡ false → frees ask scheduler ≡ false }
 {}
 
 /// None of the three exceptions can be left out. Credit2 and null: a core that idles was not wanted, and is wanted once the other one has decided.

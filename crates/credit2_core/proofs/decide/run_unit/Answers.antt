@@ -11,7 +11,7 @@ use Rattle.scheduler_records.specs.Bounds.{PoolParamsFit}
 use Rattle.scheduler_records.proofs.Steps.{reset_params, taken_params}
 use Rattle.queue_laws.specs.Arrivals.{arrivals}
 use Rattle.arrival_queue.specs.Filters.{first_that, has_core_bit}
-use Rattle.credit2_core.specs.declared.line.Ready.{Ready}
+use Rattle.credit2_core.specs.declared.run_queue.Ready.{Ready}
 use Rattle.credit2_core.specs.declared.state.Credit2State.{Credit2State}
 use Rattle.credit2_core.specs.Credit2State.{scheduler_in}
 use Rattle.credit2_core.specs.Choice.{unit_slice, credit_or_0, best_of}

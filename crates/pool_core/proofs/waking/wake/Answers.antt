@@ -1,5 +1,5 @@
 use Rattle.std.proofs.Common.{◌≡◌, ℕ, Bool, true, false, not, sym, ap, subst, ◌∙◌}
-use Rattle.std.specs.Prelude.{◌||◌, ◌&&◌}
+use Rattle.std.specs.Prelude.{Some, None, ◌||◌, ◌&&◌, if◌then◌else◌}
 use Rattle.sched_base.specs.declared.UnitId.{UnitId}
 use Rattle.sched_model.specs.declared.state.Pool.{Pool}
 use Rattle.sched_model.specs.Pool.{change_vcpu, is_unit_off, joined_siblings, queue_unit, vcpu_unit, woken_vcpu}
@@ -71,22 +71,22 @@ returns-else-had_place-clause-works g c =
     let off : is_unit_off pool (vcpu_unit k c.args.v) ≡ true = subst (λ (u : UnitId). is_unit_off pool u ≡ true) unit (off_by k pool c.unit_of-u.result c.requires.holds.known.one ∙ ap not (sym c.has_place-had_place.ensures ∙ c.if-had_place.false)) in
     alone_works k c.args.t.0 c.args.v pool runs c.args.cores.now.works off
 
-pub returns-then-had_place-clause-queued : goal.returns-then-had_place-clause-queued
-returns-then-had_place-clause-queued g c =
+pub returns-then-had_place-clause-came : goal.returns-then-had_place-clause-came
+returns-then-had_place-clause-came g c =
     let k = c.args.guests.now.granularity in
     let s = g.P.Policy.seen c.args.policy.now in
     let pool : Pool = pool_of c.args.guests.now c.args.cores.now s in
     let unit : c.unit_of-u.result ≡ vcpu_unit k c.args.v = c.unit_of-u.ensures ∙ ap (λ (i : ℕ). vcpu_unit i c.args.v) c.granularity.ensures in
     let runs : may_unit_run k (change_vcpu c.args.v woken_vcpu pool) (vcpu_unit k c.args.v) ≡ true = subst (λ (u : UnitId). may_unit_run k (change_vcpu c.args.v woken_vcpu pool) u ≡ true) unit (ap (λ (x : GuestsSeen). runnable_among x.granularity x.domains c.unit_of-u.result) (sym c.wake.ensures) ∙ sym c.if-not-runnable.ensures) in
     let on : is_unit_off pool (vcpu_unit k c.args.v) ≡ false = subst (λ (u : UnitId). is_unit_off pool u ≡ false) unit (off_by k pool c.unit_of-u.result c.requires.holds.known.one ∙ ap not (sym c.has_place-had_place.ensures ∙ c.if-had_place.true)) in
-    sym (ap (λ (b : Bool). b && is_unit_off pool (vcpu_unit k c.args.v)) runs ∙ on)
+    ap (λ (b : Bool). if b then Some (vcpu_unit k c.args.v) else None) (sym (ap (λ (b : Bool). b && is_unit_off pool (vcpu_unit k c.args.v)) runs ∙ on))
 
-pub returns-else-had_place-clause-queued : goal.returns-else-had_place-clause-queued
-returns-else-had_place-clause-queued g c =
+pub returns-else-had_place-clause-came : goal.returns-else-had_place-clause-came
+returns-else-had_place-clause-came g c =
     let k = c.args.guests.now.granularity in
     let s = g.P.Policy.seen c.args.policy.now in
     let pool : Pool = pool_of c.args.guests.now c.args.cores.now s in
     let unit : c.unit_of-u.result ≡ vcpu_unit k c.args.v = c.unit_of-u.ensures ∙ ap (λ (i : ℕ). vcpu_unit i c.args.v) c.granularity.ensures in
     let runs : may_unit_run k (change_vcpu c.args.v woken_vcpu pool) (vcpu_unit k c.args.v) ≡ true = subst (λ (u : UnitId). may_unit_run k (change_vcpu c.args.v woken_vcpu pool) u ≡ true) unit (ap (λ (x : GuestsSeen). runnable_among x.granularity x.domains c.unit_of-u.result) (sym c.wake.ensures) ∙ sym c.if-not-runnable.ensures) in
     let off : is_unit_off pool (vcpu_unit k c.args.v) ≡ true = subst (λ (u : UnitId). is_unit_off pool u ≡ true) unit (off_by k pool c.unit_of-u.result c.requires.holds.known.one ∙ ap not (sym c.has_place-had_place.ensures ∙ c.if-had_place.false)) in
-    sym (ap (λ (b : Bool). b && is_unit_off pool (vcpu_unit k c.args.v)) runs ∙ off)
+    ap Some unit ∙ ap (λ (b : Bool). if b then Some (vcpu_unit k c.args.v) else None) (sym (ap (λ (b : Bool). b && is_unit_off pool (vcpu_unit k c.args.v)) runs ∙ off))

@@ -8,7 +8,7 @@ set-requires c = marked_place c.args.u c.self.inside.marks (units_of c.self.insi
 
 pub invariant_of-self : goal.invariant_of-self
 invariant_of-self c =
-    rw (c.drop_unit.ensures, c.set.ensures)
+    rw (c.take_out.ensures, c.set.ensures)
     (marked_dequeued c.args.u c.self.inside.marks (units_of c.self.inside.queue c.self.inside.affinity c.self.inside.spare) (sym c.get.ensures ∙ c.if-not-get.false) c.self.invariant)
 
 pub returns-then-not-get : goal.returns-then-not-get

@@ -9,15 +9,15 @@ use Rattle.pool_core.proofs.Spared.{unsettled}
 use Rattle.pool_core.proofs.pool.PoolState.stall.Goals as goal
 
 pub invariant_of-self : goal.invariant_of-self
-invariant_of-self g c = unsettled (
+invariant_of-self g c = unsettled c.self.inside.mark (
     let s = g.P.Policy.seen c.self.inside.policy in
     let pool : Pool = pool_of c.self.inside.guests c.self.inside.cores s in
     let k = c.self.inside.guests.granularity in
     let cores : CoresSeen = c.self.inside.cores in
     let p = c.args.p.0 in
     let end = c.stall.result in
-    cores_kept c.self.inside.latest.0 c.self.inside.latest.0 c.self.inside.guests cores c.stall.new.self s cores.works (change_at (p / k) (with_sibling (p % k) (stalled_to end)) cores.resources)
+    cores_kept c.self.inside.mark.latest.0 c.self.inside.mark.latest.0 c.self.inside.guests cores c.stall.new.self s cores.works (change_at (p / k) (with_sibling (p % k) (stalled_to end)) cores.resources)
     c.self.invariant.kept (omega arith) c.self.invariant.kept.linked.early
     (c.stall.ensures.after ∙ ap (λ (i : ℕ). record cores { resources = change_at (p / i) (with_sibling (p % i) (stalled_to end)) cores.resources }) c.self.invariant.kept.linked.granularity)
     (works_stalled k p end cores.works pool c.self.invariant.kept.linked.works)
-    (stalls k c.self.inside.latest.0 p end.0 pool c.self.invariant.kept.pool))
+    (stalls k c.self.inside.mark.latest.0 p end.0 pool c.self.invariant.kept.pool))

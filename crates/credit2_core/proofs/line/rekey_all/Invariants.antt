@@ -1,6 +1,0 @@
-use Rattle.credit2_core.specs.Keys.{KeysWhere, is_passed}
-use Rattle.credit2_core.specs.Credit2State.{IsSameLine}
-use Rattle.credit2_core.proofs.line.rekey_all.Given as goal
-
-abbrev pub invariant-loop-d : goal.invariant-loop-d
-invariant-loop-d l = record { keys : KeysWhere (is_passed l.d 0) l.records l.queue.units; same : IsSameLine l.initial.queue l.queue }

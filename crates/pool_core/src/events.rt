@@ -1,0 +1,214 @@
+//! The events of a pool, over its parts: what each answers, and what it leaves to the look at the cores.
+
+ghost use Rattle.std.specs.Prelude.{◌≡◌, ℕ, true};
+ghost use Rattle.sched_model.specs.declared.action.Action.TheVariants.{Arrive, Block, Decide, Leave, Refill, Repl, Save, Slice, Wake};
+ghost use Rattle.sched_model.specs.Actions.{IsOfPool};
+ghost use Rattle.core_state.specs.Seen.{Seen as CoresSeen};
+ghost use Rattle.sched_ops.specs.Conditions.{IsNow};
+ghost use Rattle.sched_ops.specs.Seen.{Seen as SchedulerSeen};
+ghost use Rattle.sched_ops.specs.Timers.{is_due};
+ghost use Rattle.sched_ops.specs.declared.timer.Timer.TheVariants as timers;
+ghost use Rattle.unit_state.specs.Seen.{Seen as GuestsSeen};
+ghost use Rattle.pool_core.specs.Events.{HasActed, MayAct, MayCome};
+
+use crate::{deciding, doing, waking};
+use core_state::CoreState;
+use sched_base::{DomId, Moment, ProcId, ResId, UnitId, VcpuId};
+use sched_model::action::Action;
+use sched_model::event::Event;
+use sched_ops::{Policy, Timer};
+use unit_state::Guests;
+
+/// The event that came, whether it leaves a settled pool settled but for the unit that came to wait, and that unit.
+#[derive(Clone, Copy)]
+pub struct Outcome {
+    pub event: Event,
+    pub spares: bool,
+    pub came: Option<UnitId>,
+}
+
+/// A vCPU that sleeps, and whose wake moment has come at t, wakes.
+fn wake<P: Policy>(
+    guests: &mut Guests,
+    cores: &mut CoreState,
+    policy: &mut P,
+    v: VcpuId,
+    t: Moment,
+) -> Outcome
+    requires { MayAct t.0 (Wake v) guests.old cores.old (P.seen policy.old) }
+    ensures { HasActed t.0 (Wake v) guests.old guests.new cores.old cores.new (P.seen policy.old)
+        (P.seen policy.new) result }
+{
+    guests.keeps();
+    cores.keeps();
+    policy.keeps();
+    let came = waking::wake(guests, cores, policy, v, t);
+    Outcome {
+        event: Event::Wake { v },
+        spares: true,
+        came,
+    }
+}
+
+/// A vCPU that a processor runs, and whose work is done at t, sleeps.
+fn block(guests: &mut Guests, cores: &mut CoreState, p: ProcId, t: Moment) -> Outcome
+    requires { MayCome t.0 (Block p) guests.old cores.old }
+    ensures { (s : SchedulerSeen) → MayAct t.0 (Block p) guests.old cores.old s →
+        HasActed t.0 (Block p) guests.old guests.new cores.old cores.new s s result }
+{
+    let Some(v) = doing::guest_of(cores, p) else {
+        unreachable!();
+    };
+    doing::block(guests, cores, p, v, t);
+    Outcome {
+        event: Event::Block { p, v },
+        spares: true,
+        came: None,
+    }
+}
+
+/// A core whose due has come at t is to decide anew.
+fn slice(cores: &mut CoreState, r: ResId) -> Outcome
+    ensures { (t : ℕ) (guests : GuestsSeen) (s : SchedulerSeen) →
+        MayAct t (Slice r) guests cores.old s →
+        HasActed t (Slice r) guests guests cores.old cores.new s s result }
+{
+    cores.set_pending(r);
+    Outcome {
+        event: Event::Slice { r },
+        spares: true,
+        came: None,
+    }
+}
+
+/// An RTDS unit whose deadline has come at t has its budget anew. Each core is to be looked at.
+fn replenish<P: Policy>(
+    guests: &Guests,
+    cores: &mut CoreState,
+    policy: &mut P,
+    u: UnitId,
+    t: Moment,
+) -> Outcome
+    requires { MayAct t.0 (Repl u) guests.now cores.old (P.seen policy.old) }
+    ensures { HasActed t.0 (Repl u) guests.now guests.now cores.old cores.new (P.seen policy.old)
+        (P.seen policy.new) result }
+{
+    Outcome {
+        event: deciding::replenish(guests, cores, policy, u, t),
+        spares: false,
+        came: None,
+    }
+}
+
+/// The budget of a capped Credit2 domain, whose refill has come at t, is filled. Each core is to be looked at.
+fn refill<P: Policy>(policy: &mut P, d: DomId, t: Moment) -> Outcome
+    requires now { IsNow (P.seen policy.old) t.0 }
+    requires due { is_due t.0 (P.seen policy.old).scheduler (timers.Refill d) ≡ true }
+    ensures { (guests : GuestsSeen) (cores : CoresSeen) →
+        MayAct t.0 (Refill d) guests cores (P.seen policy.old) →
+        HasActed t.0 (Refill d) guests guests cores cores (P.seen policy.old) (P.seen policy.new)
+        result }
+{
+    Outcome {
+        event: policy.timer(Timer::Refill(d), t),
+        spares: false,
+        came: None,
+    }
+}
+
+/// A processor of a core that is to decide anew waits for its siblings.
+fn arrive(guests: &mut Guests, cores: &mut CoreState, p: ProcId, t: Moment) -> Outcome
+    requires { MayCome t.0 (Arrive p) guests.old cores.old }
+    ensures { (s : SchedulerSeen) → MayAct t.0 (Arrive p) guests.old cores.old s →
+        HasActed t.0 (Arrive p) guests.old guests.new cores.old cores.new s s result }
+{
+    doing::arrive(guests, cores, p, t);
+    Outcome {
+        event: Event::Arrive { p },
+        spares: true,
+        came: None,
+    }
+}
+
+/// A core, all of whose processors wait, decides. Each core is to be looked at where that may free something.
+fn decide<P: Policy>(
+    guests: &Guests,
+    cores: &mut CoreState,
+    policy: &mut P,
+    r: ResId,
+    t: Moment,
+) -> Outcome
+    requires { MayAct t.0 (Decide r) guests.now cores.old (P.seen policy.old) }
+    ensures { HasActed t.0 (Decide r) guests.now guests.now cores.old cores.new (P.seen policy.old)
+        (P.seen policy.new) result }
+{
+    policy.keeps();
+    let spares = deciding::frees_nothing(cores, policy, r);
+    Outcome {
+        event: deciding::decide(guests, cores, policy, r, t),
+        spares,
+        came: None,
+    }
+}
+
+/// A processor leaves its siblings after their core decided.
+fn leave(guests: &mut Guests, cores: &mut CoreState, p: ProcId, t: Moment) -> Outcome
+    requires { MayCome t.0 (Leave p) guests.old cores.old }
+    ensures { (s : SchedulerSeen) → MayAct t.0 (Leave p) guests.old cores.old s →
+        HasActed t.0 (Leave p) guests.old guests.new cores.old cores.new s s result }
+{
+    cores.keeps();
+    let v = doing::leave(guests, cores, p, t);
+    Outcome {
+        event: Event::Leave { p, v },
+        spares: true,
+        came: None,
+    }
+}
+
+/// A core, none of whose processors waits any more, puts away the unit that it saves.
+fn save<P: Policy>(
+    guests: &Guests,
+    cores: &mut CoreState,
+    policy: &mut P,
+    r: ResId,
+    t: Moment,
+) -> Outcome
+    requires { MayAct t.0 (Save r) guests.now cores.old (P.seen policy.old) }
+    ensures { HasActed t.0 (Save r) guests.now guests.now cores.old cores.new (P.seen policy.old)
+        (P.seen policy.new) result }
+{
+    let event = waking::save(guests, cores, policy, r, t);
+    Outcome {
+        event,
+        spares: true,
+        came: waking::came_of(&event),
+    }
+}
+
+/// An event of the pool that may come at t.
+pub fn act<P: Policy>(
+    guests: &mut Guests,
+    cores: &mut CoreState,
+    policy: &mut P,
+    action: Action,
+    t: Moment,
+) -> Outcome
+    requires own { IsOfPool action }
+    requires may { MayAct t.0 action guests.old cores.old (P.seen policy.old) }
+    ensures { HasActed t.0 action guests.old guests.new cores.old cores.new (P.seen policy.old)
+        (P.seen policy.new) result }
+{
+    match action {
+        Action::Wake(v) => wake(guests, cores, policy, v, t),
+        Action::Block(p) => block(guests, cores, p, t),
+        Action::Slice(r) => slice(cores, r),
+        Action::Repl(u) => replenish(guests, cores, policy, u, t),
+        Action::Refill(d) => refill(policy, d, t),
+        Action::Arrive(p) => arrive(guests, cores, p, t),
+        Action::Decide(r) => decide(guests, cores, policy, r, t),
+        Action::Leave(p) => leave(guests, cores, p, t),
+        Action::Save(r) => save(guests, cores, policy, r, t),
+        Action::Stall | Action::Xl | Action::Moved(_) | Action::DomMoved(_) => unreachable!(),
+    }
+}
