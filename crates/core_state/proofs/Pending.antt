@@ -1,10 +1,10 @@
 -- What a core that is to decide anew leaves as it was: all moments but its own slice and the arrivals of its processors.
 use Rattle.sched_base.specs.Numbers.{core as core_number, processor}
-use Rattle.std.proofs.Common.{◌≡◌, ◌+◌, ◌*◌, ◌/◌, ◌%◌, ◌≤◌, ◌<◌, ℕ, List, ◌∙◌, refl, sym, ap, subst, arith, inl, inr, length}
+use Rattle.std.proofs.Common.{◌≡◌, ◌+◌, ◌*◌, ◌/◌, ◌%◌, ◌≤◌, ℕ, List, ◌∙◌, refl, sym, ap, subst, arith, inl, inr, length}
 use Rattle.std.specs.Prelude.{not, Option, Some, None, option_map, slice_set}
 use Rattle.std.proofs.Math.Decide.{ℕ_discrete}
 use Rattle.sched_base.specs.declared.Moment.{Moment}
-use Rattle.sched_model.specs.declared.action.Action.TheVariants.{Block, Slice, Decide, Leave, Save}
+use Rattle.sched_model.specs.declared.action.Action.TheVariants.{Block, Decide, Leave, Save}
 use Rattle.sched_model.specs.declared.state.Resource.{Resource}
 use Rattle.sched_model.specs.CheckedMachine.{IsGranularity}
 use Rattle.sched_model.specs.Places.{at_place, change_at}
@@ -16,7 +16,7 @@ use Rattle.core_state.specs.declared.dues.Dues.{Dues}
 use Rattle.core_state.specs.Seen.{core_sibling}
 use Rattle.core_state.specs.Ends.{arrival_among, may_core_decide, may_core_save, may_core_part, ready_among, sibling_end}
 use Rattle.core_state.specs.CoreState.{AgreesBut, AreArmed}
-use Rattle.core_state.proofs.Arming.{all, but, core_past, few_places, next, other_core, sibling_same}
+use Rattle.core_state.proofs.Arming.{all, but, next, other_core, sibling_same}
 use Rattle.core_state.proofs.ChangeLemmas.{seen_of}
 
 decide_unseen : (o : Option Resource) → end_where may_core_decide (option_map pending_core o) ≡ end_where may_core_decide o

@@ -124,11 +124,7 @@ pub fn rearm_arrivals(
     let core = item_at(cores.as_slice(), r.0 as usize);
     for i in 0..granularity {
         let p = r.0 as u16 * granularity as u16 + i as u16;
-        set_due(
-            arrives,
-            p,
-            arrive_end(core, sibling_of(core, i as usize)),
-        );
+        set_due(arrives, p, arrive_end(core, sibling_of(core, i as usize)));
     }
 }
 

@@ -114,8 +114,7 @@ module _ (i : ℕ) (firsts : List (Option Action)) (action : Action) (some : 0 <
   pub least_taken : (least : ℕ) (found : Option (ℕ × Action)) → rank_of action ≤ least → IsLeastFrom i firsts least found → IsLeastFrom (i - 1) firsts (rank_of action) (Some (i - 1, action))
   least_taken least None le so_far = (more None (λ x none. absurd (cc)) so_far.0, refl, small, is)
   least_taken least (Some found) le so_far =
-      let before : nat_le (rank_of action) (rank_of found.1) ≡ true = (let rank = so_far.1 in grind (arith, nat_tests, le, rank)) in
-      (
+      let before : nat_le (rank_of action) (rank_of found.1) ≡ true = (let rank = so_far.1 in grind (arith, nat_tests, le, rank)) in (
         subst (λ (b : Bool). IsEarliest (drop (i - 1) firsts) (cond b (Some action) (Some found.1))) before (more (Some found.1) (small_other found.1 so_far.2) so_far.0),
         refl,
         small,
@@ -129,8 +128,7 @@ module _ (i : ℕ) (firsts : List (Option Action)) (action : Action) (some : 0 <
       low : least ≡ 4294967295 → subject_place action < 256 → index_place action < 256 → ⊥
       low most subject index = (let kinds = few_kinds action in omega (arith, most, subject, index, gt, kinds))
   least_stays least (Some found) gt so_far =
-      let after : nat_le (rank_of action) (rank_of found.1) ≡ false = (let rank = so_far.1 in grind (arith, nat_tests, gt, rank)) in
-      (
+      let after : nat_le (rank_of action) (rank_of found.1) ≡ false = (let rank = so_far.1 in grind (arith, nat_tests, gt, rank)) in (
         subst (λ (b : Bool). IsEarliest (drop (i - 1) firsts) (cond b (Some action) (Some found.1))) after (more (Some found.1) (small_other found.1 so_far.2) so_far.0),
         so_far.1,
         so_far.2,

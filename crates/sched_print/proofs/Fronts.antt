@@ -1,16 +1,13 @@
 -- What stands in front of an event in its line stays there.
 use Rattle.std.proofs.Common.{◌≡◌, ◌≤◌, ◌+◌, ℕ, List, [], ◌∷◌, ◌++◌, true, false, Some, None, refl, ap, ◌∙◌, length, take, append_assoc, length-append, arith}
 use Rattle.std.specs.Prelude.{Ok, Err, codes, decimal}
-use Rattle.sched_base.specs.declared.UnitId.{UnitId}
-use Rattle.sched_base.specs.declared.Moment.{Moment}
 use Rattle.sched_model.specs.declared.event.Event.{Event}
 use Rattle.sched_model.specs.declared.event.Event.TheVariants as event
 use Rattle.sched_model.specs.declared.event.Refusal.{Refusal}
 use Rattle.sched_model.specs.declared.event.Refusal.TheVariants as refusal
 use Rattle.sched_model.specs.declared.event.Reply.{Reply}
 use Rattle.sched_model.specs.declared.event.Reply.TheVariants as reply
-use Rattle.sched_print.specs.Line.{with_choice, with_due, with_event, with_refusal, with_reply}
-use Rattle.sched_print.specs.Lines.{BeginsWith}
+use Rattle.sched_print.specs.Line.{with_event, with_refusal, with_reply}
 
 reply_behind : (front more : List ℕ) (r : Reply) → with_reply (front ++ more) r ≡ front ++ with_reply more r
 reply_behind front more reply.Done = simp append_assoc
@@ -38,8 +35,6 @@ refusal_behind front more (refusal.ArincOne pool) = simp append_assoc
 refusal_behind front more refusal.PoolsFull = simp append_assoc
 refusal_behind front more (refusal.FrameLong sum major) = simp append_assoc
 refusal_behind front more refusal.NoVcpu = simp append_assoc
-
-
 
 -- an event is written behind what stands in front of it
 event_behind : (front : List ℕ) (e : Event) → with_event front e ≡ front ++ with_event [] e

@@ -10,7 +10,7 @@ use Rattle.sched_model.specs.declared.state.Resource.{Resource}
 use Rattle.sched_model.specs.Places.{at_place}
 use Rattle.core_state.specs.Ends.{arrival_among, sibling_end}
 use Rattle.core_state.specs.CoreState.{AgreesBut}
-use Rattle.core_state.proofs.Arming.{all, arrival_armed, core_of_sibling_past}
+use Rattle.core_state.proofs.Arming.{all, arrival_armed}
 use Rattle.core_state.proofs.dues.rearm_arrivals.Goals as goal
 
 pub loop-i-init : goal.loop-i-init

@@ -4,7 +4,6 @@ use Rattle.std.specs.Prelude.{Option, Some, None}
 use Rattle.sched_model.specs.declared.state.State.{State}
 use Rattle.sched_model.specs.Machine.{first_enabled_action}
 use Rattle.composition_laws.specs.WholeFirst.{ArePoolsFirsts, first_tool_action}
-use Rattle.machine_parts.specs.Places.{state_of}
 use Rattle.machine_parts.proofs.Going.{state_of-is}
 use Rattle.machine_parts.proofs.Firsts.{home-of-first, pools-firsts}
 use Rattle.machine_parts.proofs.first.pools_first.Goals as goal

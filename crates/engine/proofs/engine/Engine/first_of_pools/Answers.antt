@@ -1,5 +1,5 @@
 use Rattle.std.proofs.Common.{◌≡◌, ◌∙◌, ℕ, List, sym, ap, subst}
-use Rattle.std.specs.Prelude.{Option, None, Some, take}
+use Rattle.std.specs.Prelude.{Option, None, take}
 use Rattle.sched_model.specs.declared.action.Action.{Action}
 use Rattle.sched_model.specs.Machine.{first_enabled_action}
 use Rattle.sched_model.specs.Standing.{Standing}

@@ -1,5 +1,4 @@
-use Rattle.std.proofs.Common.{◌≡◌, ◌∙◌, sym, ap, subst}
-use Rattle.std.specs.Prelude.{None}
+use Rattle.std.proofs.Common.{◌∙◌, sym, ap}
 use Rattle.composition_laws.specs.WholeFirst.{first_tool_action}
 use Rattle.machine_parts.specs.Places.{state_of}
 use Rattle.sched_model.specs.Standing.{Standing}
