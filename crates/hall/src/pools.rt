@@ -1,11 +1,9 @@
 //! An event of the pool under one lock, while the book is in the seat's hands.
 
-ghost use Rattle.std.specs.Prelude.{◌≡◌, ◌<◌, ℕ, true, Some, length};
+ghost use Rattle.std.specs.Prelude.{◌≡◌, ◌<◌, ℕ, Some};
 ghost use Rattle.sched_model.specs.Actions.{IsOfPool, home_pool_of_action};
-ghost use Rattle.sched_model.specs.Machine.{event_of, is_action_enabled};
-ghost use Rattle.machine_parts.specs.Places.{GoesOn, state_of};
+ghost use Rattle.machine_parts.specs.Places.{state_of};
 ghost use Rattle.machine_parts.specs.Told.{told_of};
-ghost use Rattle.lock_moves.specs.Plays.{Current};
 ghost use Rattle.lock_moves.specs.Sets.{HasName};
 ghost use Rattle.hall.specs.SeatKnowledge.{KnowsPool};
 ghost use Rattle.hall.specs.Steps.{HasActed, KeepsOthers, MayAct};

@@ -4,7 +4,7 @@ ghost use Rattle.std.specs.Prelude.{◌≡◌, ◌<◌, ℕ, true, false, None, 
 ghost use Rattle.std.specs.Option.{ForSome};
 ghost use Rattle.sched_model.specs.declared.action.Action.TheVariants as actions;
 ghost use Rattle.sched_model.specs.declared.event.Event.TheVariants as events;
-ghost use Rattle.sched_model.specs.Machine.{event_of, first_enabled_action, is_action_enabled, next_in_horizon};
+ghost use Rattle.sched_model.specs.Machine.{first_enabled_action, is_action_enabled, next_in_horizon};
 ghost use Rattle.machine_parts.specs.Places.{GoesOn, state_of};
 ghost use Rattle.machine_parts.specs.Told.{told_of};
 ghost use Rattle.machine_parts.specs.Parts.{event_pool};

@@ -8,7 +8,6 @@ ghost use Rattle.sched_ops.specs.Conditions.{IsNow};
 ghost use Rattle.policy_laws.specs.Holds.{Holds};
 ghost use Rattle.pool_core.specs.CoreLooks.{is_decision_spared};
 ghost use Rattle.pool_core.specs.Seen.{pool_of};
-ghost use Rattle.sched_ops.specs.Seen.{Seen as SchedulerSeen};
 
 use core_state::CoreState;
 use pool_records::cores::lateness_of;

@@ -1,8 +1,8 @@
 //! Units that come to wait: that of a vCPU that wakes, and one that a core puts away.
 
-ghost use Rattle.std.specs.Prelude.{◌≡◌, ◌<◌, ◌||◌, true, ℕ};
+ghost use Rattle.std.specs.Prelude.{◌≡◌, ◌<◌, ◌||◌, true};
 ghost use Rattle.sched_model.specs.State.{runnable_among};
-ghost use Rattle.sched_model.specs.declared.action.Action.TheVariants.{Save, Wake};
+ghost use Rattle.sched_model.specs.declared.action.Action.TheVariants.{Save};
 ghost use Rattle.sched_model.specs.Pool.{after_wake, after_in, enabled_in, event_in, joined_siblings};
 ghost use Rattle.policy_laws.specs.Holds.{Holds};
 ghost use Rattle.sched_ops.specs.Seen.{Seen as SchedulerSeen};
