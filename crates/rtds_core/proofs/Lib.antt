@@ -13,3 +13,4 @@ pub mod Vacant
 pub mod Ahead
 pub mod Coming
 pub mod Behind
+pub mod Again

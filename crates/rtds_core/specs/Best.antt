@@ -7,7 +7,7 @@ use Rattle.sched_base.specs.declared.Cores.{Cores}
 use Rattle.sched_base.specs.declared.Moment.{Moment}
 use Rattle.sched_base.specs.declared.UnitId.{UnitId}
 use Rattle.sched_model.specs.declared.state.RtdsUnit.{RtdsUnit}
-use Rattle.sched_model.specs.Places.{at_place}
+use Rattle.sched_model.specs.Places.{at_place, is_unit}
 use Rattle.sched_model.specs.EligibleUnits.{unit_cores, rtds_unit_at}
 use Rattle.sched_model.specs.Rtds.{unit_left_budget, is_unit_before, running_domains}
 use Rattle.arrival_queue.specs.Queues.{Queued}
@@ -86,3 +86,8 @@ dues_with domains (Some u) dues = with_due u (Some (moment (deadline_in domains 
 abbrev pub dues_without : Option UnitId → List (Option Moment) → List (Option Moment)
 dues_without None dues = dues
 dues_without (Some u) dues = with_due u None dues
+
+-- the same, but for one that is chosen again
+abbrev pub dues_left : Option UnitId → Option UnitId → List (Option Moment) → List (Option Moment)
+dues_left None chosen dues = dues
+dues_left (Some u) chosen dues = (if is_unit chosen u then dues else with_due u None dues)

@@ -9,7 +9,7 @@ ghost use Rattle.sched_model.specs.Rtds.{unit_left_budget, first_of_units, rtds_
 ghost use Rattle.arrival_queue.specs.Order.{IsInOrder, EachRankOnce, EachUnitOnce};
 ghost use Rattle.scheduler_records.specs.Parts.{scheduler_of};
 ghost use Rattle.unit_places.specs.Places.{unit_index};
-ghost use Rattle.rtds_core.specs.Best.{queue_of, key_by, AreQueued, AreMasks, list_of, is_waiting_first, due_at, deadline_in, run_from, queues_without, dues_with, dues_without};
+ghost use Rattle.rtds_core.specs.Best.{queue_of, key_by, AreQueued, AreMasks, list_of, is_waiting_first, due_at, deadline_in, run_from, queues_without, dues_with, dues_left};
 ghost use Rattle.rtds_core.specs.RtdsParts.{IsShaped};
 
 use crate::alarms::Alarms;
@@ -19,6 +19,7 @@ use sched_model::ask::Ask;
 use sched_model::config::Pins;
 use sched_model::row::Row;
 use sched_model::state::{RtdsUnit, RtdsUnits};
+use sched_model::units::is_there;
 use scheduler_records::rtds::{budget_left, own_candidate, rtds_unit, set_running, unit_before};
 use unit_places::Masks;
 
@@ -109,15 +110,22 @@ pub fn due_of(domains: &[Option<RtdsUnits>], at: u64, chosen: Option<UnitId>) ->
     }
 }
 
-/// The core's own unit runs no more, and as it does not wait, it is not armed.
-pub fn stop(cur: Option<UnitId>, domains: &mut Row<Option<RtdsUnits>>, alarms: &mut Alarms)
+/// The core's own unit runs no more. As it does not wait, it is not armed either, unless it is chosen again: its moment stays then.
+pub fn stop(
+    cur: Option<UnitId>,
+    chosen: Option<UnitId>,
+    domains: &mut Row<Option<RtdsUnits>>,
+    alarms: &mut Alarms,
+)
     requires known { ForSome cur (λ u. unit_index u < 2048) }
     ensures domains { domains.new ≡ off_domains cur domains.old }
-    ensures alarms { alarms.new ≡ dues_without cur alarms.old }
+    ensures alarms { alarms.new ≡ dues_left cur chosen alarms.old }
 {
     if let Some(u) = cur {
         set_running(None, u, domains);
-        alarms.disarm(u);
+        if !is_there(chosen, u) {
+            alarms.disarm(u);
+        }
     }
 }
 

@@ -220,7 +220,7 @@ impl RtdsState {
             ask,
         );
         let due = due_of(self.domains.as_slice(), ask.at.0, chosen);
-        stop(ask.cur, &mut self.domains, &mut self.alarms);
+        stop(ask.cur, chosen, &mut self.domains, &mut self.alarms);
         start(
             ask.at.0,
             chosen,

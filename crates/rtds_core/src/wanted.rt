@@ -166,7 +166,7 @@ fn outruns(domains: &[Option<RtdsUnits>], coming: Ahead, cur: Option<UnitId>, co
 {
     match cur {
         None => has_core(coming.cores, core),
-        Some(own) => { has_core(coming.cores, core) && unit_before(domains, coming.unit, own) }
+        Some(own) => has_core(coming.cores, core) && unit_before(domains, coming.unit, own),
     }
 }
 

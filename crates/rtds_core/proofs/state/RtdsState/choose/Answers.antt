@@ -12,6 +12,7 @@ use Rattle.scheduler_records.specs.Parts.{scheduler_of}
 use Rattle.rtds_queue.specs.Lists.{Lists}
 use Rattle.rtds_core.specs.Best.{queue_of, AreQueued, queues_without, dues_with, dues_without, run_from}
 use Rattle.rtds_core.specs.RtdsParts.{IsShaped, seen_of}
+use Rattle.rtds_core.proofs.Again.{armed_again}
 use Rattle.rtds_core.proofs.Changed.{shared_fits}
 use Rattle.rtds_core.proofs.Queues.{IsOrdered}
 use Rattle.rtds_core.proofs.First.{IsKnown}
@@ -92,7 +93,8 @@ invariant_of-self c =
     let domains : c.start.new.domains ≡ run_from ask.at.0 c.pick-chosen.result (off_domains ask.cur burned) = c.start.ensures.domains ∙ ap (run_from ask.at.0 c.pick-chosen.result) off in
     let alarms : c.start.new.alarms ≡ dues_with (off_domains ask.cur burned) c.pick-chosen.result (dues_without ask.cur i.alarms) =
     c.start.ensures.alarms ∙ ap (λ (ds : List (Option (List RtdsUnit))). dues_with ds c.pick-chosen.result c.stop.new.alarms) off
-    ∙ ap (λ (dues : List (Option Moment)). dues_with (off_domains ask.cur burned) c.pick-chosen.result dues) c.stop.ensures.alarms in
+    ∙ ap (λ (dues : List (Option Moment)). dues_with (off_domains ask.cur burned) c.pick-chosen.result dues) c.stop.ensures.alarms
+    ∙ armed_again (off_domains ask.cur burned) ask.cur c.pick-chosen.result i.alarms in
     kept_as (run_from ask.at.0 c.pick-chosen.result (off_domains ask.cur burned)) c.start.new.domains i.affinity i.affinity (queues_without c.pick-chosen.result i.queues) c.start.new.queues i.masks
     (dues_with (off_domains ask.cur burned) c.pick-chosen.result (dues_without ask.cur i.alarms)) c.start.new.alarms i.spare ask.at.0 domains refl c.start.ensures.queues alarms
     (kept_chosen i.affinity i.queues i.masks i.spare ask.at.0 ask.cur c.pick-chosen.result i.domains i.alarms own known order later)
