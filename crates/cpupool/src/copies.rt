@@ -2,7 +2,7 @@
 
 ghost use Rattle.std.specs.Prelude.{◌≡◌, IfOk};
 
-use sched_base::NoMemory;
+use sched_base::{Name, NoMemory};
 use sched_model::command::{ArincEntry, ArincList, Command, Which};
 use sched_model::row::Row;
 use sched_model::short::{Short, same_items};
@@ -14,7 +14,7 @@ fn same_which(which: &Which) -> Which
     ensures { result ≡ which.now }
 {
     match which {
-        Which::Name(name) => Which::Name(name.duplicate()),
+        Which::Name(name) => Which::Name(same_name(name)),
         Which::Number(n) => Which::Number(*n),
     }
 }
@@ -44,80 +44,50 @@ fn same_entries(entries: &ArincList) -> ArincList
     all
 }
 
+/// The name once more.
+fn same_name(name: &Name) -> Name
+    ensures { result ≡ name.now }
+{
+    name.duplicate()
+}
+
+/// A value that is copied as it is.
+fn same_value<T: Copy>(value: &T) -> T
+    ensures { result ≡ value.now }
+{
+    *value
+}
+
+/// A command once more: of each form the fields, and what gives each field once more.
+macro_rules! same_form {
+    ($command:expr, $($form:ident($($field:ident: $same:ident),+)),+ $(,)?) => {
+        match $command {
+            $(Command::$form { $($field),+ } => Command::$form { $($field: $same($field)),+ },)+
+        }
+    };
+}
+
 /// The command once more.
 fn same_command(command: &Command) -> Command
     ensures { result ≡ command.now }
 {
-    match command {
-        Command::PoolList { pool } => Command::PoolList {
-            pool: same_given(pool),
-        },
-        Command::PoolCreate { name, sched } => Command::PoolCreate {
-            name: name.duplicate(),
-            sched: *sched,
-        },
-        Command::PoolDestroy { pool } => Command::PoolDestroy {
-            pool: same_which(pool),
-        },
-        Command::PoolRename { pool, name } => Command::PoolRename {
-            pool: same_which(pool),
-            name: name.duplicate(),
-        },
-        Command::CpuAdd { pool, cpu } => Command::CpuAdd {
-            pool: same_which(pool),
-            cpu: *cpu,
-        },
-        Command::CpuRemove { pool, cpu } => Command::CpuRemove {
-            pool: same_which(pool),
-            cpu: *cpu,
-        },
-        Command::Migrate { dom, pool } => Command::Migrate {
-            dom: same_which(dom),
-            pool: same_which(pool),
-        },
-        Command::Credit2Dom { dom, weight, cap } => Command::Credit2Dom {
-            dom: same_which(dom),
-            weight: *weight,
-            cap: *cap,
-        },
-        Command::Credit2Pool { pool, limit } => Command::Credit2Pool {
-            pool: same_which(pool),
-            limit: *limit,
-        },
-        Command::RtdsDom {
-            dom,
-            vcpu,
-            period,
-            budget,
-            extra,
-        } => Command::RtdsDom {
-            dom: same_which(dom),
-            vcpu: *vcpu,
-            period: *period,
-            budget: *budget,
-            extra: *extra,
-        },
-        Command::Pause { dom } => Command::Pause {
-            dom: same_which(dom),
-        },
-        Command::Unpause { dom } => Command::Unpause {
-            dom: same_which(dom),
-        },
-        Command::ArincSet {
-            pool,
-            major,
-            entries,
-        } => Command::ArincSet {
-            pool: same_which(pool),
-            major: *major,
-            entries: same_entries(entries),
-        },
-        Command::Pin { dom, vcpu, cpus } => Command::Pin {
-            dom: same_which(dom),
-            vcpu: *vcpu,
-            cpus: same_items(cpus),
-        },
-    }
+    same_form!(
+        command,
+        PoolList(pool: same_given),
+        PoolCreate(name: same_name, sched: same_value),
+        PoolDestroy(pool: same_which),
+        PoolRename(pool: same_which, name: same_name),
+        CpuAdd(pool: same_which, cpu: same_value),
+        CpuRemove(pool: same_which, cpu: same_value),
+        Migrate(dom: same_which, pool: same_which),
+        Credit2Dom(dom: same_which, weight: same_value, cap: same_value),
+        Credit2Pool(pool: same_which, limit: same_value),
+        RtdsDom(dom: same_which, vcpu: same_value, period: same_value, budget: same_value, extra: same_value),
+        Pause(dom: same_which),
+        Unpause(dom: same_which),
+        ArincSet(pool: same_which, major: same_value, entries: same_entries),
+        Pin(dom: same_which, vcpu: same_value, cpus: same_items),
+    )
 }
 
 /// The line with a command once more.

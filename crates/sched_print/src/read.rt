@@ -5,22 +5,21 @@ ghost use Rattle.sched_print.specs.Readers.{read};
 ghost use Rattle.sched_print.specs.Forms as form;
 
 use crate::read_answers::answers;
-use crate::scan::{Left, any_number, better, closing, end, number, small_number, unit, vcpu, word};
+use crate::scan::{
+    Left, any_number, better, closing, end, number, reads, small_number, unit, vcpu, word,
+};
 use sched_base::{DomId, Moment, PoolId, ProcId, ResId, Span, UnitId, VcpuId};
 use sched_model::event::{Entry, Event};
 
 fn stall(at: Moment, bytes: &[u8]) -> Result<Entry, Left>
     ensures { result ≡ read (form.stall (form.entry at.0)) bytes.now }
 {
-    let rest = word(bytes, b" stall p")?;
-    let (p, rest) = small_number(rest, 64)?;
-    let rest = word(rest, b" until ")?;
-    let (until, rest) = any_number(rest)?;
-    let event = Event::Stall {
-        p: ProcId(p),
-        until: Moment(until),
-    };
-    end(rest, Entry { at, event })
+    reads!(
+        bytes,
+        b" stall p" p = small_number(64) as ProcId,
+        b" until " until = any_number() as Moment =>
+        Entry { at, event: Event::Stall { p, until } }
+    )
 }
 
 fn xl(at: Moment, bytes: &[u8]) -> Result<Entry, Left>
@@ -34,13 +33,11 @@ fn xl(at: Moment, bytes: &[u8]) -> Result<Entry, Left>
 fn moved_to_pool(at: Moment, r: ResId, bytes: &[u8]) -> Result<Entry, Left>
     ensures { result ≡ read (form.moved_to_pool r (form.entry at.0)) bytes.now }
 {
-    let rest = word(bytes, b" pool ")?;
-    let (pool, rest) = small_number(rest, 16)?;
-    let event = Event::Moved {
-        r,
-        to: Some(PoolId(pool)),
-    };
-    end(rest, Entry { at, event })
+    reads!(
+        bytes,
+        b" pool " pool = small_number(16) as PoolId =>
+        Entry { at, event: Event::Moved { r, to: Some(pool) } }
+    )
 }
 
 fn moved(at: Moment, bytes: &[u8]) -> Result<Entry, Left>
@@ -59,15 +56,12 @@ fn moved(at: Moment, bytes: &[u8]) -> Result<Entry, Left>
 fn dom_moved(at: Moment, bytes: &[u8]) -> Result<Entry, Left>
     ensures { result ≡ read (form.dom_moved (form.entry at.0)) bytes.now }
 {
-    let rest = word(bytes, b" dom-moved d")?;
-    let (d, rest) = small_number(rest, 64)?;
-    let rest = word(rest, b" pool ")?;
-    let (pool, rest) = small_number(rest, 16)?;
-    let event = Event::DomMoved {
-        d: DomId(d),
-        to: PoolId(pool),
-    };
-    end(rest, Entry { at, event })
+    reads!(
+        bytes,
+        b" dom-moved d" d = small_number(64) as DomId,
+        b" pool " to = small_number(16) as PoolId =>
+        Entry { at, event: Event::DomMoved { d, to } }
+    )
 }
 
 fn wake(at: Moment, bytes: &[u8]) -> Result<Entry, Left>
@@ -92,10 +86,11 @@ fn block(at: Moment, bytes: &[u8]) -> Result<Entry, Left>
 fn slice(at: Moment, bytes: &[u8]) -> Result<Entry, Left>
     ensures { result ≡ read (form.slice (form.entry at.0)) bytes.now }
 {
-    let rest = word(bytes, b" slice c")?;
-    let (r, rest) = small_number(rest, 64)?;
-    let event = Event::Slice { r: ResId(r) };
-    end(rest, Entry { at, event })
+    reads!(
+        bytes,
+        b" slice c" r = small_number(64) as ResId =>
+        Entry { at, event: Event::Slice { r } }
+    )
 }
 
 fn repl_end(at: Moment, u: UnitId, bytes: &[u8]) -> Result<Entry, Left>
@@ -177,10 +172,11 @@ fn refill(at: Moment, bytes: &[u8]) -> Result<Entry, Left>
 fn arrive(at: Moment, bytes: &[u8]) -> Result<Entry, Left>
     ensures { result ≡ read (form.arrive (form.entry at.0)) bytes.now }
 {
-    let rest = word(bytes, b" arrive p")?;
-    let (p, rest) = small_number(rest, 64)?;
-    let event = Event::Arrive { p: ProcId(p) };
-    end(rest, Entry { at, event })
+    reads!(
+        bytes,
+        b" arrive p" p = small_number(64) as ProcId =>
+        Entry { at, event: Event::Arrive { p } }
+    )
 }
 
 fn decide_end(
@@ -192,18 +188,12 @@ fn decide_end(
 ) -> Result<Entry, Left>
     ensures { result ≡ read (form.decide_end r unit due (form.entry at.0)) bytes.now }
 {
-    let rest = word(bytes, b" late ")?;
-    let (late, rest) = any_number(rest)?;
-    let rest = word(rest, b" reset ")?;
-    let (reset, rest) = any_number(rest)?;
-    let event = Event::Decide {
-        r,
-        unit,
-        due,
-        late: Span(late),
-        reset,
-    };
-    end(rest, Entry { at, event })
+    reads!(
+        bytes,
+        b" late " late = any_number() as Span,
+        b" reset " reset = any_number() =>
+        Entry { at, event: Event::Decide { r, unit, due, late, reset } }
+    )
 }
 
 fn decide_at(at: Moment, r: ResId, unit: Option<UnitId>, bytes: &[u8]) -> Result<Entry, Left>
@@ -303,10 +293,11 @@ fn save(at: Moment, bytes: &[u8]) -> Result<Entry, Left>
 fn end_of_moment(at: Moment, bytes: &[u8]) -> Result<Entry, Left>
     ensures { result ≡ read (form.end (form.entry at.0)) bytes.now }
 {
-    let rest = word(bytes, b" end ")?;
-    let (next, rest) = any_number(rest)?;
-    let event = Event::End { next: Moment(next) };
-    end(rest, Entry { at, event })
+    reads!(
+        bytes,
+        b" end " next = any_number() as Moment =>
+        Entry { at, event: Event::End { next } }
+    )
 }
 
 fn finish(at: Moment, bytes: &[u8]) -> Result<Entry, Left>

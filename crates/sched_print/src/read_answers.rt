@@ -5,7 +5,7 @@ ghost use Rattle.sched_print.specs.Readers.{Word, read};
 ghost use Rattle.sched_print.specs.Line.{kind_text, param_text};
 ghost use Rattle.sched_print.specs.Forms as form;
 
-use crate::scan::{Left, any_number, better, closing, end, small_number, word};
+use crate::scan::{Left, any_number, better, closing, end, reads, small_number, word};
 use crate::words::{kind_word, param_word};
 use sched_base::{DomId, Moment, PoolId};
 use sched_model::config::SchedKind;
@@ -42,11 +42,12 @@ fn done(at: Moment, command: u32, bytes: &[u8]) -> Result<Entry, Left>
 fn pools(at: Moment, command: u32, bytes: &[u8]) -> Result<Entry, Left>
     ensures { result ≡ read (form.pools (form.answered_form at.0 command)) bytes.now }
 {
-    let rest = word(bytes, b" ok pools ")?;
-    let (pools, rest) = any_number(rest)?;
-    let rest = word(rest, b" free ")?;
-    let (free, rest) = any_number(rest)?;
-    end(rest, answered(at, command, Reply::Pools { pools, free }))
+    reads!(
+        bytes,
+        b" ok pools " pools = any_number(),
+        b" free " free = any_number() =>
+        answered(at, command, Reply::Pools { pools, free })
+    )
 }
 
 fn pool_counts(
@@ -60,17 +61,12 @@ fn pool_counts(
         (form.pool_counts pool kind (form.answered_form at.0 command))) bytes.now }
 {
     let rest = word(bytes, kind_word(kind))?;
-    let rest = word(rest, b" cpus ")?;
-    let (cpus, rest) = any_number(rest)?;
-    let rest = word(rest, b" domains ")?;
-    let (domains, rest) = any_number(rest)?;
-    let reply = Reply::Pool {
-        pool,
-        kind,
-        cpus,
-        domains,
-    };
-    end(rest, answered(at, command, reply))
+    reads!(
+        rest,
+        b" cpus " cpus = any_number(),
+        b" domains " domains = any_number() =>
+        answered(at, command, Reply::Pool { pool, kind, cpus, domains })
+    )
 }
 
 fn pool_reply(at: Moment, command: u32, bytes: &[u8]) -> Result<Entry, Left>
@@ -95,19 +91,22 @@ fn pool_reply(at: Moment, command: u32, bytes: &[u8]) -> Result<Entry, Left>
 fn weight(at: Moment, command: u32, bytes: &[u8]) -> Result<Entry, Left>
     ensures { result ≡ read (form.weight (form.answered_form at.0 command)) bytes.now }
 {
-    let rest = word(bytes, b" ok weight ")?;
-    let (weight, rest) = any_number(rest)?;
-    let rest = word(rest, b" cap ")?;
-    let (cap, rest) = any_number(rest)?;
-    end(rest, answered(at, command, Reply::Weight { weight, cap }))
+    reads!(
+        bytes,
+        b" ok weight " weight = any_number(),
+        b" cap " cap = any_number() =>
+        answered(at, command, Reply::Weight { weight, cap })
+    )
 }
 
 fn rate(at: Moment, command: u32, bytes: &[u8]) -> Result<Entry, Left>
     ensures { result ≡ read (form.rate (form.answered_form at.0 command)) bytes.now }
 {
-    let rest = word(bytes, b" ok ratelimit ")?;
-    let (limit, rest) = any_number(rest)?;
-    end(rest, answered(at, command, Reply::Rate { limit }))
+    reads!(
+        bytes,
+        b" ok ratelimit " limit = any_number() =>
+        answered(at, command, Reply::Rate { limit })
+    )
 }
 
 fn rtds(at: Moment, command: u32, bytes: &[u8]) -> Result<Entry, Left>
@@ -148,9 +147,11 @@ fn replies(at: Moment, command: u32, bytes: &[u8]) -> Result<Entry, Left>
 fn syntax(at: Moment, command: u32, bytes: &[u8]) -> Result<Entry, Left>
     ensures { result ≡ read (form.syntax (form.refused_form at.0 command)) bytes.now }
 {
-    let rest = word(bytes, b" refused 1 Syntax place ")?;
-    let (place, rest) = any_number(rest)?;
-    end(rest, refused(at, command, Refusal::Syntax { place }))
+    reads!(
+        bytes,
+        b" refused 1 Syntax place " place = any_number() =>
+        refused(at, command, Refusal::Syntax { place })
+    )
 }
 
 fn no_pool(at: Moment, command: u32, bytes: &[u8]) -> Result<Entry, Left>
@@ -166,10 +167,11 @@ fn no_pool(at: Moment, command: u32, bytes: &[u8]) -> Result<Entry, Left>
 fn name_taken(at: Moment, command: u32, bytes: &[u8]) -> Result<Entry, Left>
     ensures { result ≡ read (form.name_taken (form.refused_form at.0 command)) bytes.now }
 {
-    let rest = word(bytes, b" refused 3 NameTaken pool ")?;
-    let (pool, rest) = small_number(rest, 16)?;
-    let pool = PoolId(pool);
-    end(rest, refused(at, command, Refusal::NameTaken { pool }))
+    reads!(
+        bytes,
+        b" refused 3 NameTaken pool " pool = small_number(16) as PoolId =>
+        refused(at, command, Refusal::NameTaken { pool })
+    )
 }
 
 fn no_domain(at: Moment, command: u32, bytes: &[u8]) -> Result<Entry, Left>
@@ -185,63 +187,54 @@ fn no_domain(at: Moment, command: u32, bytes: &[u8]) -> Result<Entry, Left>
 fn no_cpu(at: Moment, command: u32, bytes: &[u8]) -> Result<Entry, Left>
     ensures { result ≡ read (form.no_cpu (form.refused_form at.0 command)) bytes.now }
 {
-    let rest = word(bytes, b" refused 5 NoCpu cpu ")?;
-    let (cpu, rest) = any_number(rest)?;
-    end(rest, refused(at, command, Refusal::NoCpu { cpu }))
+    reads!(
+        bytes,
+        b" refused 5 NoCpu cpu " cpu = any_number() =>
+        refused(at, command, Refusal::NoCpu { cpu })
+    )
 }
 
 fn cpu_taken(at: Moment, command: u32, bytes: &[u8]) -> Result<Entry, Left>
     ensures { result ≡ read (form.cpu_taken (form.refused_form at.0 command)) bytes.now }
 {
-    let rest = word(bytes, b" refused 6 CpuTaken cpu ")?;
-    let (cpu, rest) = any_number(rest)?;
-    let rest = word(rest, b" pool ")?;
-    let (pool, rest) = small_number(rest, 16)?;
-    let pool = PoolId(pool);
-    end(rest, refused(at, command, Refusal::CpuTaken { cpu, pool }))
+    reads!(
+        bytes,
+        b" refused 6 CpuTaken cpu " cpu = any_number(),
+        b" pool " pool = small_number(16) as PoolId =>
+        refused(at, command, Refusal::CpuTaken { cpu, pool })
+    )
 }
 
 fn cpu_elsewhere(at: Moment, command: u32, bytes: &[u8]) -> Result<Entry, Left>
     ensures { result ≡ read (form.cpu_elsewhere (form.refused_form at.0 command)) bytes.now }
 {
-    let rest = word(bytes, b" refused 7 CpuElsewhere cpu ")?;
-    let (cpu, rest) = any_number(rest)?;
-    end(rest, refused(at, command, Refusal::CpuElsewhere { cpu }))
+    reads!(
+        bytes,
+        b" refused 7 CpuElsewhere cpu " cpu = any_number() =>
+        refused(at, command, Refusal::CpuElsewhere { cpu })
+    )
 }
 
 fn last_cpu(at: Moment, command: u32, bytes: &[u8]) -> Result<Entry, Left>
     ensures { result ≡ read (form.last_cpu (form.refused_form at.0 command)) bytes.now }
 {
-    let rest = word(bytes, b" refused 8 LastCpu pool ")?;
-    let (pool, rest) = small_number(rest, 16)?;
-    let pool = PoolId(pool);
-    let rest = word(rest, b" domain ")?;
-    let (dom, rest) = small_number(rest, 64)?;
-    let dom = DomId(dom);
-    end(rest, refused(at, command, Refusal::LastCpu { pool, dom }))
+    reads!(
+        bytes,
+        b" refused 8 LastCpu pool " pool = small_number(16) as PoolId,
+        b" domain " dom = small_number(64) as DomId =>
+        refused(at, command, Refusal::LastCpu { pool, dom })
+    )
 }
 
 fn pool_holds(at: Moment, command: u32, bytes: &[u8]) -> Result<Entry, Left>
     ensures { result ≡ read (form.pool_holds (form.refused_form at.0 command)) bytes.now }
 {
-    let rest = word(bytes, b" refused 9 PoolHolds pool ")?;
-    let (pool, rest) = small_number(rest, 16)?;
-    let pool = PoolId(pool);
-    let rest = word(rest, b" cpus ")?;
-    let (cpus, rest) = any_number(rest)?;
-    let rest = word(rest, b" domains ")?;
-    let (domains, rest) = any_number(rest)?;
-    end(
-        rest,
-        refused(
-            at,
-            command,
-            Refusal::PoolHolds {
-                pool,
-                cpus,
-                domains,
-            },
-        ),
+    reads!(
+        bytes,
+        b" refused 9 PoolHolds pool " pool = small_number(16) as PoolId,
+        b" cpus " cpus = any_number(),
+        b" domains " domains = any_number() =>
+        refused(at, command, Refusal::PoolHolds { pool, cpus, domains })
     )
 }
 
@@ -293,9 +286,11 @@ fn range_of(at: Moment, command: u32, param: Param, bytes: &[u8]) -> Result<Entr
         (form.range_of param (form.refused_form at.0 command))) bytes.now }
 {
     let rest = word(bytes, param_word(param))?;
-    let rest = word(rest, b" ")?;
-    let (n, rest) = any_number(rest)?;
-    end(rest, refused(at, command, Refusal::Range { param, n }))
+    reads!(
+        rest,
+        b" " n = any_number() =>
+        refused(at, command, Refusal::Range { param, n })
+    )
 }
 
 fn range(at: Moment, command: u32, bytes: &[u8]) -> Result<Entry, Left>
@@ -314,19 +309,21 @@ fn range(at: Moment, command: u32, bytes: &[u8]) -> Result<Entry, Left>
 fn pool_empty(at: Moment, command: u32, bytes: &[u8]) -> Result<Entry, Left>
     ensures { result ≡ read (form.pool_empty (form.refused_form at.0 command)) bytes.now }
 {
-    let rest = word(bytes, b" refused 13 PoolEmpty pool ")?;
-    let (pool, rest) = small_number(rest, 16)?;
-    let pool = PoolId(pool);
-    end(rest, refused(at, command, Refusal::PoolEmpty { pool }))
+    reads!(
+        bytes,
+        b" refused 13 PoolEmpty pool " pool = small_number(16) as PoolId =>
+        refused(at, command, Refusal::PoolEmpty { pool })
+    )
 }
 
 fn arinc_one(at: Moment, command: u32, bytes: &[u8]) -> Result<Entry, Left>
     ensures { result ≡ read (form.arinc_one (form.refused_form at.0 command)) bytes.now }
 {
-    let rest = word(bytes, b" refused 14 ArincOne pool ")?;
-    let (pool, rest) = small_number(rest, 16)?;
-    let pool = PoolId(pool);
-    end(rest, refused(at, command, Refusal::ArincOne { pool }))
+    reads!(
+        bytes,
+        b" refused 14 ArincOne pool " pool = small_number(16) as PoolId =>
+        refused(at, command, Refusal::ArincOne { pool })
+    )
 }
 
 fn pools_full(at: Moment, command: u32, bytes: &[u8]) -> Result<Entry, Left>
@@ -342,13 +339,11 @@ fn pools_full(at: Moment, command: u32, bytes: &[u8]) -> Result<Entry, Left>
 fn frame_long(at: Moment, command: u32, bytes: &[u8]) -> Result<Entry, Left>
     ensures { result ≡ read (form.frame_long (form.refused_form at.0 command)) bytes.now }
 {
-    let rest = word(bytes, b" refused 16 FrameLong sum ")?;
-    let (sum, rest) = any_number(rest)?;
-    let rest = word(rest, b" major ")?;
-    let (major, rest) = any_number(rest)?;
-    end(
-        rest,
-        refused(at, command, Refusal::FrameLong { sum, major }),
+    reads!(
+        bytes,
+        b" refused 16 FrameLong sum " sum = any_number(),
+        b" major " major = any_number() =>
+        refused(at, command, Refusal::FrameLong { sum, major })
     )
 }
 

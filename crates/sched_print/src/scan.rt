@@ -160,3 +160,18 @@ pub fn closing(bytes: &[u8], last: &[u8], e: Entry) -> Result<Entry, Left>
     let rest = word(bytes, last)?;
     end(rest, e)
 }
+
+/// Words with a number behind each, which is read by the function that is named and may be wrapped, and then nothing more: the entry.
+macro_rules! reads {
+    ($bytes:ident, $($word:literal $field:ident = $read:ident($($limit:literal)?) $(as $wrap:ident)?),+ => $entry:expr) => {{
+        let rest = $bytes;
+        $(
+            let rest = word(rest, $word)?;
+            let ($field, rest) = $read(rest $(, $limit)?)?;
+            $(let $field = $wrap($field);)?
+        )+
+        end(rest, $entry)
+    }};
+}
+
+pub(crate) use reads;

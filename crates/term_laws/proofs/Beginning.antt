@@ -1,5 +1,5 @@
 -- The opening: no core has a unit, and the records of RTDS units are as they begin their first terms.
-use Rattle.std.proofs.Common.{◌≡◌, ◌<◌, ◌+◌, ◌-◌, ℕ, zero, suc, Bool, true, false, List, [], ◌∷◌, length, refl, arith, ap, subst, sym, ◌∙◌, inl, inr, cond, replicate}
+use Rattle.std.proofs.Common.{◌≡◌, ◌+◌, ◌-◌, ℕ, zero, suc, Bool, true, false, List, [], ◌∷◌, length, refl, arith, ap, subst, sym, ◌∙◌, inl, inr, cond, replicate}
 use Rattle.std.specs.Prelude.{Option, Some, None, option_map, is_some, map, slice_get, ◌&&◌}
 use Rattle.sched_base.specs.Numbers.{moment, domain as domain_number}
 use Rattle.sched_base.specs.declared.UnitId.{UnitId}
@@ -21,21 +21,16 @@ use Rattle.sched_model.specs.Places.{at_place, put_at, test_at, numbers_from}
 use Rattle.sched_model.specs.State.{may_unit_run, has_core_bit}
 use Rattle.sched_model.specs.EligibleUnits.{rtds_unit_at}
 use Rattle.sched_model.specs.Policy as policy
-use Rattle.sched_model.specs.Policy.{records_kind, joined_records, changed_records, empty_records}
+use Rattle.sched_model.specs.Policy.{joined_records, changed_records, empty_records, unit_rtds_record}
 use Rattle.sched_model.specs.Rtds as rtds
 use Rattle.sched_model.specs.Pool.{pool_with_queued_units, pool_with_queued_if_off, pool_with_domain, is_unit_off, domain_unit_count}
 use Rattle.sched_model.specs.Opening.{opening, pool_with_domains, pool_with_configured, most_pools, machine_core_count, joined_core, fresh_pool, vcpu_at_opening}
-use Rattle.sched_model.specs.CheckedMachine.{IsChecked}
 use Rattle.sched_laws.proofs.EachPlace.{by_cond, read_put_at, EachPlace-empty}
 use Rattle.sched_laws.proofs.Lists.{test_at-some, some_same}
 use Rattle.sched_laws.proofs.Opened.{read_pools, read_map, with_domains-resources, pins_keep, domains_keep}
-use Rattle.sched_laws.proofs.Records.{same_joined}
-use Rattle.composition_laws.proofs.Begun.{housed_opening}
 use Rattle.composition_laws.proofs.Alike.{mover_of}
-use Rattle.term_laws.proofs.SamePool.{cur_in}
-use Rattle.term_laws.proofs.Track.{is_rtds_pool}
-use Rattle.sched_laws.proofs.RtdsUnits.{rtds_same}
-use Rattle.term_laws.proofs.Deciding.{Tracks, cur_core}
+use Rattle.term_laws.proofs.Same.{cur_in}
+use Rattle.term_laws.proofs.Deciding.{cur_core}
 
 -- no core has a unit at the opening
 pub nobody_runs : (m : Machine) (i : ℕ) (p : Pool) → at_place (opening m).pools i ≡ Some p → (r : ℕ) (u : UnitId) → cur_in (at_place p.resources r) ≡ Some u → ⊥
@@ -59,19 +54,13 @@ home_pool_of (Some p) d is = (p, refl, by_domain (at_place p.domains d) refl is)
     by_domain None is2 e2 = absurd (cc)
     by_domain (Some x) is2 e2 = test_at-some p.domains d (λ x. true) x is2 refl
 
-pub tracks_opening : (m : Machine) → IsChecked m → (u : UnitId) → u.dom.0 < length m.config.domains → Tracks u None (opening m)
-tracks_opening m checked u low =
-    let h = (housed_opening m checked).domains u.dom.0 low in
-    let p = home_pool_of (at_place (opening m).pools h.0) u.dom.0 h.1 in
-    record { home = h.0; pool = p.0; at = p.1; has = record { there = p.2; none = λ r is. nobody_runs m h.0 p.0 p.1 r u is } }
-
 -- a record of a unit that has just joined at 0: its budget is full, and its deadline is one period ahead
 pub record IsFull (x : RtdsUnit) : Type 0 where
   pub left : x.left ≡ x.budget
   pub deadline : x.deadline ≡ x.period
 
 abbrev pub AllFull : Records → Type 0
-AllFull records = (domains : List (Option (List RtdsUnit))) → records ≡ RtdsPool domains → (u : UnitId) (x : RtdsUnit) → rtds_unit_at domains u ≡ Some x → IsFull x
+AllFull records = (u : UnitId) (x : RtdsUnit) → unit_rtds_record records u ≡ Some x → IsFull x
 
 get_replicate : (n i : ℕ) (y x : RtdsUnit) → slice_get (replicate n y) i ≡ Some x → y ≡ x
 get_replicate zero i y x at = absurd (cc)
@@ -96,13 +85,9 @@ full_put d count period budget extra domains full u x at = go (at_place (put_at 
         ]
 
 full_joined : (records : Records) (params : DomParams) (d count : ℕ) → AllFull records → AllFull (joined_records records params d count 0)
-full_joined records params d count full domains is =
-    let k = is_rtds_pool records (sym (same_joined records_kind (λ a b. refl) (λ a b. refl) records params d count 0) ∙ ap records_kind is) in
-    by_params params k.0 (full k.0 k.1) (sym (ap (λ (x : Records). joined_records x params d count 0) k.1) ∙ is)
-  where
-    by_params : (params2 : DomParams) (old : List (Option (List RtdsUnit))) → ((u : UnitId) (x : RtdsUnit) → rtds_unit_at old u ≡ Some x → IsFull x) → joined_records (RtdsPool old) params2 d count 0 ≡ RtdsPool domains → (u : UnitId) (x : RtdsUnit) → rtds_unit_at domains u ≡ Some x → IsFull x
-    by_params (dom_params.Rtds period budget extra) old was e u x at = full_put d count period.0 budget.0 extra old was u x (subst (λ ds. rtds_unit_at ds u ≡ Some x) (sym (rtds_same (put_at d (rtds.fresh_rtds_units period.0 budget.0 extra count 0) old) domains e)) at)
-    by_params params2 old was e u x at = was u x (subst (λ ds. rtds_unit_at ds u ≡ Some x) (sym (rtds_same old domains e)) at)
+full_joined (RtdsPool domains) (dom_params.Rtds period budget extra) d count full = full_put d count period.0 budget.0 extra domains full
+full_joined (Credit2Pool own) (dom_params.Credit2 weight percent) d count full = λ u x is. absurd (cc)
+full_joined records params d count full = full
 
 pub queue_keeps : (g d : ℕ) (ns : List ℕ) (pool : Pool) → (pool_with_queued_units g d ns pool).scheduler.records ≡ pool.scheduler.records
 queue_keeps g d [] pool = refl
@@ -127,12 +112,12 @@ module _ (Q : Records → Type 0) (joined : (records : Records) (params : DomPar
   records_keep g i d domains = domains_keep g i (λ p. Q p.scheduler.records) d domains (λ k joining pool at home here. configured_keep g (d + k) joining pool here)
 
 full_fresh : (params : PoolParams) (domains cores : ℕ) → AllFull (empty_records params domains cores)
-full_fresh pool_params.Rtds n cores domains is u x at = absurd (none (at_place domains u.dom.0) refl at)
+full_fresh pool_params.Rtds n cores u x at = none (at_place (replicate n None) u.dom.0) refl at
   where
-    none : (o : Option (List RtdsUnit)) → at_place domains u.dom.0 ≡ o → elim o as (λ _. Option RtdsUnit) [ None ↦ None | Some units ↦ slice_get units u.n ] ≡ Some x → ⊥
-    none None e at2 = cc
-    none (Some units) e at2 = EachPlace-empty {X = List RtdsUnit} (λ y. ⊥) n u.dom.0 units (subst (λ ds. at_place ds u.dom.0 ≡ Some units) (sym (rtds_same (replicate n None) domains is)) e)
-full_fresh other n cores domains is u x at = absurd (cc)
+    none : (o : Option (List RtdsUnit)) → at_place (replicate n None) u.dom.0 ≡ o → elim o as (λ _. Option RtdsUnit) [ None ↦ None | Some units ↦ slice_get units u.n ] ≡ Some x → IsFull x
+    none None e at2 = absurd (cc)
+    none (Some units) e at2 = absurd (EachPlace-empty {X = List RtdsUnit} (λ y. ⊥) n u.dom.0 units e)
+full_fresh other n cores u x at = absurd (cc)
 
 -- what fresh records have, and the records keep while a domain joins, the records have at the opening
 pub records_at_first : (Q : Records → Type 0) → ((records : Records) (params : DomParams) (d count : ℕ) → Q records → Q (joined_records records params d count 0)) → ((params : PoolParams) (domains cores : ℕ) → Q (empty_records params domains cores))

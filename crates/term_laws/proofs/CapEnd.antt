@@ -1,6 +1,6 @@
 -- The end of a term: what its open legs still add, and what follows adds nothing.
 use Rattle.term_laws.proofs.TermSums.{leg_from-starts}
-use Rattle.std.proofs.Common.{◌≡◌, ◌≢◌, ◌≤◌, ◌<◌, ◌+◌, ℕ, zero, suc, Bool, true, false, List, [], ◌∷◌, refl, arith, ap, subst, ◌∙◌, ◌⊎◌, inl, inr, cond, nat_lt}
+use Rattle.std.proofs.Common.{◌≡◌, ◌≢◌, ◌≤◌, ◌<◌, ◌+◌, ℕ, suc, Bool, true, false, List, [], ◌∷◌, refl, arith, ap, subst, ◌∙◌, ◌⊎◌, inl, inr, cond, nat_lt}
 use Rattle.std.specs.Prelude.{Option, Some, None, max, is_some, sum_by, ◌&&◌, ◌||◌, ℤ, pos, ◌+ℤ◌, ◌-ℤ◌, ◌≤ℤ◌}
 use Rattle.std.specs.List.{list_any}
 use Rattle.std.proofs.lemmas.Int.{ints}
@@ -14,21 +14,25 @@ use Rattle.sched_model.specs.declared.state.State.{State}
 use Rattle.sched_model.specs.declared.state.Credit2Domain.{Credit2Domain}
 use Rattle.sched_model.specs.Runs.{Reached, IsRunFrom, after_entry, after_entries}
 use Rattle.sched_base.proofs.Bools.{or_left, or_right}
-use Rattle.term_laws.specs.RtdsTerm.{Leg, late_of, leg_from, moves}
+use Rattle.term_laws.specs.Term.{Leg, late_of, leg_from, moves, shared_span, meets, late_in}
 use Rattle.term_laws.proofs.Time.{time_goes_on}
-use Rattle.term_laws.specs.CapTerm.{PlacedLeg, CapTerm, next_decision, taken_for, domain_legs, cap_set, settings, refills, credit2_in, shared_span, meets, is_set_after}
+use Rattle.term_laws.specs.CapTerm.{PlacedLeg, CapTerm, next_decision, taken_for, domain_legs, cap_set, settings, refills, credit2_in, is_set_after}
 use Rattle.term_laws.proofs.CapTracks.{cap_at, on_core, Stops, EventTracks, CapTracks}
-use Rattle.term_laws.proofs.CoreSums.{total_two, above_most}
+use Rattle.term_laws.proofs.CoreSums.{counts_or_not, total_two, above_most}
 use Rattle.sched_laws.specs.Counts.{over, total_over}
 use Rattle.term_laws.proofs.CapLegs.{OpenLeg, Opens, to_close, rest, DecidesNone, DecidesOne, decides}
 use Rattle.term_laws.proofs.CapStep.{left_over, cap_there, cap_of, cap_stays, late_enough}
 
+-- how long a leg lies within the term
+abbrev pub span_in : CapTerm → PlacedLeg → ℕ
+span_in term placed = shared_span term.term placed.leg
+
 -- what is late of a leg that meets the term; whether a setting of the cap, after the term and within such a leg, takes the term away
 abbrev pub late_of_met : CapTerm → PlacedLeg → ℕ
-late_of_met term placed = cond (meets term placed) placed.leg.late 0
+late_of_met term placed = late_in term.term placed.leg
 
 abbrev pub disturbs : List ℕ → CapTerm → PlacedLeg → ℕ
-disturbs set term placed = cond (meets term placed && is_set_after set term placed) 1 0
+disturbs set term placed = cond (meets term.term placed.leg && is_set_after set term placed) 1 0
 
 -- legs that begin when the term is over add nothing
 pub later_none : (m : Machine) (d t : ℕ) (f : PlacedLeg → ℕ) → ((placed : PlacedLeg) → t ≤ placed.leg.from → f placed ≡ 0) → (entries : List Entry) (from : Reached) (s : State) (n : ℕ) → IsRunFrom m from entries → t ≤ from.state.now → sum_by f (domain_legs s d n entries) ≡ 0
@@ -52,36 +56,30 @@ later_none m d t f none (entry ∷ entries) from s n run over =
 
 -- a leg that ends late enough, where it meets the term
 abbrev pub EndsLate : CapTerm → ℤ → PlacedLeg → Type 0
-EndsLate term stop placed = 0 < shared_span term placed → (term.until ≤ placed.leg.until) × (pos placed.leg.until ≤ℤ (stop +ℤ pos placed.leg.late))
-
-met_or_not : (term : CapTerm) (placed : PlacedLeg) → (shared_span term placed ≡ 0) ⊎ ((0 < shared_span term placed) × (late_of_met term placed ≡ placed.leg.late))
-met_or_not term placed = elim (shared_span term placed) as (λ k. (k ≡ 0) ⊎ ((0 < k) × (cond (nat_lt 0 k) placed.leg.late 0 ≡ placed.leg.late))) [
-  | zero ↦ inl refl
-  | suc k ↦ inr (omega arith, (let e : nat_lt 0 (suc k) ≡ true = grind arith in ap (λ (b : Bool). cond b placed.leg.late 0) e))
-]
+EndsLate term stop placed = 0 < span_in term placed → (term.term.until ≤ placed.leg.until) × (pos placed.leg.until ≤ℤ (stop +ℤ pos placed.leg.late))
 
 -- the open legs add no more than what is left to them, and what is late of them
 pub open_fits : (cores d : ℕ) (term : CapTerm) (opens : Opens) (stop : ℕ → ℤ) (s : State) (n allowed : ℕ) (entries : List Entry)
-    → total_over cores (left_over opens stop term.from) ≤ allowed
+    → total_over cores (left_over opens stop term.term.from) ≤ allowed
     → ((r : ℕ) (o : OpenLeg) → opens r ≡ Some o → EndsLate term (stop r) (to_close s r n entries o))
-    → sum_by (shared_span term) (domain_legs s d n entries) ≡ 0
-    → rest cores d (shared_span term) opens s n entries ≤ allowed + rest cores d (late_of_met term) opens s n entries
+    → sum_by (span_in term) (domain_legs s d n entries) ≡ 0
+    → rest cores d (span_in term) opens s n entries ≤ allowed + rest cores d (late_of_met term) opens s n entries
 open_fits cores d term opens stop s n allowed entries few late none =
-    let sums = total_two cores (λ r. over (λ o. shared_span term (to_close s r n entries o)) (opens r)) (left_over opens stop term.from) (λ r. over (λ o. late_of_met term (to_close s r n entries o)) (opens r)) (λ r low. one r (opens r) refl) in
+    let sums = total_two cores (λ r. over (λ o. span_in term (to_close s r n entries o)) (opens r)) (left_over opens stop term.term.from) (λ r. over (λ o. late_of_met term (to_close s r n entries o)) (opens r)) (λ r low. one r (opens r) refl) in
     omega (arith, sums, few, none)
   where
-    leg : (r : ℕ) (o : OpenLeg) → EndsLate term (stop r) (to_close s r n entries o) → shared_span term (to_close s r n entries o) ≤ positive_part (stop r -ℤ pos (max o.from term.from)) + late_of_met term (to_close s r n entries o)
+    leg : (r : ℕ) (o : OpenLeg) → EndsLate term (stop r) (to_close s r n entries o) → span_in term (to_close s r n entries o) ≤ positive_part (stop r -ℤ pos (max o.from term.term.from)) + late_of_met term (to_close s r n entries o)
     leg r o ends =
         let placed : PlacedLeg = to_close s r n entries o in
         let starts = leg_from-starts s r o.from entries in
-        let most = above_most (stop r -ℤ pos (max o.from term.from)) in
-        elim (met_or_not term placed) [
+        let most = above_most (stop r -ℤ pos (max o.from term.term.from)) in
+        elim (counts_or_not (span_in term placed) placed.leg.late) [
           | inl unmet ↦ omega (arith, unmet)
           | inr met ↦ (let is = met.1 in let e = ends met.0 in let over_it = e.0 in let enough = e.1 in omega (arith, ints, starts, most, is, over_it, enough))
         ]
 
     one : (r : ℕ) (o : Option OpenLeg) → opens r ≡ o
-        → over (λ z. shared_span term (to_close s r n entries z)) o ≤ over (λ z. positive_part (stop r -ℤ pos (max z.from term.from))) o + over (λ z. late_of_met term (to_close s r n entries z)) o
+        → over (λ z. span_in term (to_close s r n entries z)) o ≤ over (λ z. positive_part (stop r -ℤ pos (max z.from term.term.from))) o + over (λ z. late_of_met term (to_close s r n entries z)) o
     one r None is = omega arith
     one r (Some o) is = leg r o (late r o is)
 

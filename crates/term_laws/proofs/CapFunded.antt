@@ -10,7 +10,7 @@ use Rattle.sched_model.specs.declared.state.State.{State}
 use Rattle.sched_model.specs.declared.state.Credit2Domain.{Credit2Domain}
 use Rattle.sched_model.specs.Opening.{machine_core_count}
 use Rattle.sched_model.specs.Credit2.{running_budget}
-use Rattle.term_laws.specs.RtdsTerm.{moves}
+use Rattle.term_laws.specs.Term.{moves}
 use Rattle.term_laws.specs.CapTerm.{PlacedLeg, cap_set, refills, ends_term, credit2_in}
 use Rattle.term_laws.proofs.CapTracks.{cap_at, Stops, EventTracks, CapTracks}
 use Rattle.term_laws.proofs.CoreSums.{total_same, total_none, above, above_least, above_rises}

@@ -17,13 +17,14 @@ use Rattle.sched_laws.specs.StateLaws.{state_after}
 use Rattle.sched_base.proofs.Lists.{AllByRecursion-map}
 use Rattle.sched_base.proofs.Bools.{and_left, and_right, or_left, or_right}
 use Rattle.term_laws.proofs.Time.{time_goes_on}
-use Rattle.term_laws.specs.CapTerm.{PlacedLeg, CapTerm, domain_legs, cap_set, settings, refills, cap_after, begins_term, term_from, terms_begun, credit2_in, first_cap, cap_terms, shared_span, meets, is_set_after, KeepsCap}
+use Rattle.term_laws.specs.Term.{Leg, meets, shared_span, late_in}
+use Rattle.term_laws.specs.CapTerm.{PlacedLeg, CapTerm, domain_legs, cap_set, settings, refills, cap_after, begins_term, term_from, terms_begun, credit2_in, first_cap, cap_terms, spans, is_set_after, KeepsCap}
 use Rattle.term_laws.proofs.CapTracks.{cap_at, CapTracks}
 use Rattle.term_laws.proofs.CoreSums.{total_none}
 use Rattle.sched_laws.specs.Counts.{over}
 use Rattle.term_laws.proofs.CapLegs.{Opens, rest, opens_after, decides, Tracked, Closes, tracked_after}
 use Rattle.term_laws.proofs.CapStep.{left_over, budgeted, closed_by, closes_here, cap_there}
-use Rattle.term_laws.proofs.CapEnd.{late_of_met, disturbs, HasSettings, settings_follow}
+use Rattle.term_laws.proofs.CapEnd.{span_in, late_of_met, disturbs, HasSettings, settings_follow}
 use Rattle.term_laws.proofs.CapWithin.{term_starts, term_budget, time_rest, late_rest, disturbed_rest, kept_within}
 use Rattle.term_laws.proofs.CapFunded.{Funded, funded_later, funded_after}
 
@@ -34,7 +35,7 @@ module _ (m : Machine) (d : ℕ) (K : State → Type 0) (tracks : CapTracks m d 
   -- the term is kept, counted from a moment from which it may begin
   abbrev Kept : ℕ → Opens → State → ℕ → List Entry → CapTerm → Type 0
   Kept now opens s n entries term =
-      (now ≤ term.from) × (term.ends_by_setting ≡ false → disturbed_rest m d K tracks set term opens s n entries ≡ 0 → time_rest m d K tracks set term opens s n entries ≤ term.budget + late_rest m d K tracks set term opens s n entries)
+      (now ≤ term.term.from) × (term.ends_by_setting ≡ false → disturbed_rest m d K tracks set term opens s n entries ≡ 0 → time_rest m d K tracks set term opens s n entries ≤ term.term.budget + late_rest m d K tracks set term opens s n entries)
 
   -- a leg that ended before the term adds nothing to it
   kept_before : (n : ℕ) (entry : Entry) (entries : List Entry) (last : State) (opens opens2 : Opens) (closed : Option PlacedLeg) (now later : ℕ) (term : CapTerm) → Closes high d opens opens2 n entry closed → entry.at.0 ≡ now → now ≤ later
@@ -43,15 +44,15 @@ module _ (m : Machine) (d : ℕ) (K : State → Type 0) (tracks : CapTracks m d 
       let starts = kept.0 in (
         omega (arith, starts, le),
         λ plain none. (
-            let times = closes.parts (shared_span term) last entries in
+            let times = closes.parts (span_in term) last entries in
             let lates = closes.parts (late_of_met term) last entries in
             let disturbed = closes.parts (disturbs set term) last entries in
-            let time_none = unmet (shared_span term) (λ placed e. e) closed closes.ended in
+            let time_none = unmet (span_in term) (λ placed e. e) closed closes.ended in
             let follow = kept.1 plain (omega (arith, disturbed, none)) in
             omega (arith, times, lates, time_none, follow)),
       )
     where
-      unmet : (f : PlacedLeg → ℕ) → ((placed : PlacedLeg) → shared_span term placed ≡ 0 → f placed ≡ 0) → (c : Option PlacedLeg) → ((placed : PlacedLeg) → c ≡ Some placed → placed.leg.until ≡ entry.at.0) → over f c ≡ 0
+      unmet : (f : PlacedLeg → ℕ) → ((placed : PlacedLeg) → span_in term placed ≡ 0 → f placed ≡ 0) → (c : Option PlacedLeg) → ((placed : PlacedLeg) → c ≡ Some placed → placed.leg.until ≡ entry.at.0) → over f c ≡ 0
       unmet f none None ended = refl
       unmet f none (Some placed) ended = (let e = ended placed refl in let starts = kept.0 in none placed (omega (arith, e, at, le, starts)))
 
@@ -94,8 +95,8 @@ module _ (m : Machine) (d : ℕ) (K : State → Type 0) (tracks : CapTracks m d 
             let starts = term_starts m d last entries percent2 entry.at.0 (suc n) in
             let here : Kept from.state.now opens2 last (suc n) entries term = (
               omega (arith, starts, at),
-              λ plain none. kept_within m d K tracks set entries next (suc n) opens2 f.stop y.0 percent2 entry.at.0 term.budget term run.1 known2 tracked2 f.within (omega (arith, at, later))
-                  (subst (λ t. budgeted high opens2 f.stop y.0.budget t ≤ term.budget) (sym at) (omega (arith, fits, totals, budget))) has2 refl plain none,
+              λ plain none. kept_within m d K tracks set entries next (suc n) opens2 f.stop y.0 percent2 entry.at.0 term.term.budget term run.1 known2 tracked2 f.within (omega (arith, at, later))
+                  (subst (λ t. budgeted high opens2 f.stop y.0.budget t ≤ term.term.budget) (sym at) (omega (arith, fits, totals, budget))) has2 refl plain none,
             ) in
             (kept_before n entry entries last opens opens2 closed from.state.now from.state.now term closes at (omega arith) here, follow))
         | false ↦ λ begin. follow
@@ -105,13 +106,22 @@ module _ (m : Machine) (d : ℕ) (K : State → Type 0) (tracks : CapTracks m d 
 whole_sum : (high d : ℕ) (f : PlacedLeg → ℕ) (s : State) (entries : List Entry) → rest high d f (λ r. None) s 0 entries ≡ sum_by f (domain_legs s d 0 entries)
 whole_sum high d f s entries = (let none = total_none high (λ r. 0) (λ r low. refl) in omega (arith, none))
 
+-- and over the legs alone
+span_sum : (f : Leg → ℕ) (placed : List PlacedLeg) → sum_by f (spans placed) ≡ sum_by (λ (p : PlacedLeg). f p.leg) placed
+span_sum f [] = refl
+span_sum f (p ∷ placed) =
+    let a = sum_by-cons f p.leg (spans placed) in
+    let b = sum_by-cons (λ (q : PlacedLeg). f q.leg) p placed in
+    let follow = span_sum f placed in
+    omega (arith, a, b, follow)
+
 -- no leg disturbs the term
-none_disturbs : (set : List ℕ) (term : CapTerm) (placed : List PlacedLeg) → list_any (λ leg. meets term leg && is_set_after set term leg) placed ≡ false → sum_by (disturbs set term) placed ≡ 0
+none_disturbs : (set : List ℕ) (term : CapTerm) (placed : List PlacedLeg) → list_any (λ leg. meets term.term leg.leg && is_set_after set term leg) placed ≡ false → sum_by (disturbs set term) placed ≡ 0
 none_disturbs set term [] none = refl
 none_disturbs set term (leg ∷ placed) none =
     let sum = sum_by-cons (disturbs set term) leg placed in
-    let follow = none_disturbs set term placed (or_right (meets term leg && is_set_after set term leg) (list_any (λ leg. meets term leg && is_set_after set term leg) placed) none) in
-    let first : disturbs set term leg ≡ 0 = ap (λ (b : Bool). cond b 1 0) (or_left (meets term leg && is_set_after set term leg) (list_any (λ leg. meets term leg && is_set_after set term leg) placed) none) in
+    let follow = none_disturbs set term placed (or_right (meets term.term leg.leg && is_set_after set term leg) (list_any (λ leg. meets term.term leg.leg && is_set_after set term leg) placed) none) in
+    let first : disturbs set term leg ≡ 0 = ap (λ (b : Bool). cond b 1 0) (or_left (meets term.term leg.leg && is_set_after set term leg) (list_any (λ leg. meets term.term leg.leg && is_set_after set term leg) placed) none) in
     omega (arith, sum, follow, first)
 
 module _ (m : Machine) (d : ℕ) (K : State → Type 0) (tracks : CapTracks m d K) (entries : List Entry) (run : IsRun m entries) where
@@ -137,16 +147,18 @@ module _ (m : Machine) (d : ℕ) (K : State → Type 0) (tracks : CapTracks m d 
       record { stop = λ r. pos 0; within = record { at = at; capped = capped; stops = λ r o is. absurd (cc) }; fits = omega (arith, none, budget) }
 
   -- what is kept of all legs is what the law says
-  keeps : (term : CapTerm) → (term.ends_by_setting ≡ false → disturbed_rest m d K tracks set term nobody last 0 entries ≡ 0 → time_rest m d K tracks set term nobody last 0 entries ≤ term.budget + late_rest m d K tracks set term nobody last 0 entries) → KeepsCap set placed term
+  keeps : (term : CapTerm) → (term.ends_by_setting ≡ false → disturbed_rest m d K tracks set term nobody last 0 entries ≡ 0 → time_rest m d K tracks set term nobody last 0 entries ≤ term.term.budget + late_rest m d K tracks set term nobody last 0 entries) → KeepsCap set placed term
   keeps term kept spoken =
-      let plain : term.ends_by_setting ≡ false = not-true term.ends_by_setting (and_left (not term.ends_by_setting) (not (list_any (λ leg. meets term leg && is_set_after set term leg) placed)) spoken) in
-      let clear = not-true (list_any (λ leg. meets term leg && is_set_after set term leg) placed) (and_right (not term.ends_by_setting) (not (list_any (λ leg. meets term leg && is_set_after set term leg) placed)) spoken) in
+      let plain : term.ends_by_setting ≡ false = not-true term.ends_by_setting (and_left (not term.ends_by_setting) (not (list_any (λ leg. meets term.term leg.leg && is_set_after set term leg) placed)) spoken) in
+      let clear = not-true (list_any (λ leg. meets term.term leg.leg && is_set_after set term leg) placed) (and_right (not term.ends_by_setting) (not (list_any (λ leg. meets term.term leg.leg && is_set_after set term leg) placed)) spoken) in
       let none = none_disturbs set term placed clear in
-      let times = whole_sum (machine_core_count m.config) d (shared_span term) last entries in
+      let times = whole_sum (machine_core_count m.config) d (span_in term) last entries in
       let lates = whole_sum (machine_core_count m.config) d (late_of_met term) last entries in
       let disturbed = whole_sum (machine_core_count m.config) d (disturbs set term) last entries in
       let fits = kept plain (omega (arith, none, disturbed)) in
-      omega (arith, times, lates, fits)
+      let on_all = span_sum (shared_span term.term) placed in
+      let late_all = span_sum (late_in term.term) placed in
+      omega (arith, times, lates, fits, on_all, late_all)
 
   follow_kept : AllByRecursion (KeepsCap set placed) (terms_begun m last d (first_cap m d) 0 entries)
   follow_kept =
@@ -162,7 +174,7 @@ module _ (m : Machine) (d : ℕ) (K : State → Type 0) (tracks : CapTracks m d 
       let totals = ap cap_budget same in
       let term : CapTerm = term_from m last d (first_cap m d) 0 0 entries in
       let budget = term_budget m d last entries (first_cap m d) 0 0 in
-      keeps term (λ plain none. kept_within m d K tracks set entries (begun m) 0 nobody f.stop x.0 (first_cap m d) 0 term.budget term run tracks.opens nobody_tracked f.within (omega arith) (omega (arith, fits, totals, budget)) (λ test none2. none2) refl plain none)
+      keeps term (λ plain none. kept_within m d K tracks set entries (begun m) 0 nobody f.stop x.0 (first_cap m d) 0 term.term.budget term run tracks.opens nobody_tracked f.within (omega arith) (omega (arith, fits, totals, budget)) (λ test none2. none2) refl plain none)
 
   pub law_from_tracks : All (KeepsCap set placed) (cap_terms m last d entries)
   law_from_tracks =

@@ -8,7 +8,7 @@ use Rattle.sched_model.specs.declared.event.Event.TheVariants as event
 use Rattle.sched_model.specs.declared.event.Entry.{Entry}
 use Rattle.sched_model.specs.declared.machine.Machine.{Machine}
 use Rattle.sched_model.specs.declared.state.State.{State}
-use Rattle.term_laws.specs.RtdsTerm.{Leg, late_of, leg_from}
+use Rattle.term_laws.specs.Term.{Leg, late_of, leg_from}
 use Rattle.term_laws.specs.CapTerm.{PlacedLeg, next_decision, taken_for, domain_legs}
 use Rattle.term_laws.proofs.CapTracks.{number_in, decided_for, on_core, EventTracks}
 use Rattle.term_laws.proofs.CoreSums.{total_same, total_changed}

@@ -1,6 +1,6 @@
 -- What an entry within a term does to the budget of a capped domain and to what its running units hold, taken together.
 use Rattle.sched_laws.proofs.Lists.{some_same}
-use Rattle.std.proofs.Common.{◌≡◌, ◌≢◌, ◌≤◌, ◌<◌, ◌+◌, ◌-◌, ℕ, zero, suc, Bool, true, false, refl, arith, ap, subst, sym, ◌∙◌, ◌⊎◌, inl, inr, cond, ◌==◌, nat_lt}
+use Rattle.std.proofs.Common.{◌≡◌, ◌≢◌, ◌≤◌, ◌<◌, ◌+◌, ◌-◌, ℕ, suc, Bool, true, false, refl, arith, ap, subst, sym, ◌∙◌, ◌⊎◌, inl, inr, cond, ◌==◌, nat_lt}
 use Rattle.std.specs.Prelude.{Option, Some, None, option_map, max, is_some, ◌||◌, ℤ, pos, ◌+ℤ◌, ◌-ℤ◌, ◌≤ℤ◌}
 use Rattle.std.proofs.Math.Decide.{ℕ_discrete}
 use Rattle.std.proofs.lemmas.Int.{ints}
@@ -16,10 +16,10 @@ use Rattle.sched_model.specs.declared.state.Credit2Unit.{Credit2Unit}
 use Rattle.sched_model.specs.declared.state.Credit2Domain.{Credit2Domain}
 use Rattle.sched_model.specs.Opening.{machine_core_count}
 use Rattle.sched_model.specs.Pool.{lateness}
-use Rattle.term_laws.specs.RtdsTerm.{core_in, late_now, moves}
+use Rattle.term_laws.specs.Term.{core_in, late_now, moves}
 use Rattle.term_laws.specs.CapTerm.{PlacedLeg, cap_set, refills, ends_term, cap_after, credit2_in}
 use Rattle.term_laws.proofs.CapTracks.{cap_at, decided_for, on_core, due_at, Stops, HasLeft, Decides, EventTracks, CapTracks}
-use Rattle.term_laws.proofs.CoreSums.{total_same, total_changed, above_rises, given_back, given_now}
+use Rattle.term_laws.proofs.CoreSums.{counts_or_not, total_same, total_changed, above_rises, given_back, given_now}
 use Rattle.sched_laws.specs.Counts.{over, total_over}
 use Rattle.term_laws.proofs.CapLegs.{OpenLeg, Opens, opens_after, closed_at, begun_at, DecidesNone, DecidesOne, decides, Tracked, Closes, closes_none, closes_one, late_is}
 
@@ -98,9 +98,6 @@ pub record InTerm (cores d n : ℕ) (entry : Entry) (s s2 : State) (x : Credit2D
   pub within : Within s2 d record_after (opens_after d n entry opens) stop_after
   pub same_cap : record_after.cap ≡ x.cap
   pub pays : (t0 : ℕ) → t0 ≤ s.now → budgeted cores (opens_after d n entry opens) stop_after record_after.budget t0 + over (part t0) closed ≤ budgeted cores opens stop x.budget t0 + over (late_part t0) closed
-
-late_part_is : (t0 : ℕ) (placed : PlacedLeg) → (part t0 placed ≡ 0) ⊎ (late_part t0 placed ≡ placed.leg.late)
-late_part_is t0 placed = elim (part t0 placed) as (λ k. (k ≡ 0) ⊎ (cond (nat_lt 0 k) placed.leg.late 0 ≡ placed.leg.late)) [ zero ↦ inl refl | suc k ↦ inr (let e : nat_lt 0 (suc k) ≡ true = grind arith in ap (λ (b : Bool). cond b placed.leg.late 0) e) ]
 
 module _ (m : Machine) (d : ℕ) (K : State → Type 0) (tracks : CapTracks m d K) where
   abbrev cores : ℕ
@@ -229,13 +226,14 @@ module _ (m : Machine) (d : ℕ) (K : State → Type 0) (tracks : CapTracks m d 
             let late = (step.decides r0 one.late one.is_late).0 in
             let enough = late_enough s x r0 o.unit (stop r0) known within.at within.capped on stops in
             let closed : PlacedLeg = closed_at entry.at.0 one.late n o in
-            elim (late_part_is t0 closed) [
+            elim (counts_or_not (part t0 closed) one.late) [
               | inl short ↦ (
                   let pays = given_now x.budget decided.given (stop r0) s.now (max o.from t0) gives (omega (arith, short, begun, le, at)) in
                   omega (arith, pays, short))
               | inr counts ↦ (
                   let pays = given_back x.budget decided.given (stop r0) s.now (max o.from t0) one.late gives (omega (arith, begun, le)) (omega (arith, ints, enough, late)) in
-                  omega (arith, pays, counts, at))
+                  let late_is = counts.1 in
+                  omega (arith, pays, late_is, at))
             ]
 
         pub in_term_decides : InTerm cores d n entry s s2 x opens stop (option_map (closed_at entry.at.0 one.late n) (opens r0))

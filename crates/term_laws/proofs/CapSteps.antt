@@ -1,6 +1,6 @@
 -- What each entry of a run does to a domain's cap is as the law wants it.
-use Rattle.std.proofs.Common.{◌≡◌, ◌<◌, ℕ, suc, true, length, refl, arith, subst, sym, ◌∙◌}
-use Rattle.std.specs.Prelude.{Option, Some, None}
+use Rattle.std.proofs.Common.{◌≡◌, ◌<◌, ℕ, suc, true, length, refl, arith, sym, ◌∙◌}
+use Rattle.std.specs.Prelude.{Some}
 use Rattle.std.proofs.Math.Decide.{dec_le}
 use Rattle.sched_model.specs.declared.action.Action.{Action}
 use Rattle.sched_model.specs.declared.action.Action.TheVariants.{Decide}
@@ -11,10 +11,10 @@ use Rattle.sched_model.specs.declared.state.State.{State}
 use Rattle.sched_model.specs.CheckedMachine.{IsChecked}
 use Rattle.sched_model.specs.Opening.{machine_core_count}
 use Rattle.sched_model.specs.Machine.{is_action_enabled, event_of, after}
-use Rattle.sched_model.specs.Runs.{Reached, event_action, named_next_moment, after_quiet, after_event, after_entry, IsNext, IsNextEvent}
-use Rattle.term_laws.specs.RtdsTerm.{late_of, late_now}
+use Rattle.sched_model.specs.Runs.{Reached, after_entry, IsNext}
+use Rattle.term_laws.specs.Term.{late_of, late_now}
 use Rattle.term_laws.proofs.Deciding.{decides}
-use Rattle.term_laws.proofs.ReachedStates.{IsReached, reached_opening, reached_next}
+use Rattle.term_laws.proofs.ReachedStates.{IsReached, reached_opening, reached_next, by_action}
 use Rattle.term_laws.proofs.CapTracks.{CapTracks, on_core, decided_for}
 use Rattle.term_laws.proofs.StepsState.{stands, HomeOf, home_here, on_is, on_one, on_low}
 use Rattle.term_laws.proofs.StepsHolds.{StateHolds, StepGives}
@@ -61,17 +61,10 @@ module _ (m : Machine) (checked : IsChecked m) (d : ℕ) where
 
   -- an entry
   entry_gives : (from : Reached) (entry : Entry) → IsNext m from entry → K m d from.state → All from.state entry.event (after_entry m from entry).state
-  entry_gives from entry next k = go (event_action entry.event) refl next.event
-    where
-      go_quiet : (end : Option ℕ) → event_action entry.event ≡ None → All from.state entry.event (after_quiet end from).state
-      go_quiet None is = record { tracks = still_tracks m d entry.event from.state from.state (quiet_none m d entry.event is) (λ r. refl) refl; holds = k.holds }
-      go_quiet (Some n) is = record { tracks = still_tracks m d entry.event from.state (record from.state { now = n }) (quiet_none m d entry.event is) (λ r. refl) refl; holds = k.holds }
-
-      go : (o : Option Action) → event_action entry.event ≡ o → IsNextEvent m from.state entry.event o → All from.state entry.event (after_event m entry.event o from).state
-      go None is ev = go_quiet (named_next_moment entry.event) is
-      go (Some action) is ev =
-          subst (λ (e : Event). All from.state e (after m from.state from.state.now action)) (sym ev.1)
-          (gives from.state action k.reached (subst (λ (o : Option Action). IsReached m (after_event m entry.event o from).state) is (reached_next m from entry next k.reached)) ev.0 k.holds)
+  entry_gives from entry next k = by_action m (λ s e s2. StateHolds d s → All s e s2)
+      (λ s e is holds. record { tracks = still_tracks m d e s s (quiet_none m d e is) (λ r. refl) refl; holds = holds })
+      (λ s e n is holds. record { tracks = still_tracks m d e s (record s { now = n }) (quiet_none m d e is) (λ r. refl) refl; holds = holds })
+      (λ s action r r2 on holds. gives s action r r2 on holds) from entry next k.reached k.holds
 
   -- no core has a unit of a number that is of no domain
   by_home : (s : State) → K m d s → (Q : Type 0) (r n : ℕ) → on_core s d r ≡ Some n → (HomeOf d s → Q) → Q

@@ -14,7 +14,7 @@ use Rattle.sched_model.specs.declared.state.Credit2Domain.{Credit2Domain}
 use Rattle.sched_model.specs.Credit2.{running_budget}
 use Rattle.sched_model.specs.Opening.{opening, machine_core_count}
 use Rattle.sched_model.specs.Runs.{Reached, IsNext, after_entry}
-use Rattle.term_laws.specs.RtdsTerm.{core_in, late_now, late_of, moves}
+use Rattle.term_laws.specs.Term.{core_in, late_now, late_of, moves}
 use Rattle.term_laws.specs.CapTerm.{cap_set, refills, ends_term, cap_after, credit2_in}
 
 -- the domain's cap, or 0 where it is in no Credit2 pool

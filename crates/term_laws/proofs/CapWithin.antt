@@ -10,45 +10,45 @@ use Rattle.sched_model.specs.declared.state.State.{State}
 use Rattle.sched_model.specs.declared.state.Credit2Domain.{Credit2Domain}
 use Rattle.sched_model.specs.Opening.{machine_core_count}
 use Rattle.sched_model.specs.Runs.{Reached, IsRunFrom, after_entry, after_entries}
-use Rattle.term_laws.specs.RtdsTerm.{moves}
+use Rattle.term_laws.specs.Term.{moves, meets}
 use Rattle.term_laws.proofs.Time.{time_goes_on}
-use Rattle.term_laws.specs.CapTerm.{PlacedLeg, CapTerm, next_decision, cap_set, refills, ends_term, term_from, credit2_in, shared_span, meets, is_set_after}
+use Rattle.term_laws.specs.CapTerm.{PlacedLeg, CapTerm, next_decision, cap_set, refills, ends_term, term_from, credit2_in, is_set_after}
 use Rattle.term_laws.proofs.CapTracks.{cap_at, on_core, Stops, CapTracks}
 use Rattle.term_laws.proofs.CoreSums.{total_same, total_one}
 use Rattle.sched_laws.specs.Counts.{over, total_over}
 use Rattle.term_laws.proofs.CapLegs.{OpenLeg, Opens, to_close, rest, opens_after, DecidesNone, decides, Tracked, closes_none, tracked_after, late_is}
 use Rattle.term_laws.proofs.CapStep.{left_over, budgeted, part, late_part, Within, closed_by, closes_here, in_term, cap_there, cap_of, cap_stays}
-use Rattle.term_laws.proofs.CapEnd.{late_of_met, disturbs, later_none, EndsLate, open_fits, Calm, calm_by, HasSettings, settings_follow, ends_late, some_clash}
+use Rattle.term_laws.proofs.CapEnd.{span_in, late_of_met, disturbs, later_none, EndsLate, open_fits, Calm, calm_by, HasSettings, settings_follow, ends_late, some_clash}
 use Rattle.sched_laws.proofs.Lists.{none_without}
 use Rattle.sched_base.specs.Numbers.{one_if}
 
 -- a term begins where it is said to, and does not end before the moment from which it is followed
-pub term_starts : (m : Machine) (d : ℕ) (s : State) (entries : List Entry) (percent t0 n : ℕ) → (term_from m s d percent t0 n entries).from ≡ t0
+pub term_starts : (m : Machine) (d : ℕ) (s : State) (entries : List Entry) (percent t0 n : ℕ) → (term_from m s d percent t0 n entries).term.from ≡ t0
 term_starts m d s [] percent t0 n = refl
 term_starts m d s (entry ∷ entries) percent t0 n =
     elim (ends_term m d entry.event) as (λ b. (elim b as (λ _. CapTerm) [
-      | true ↦ record { from = t0; until = entry.at.0; budget = cap_budget percent; last = n; ends_by_setting = is_some (cap_set m d entry.event) }
+      | true ↦ record { term = record { from = t0; until = entry.at.0; budget = cap_budget percent }; last = n; ends_by_setting = is_some (cap_set m d entry.event) }
       | false ↦ term_from m s d percent t0 (suc n) entries
-    ]).from ≡ t0) [ true ↦ refl | false ↦ term_starts m d s entries percent t0 (suc n) ]
+    ]).term.from ≡ t0) [ true ↦ refl | false ↦ term_starts m d s entries percent t0 (suc n) ]
 
-pub term_budget : (m : Machine) (d : ℕ) (s : State) (entries : List Entry) (percent t0 n : ℕ) → (term_from m s d percent t0 n entries).budget ≡ cap_budget percent
+pub term_budget : (m : Machine) (d : ℕ) (s : State) (entries : List Entry) (percent t0 n : ℕ) → (term_from m s d percent t0 n entries).term.budget ≡ cap_budget percent
 term_budget m d s [] percent t0 n = refl
 term_budget m d s (entry ∷ entries) percent t0 n =
     elim (ends_term m d entry.event) as (λ b. (elim b as (λ _. CapTerm) [
-      | true ↦ record { from = t0; until = entry.at.0; budget = cap_budget percent; last = n; ends_by_setting = is_some (cap_set m d entry.event) }
+      | true ↦ record { term = record { from = t0; until = entry.at.0; budget = cap_budget percent }; last = n; ends_by_setting = is_some (cap_set m d entry.event) }
       | false ↦ term_from m s d percent t0 (suc n) entries
-    ]).budget ≡ cap_budget percent) [ true ↦ refl | false ↦ term_budget m d s entries percent t0 (suc n) ]
+    ]).term.budget ≡ cap_budget percent) [ true ↦ refl | false ↦ term_budget m d s entries percent t0 (suc n) ]
 
-term_lasts : (m : Machine) (d : ℕ) (entries : List Entry) (from : Reached) (percent t0 n : ℕ) → IsRunFrom m from entries → from.state.now ≤ (term_from m (after_entries m from entries).state d percent t0 n entries).until
+term_lasts : (m : Machine) (d : ℕ) (entries : List Entry) (from : Reached) (percent t0 n : ℕ) → IsRunFrom m from entries → from.state.now ≤ (term_from m (after_entries m from entries).state d percent t0 n entries).term.until
 term_lasts m d [] from percent t0 n run = omega arith
 term_lasts m d (entry ∷ entries) from percent t0 n run =
     let moment_is = run.0.moment in
     let later = time_goes_on m from entry run.0 in
     let follow = term_lasts m d entries (after_entry m from entry) percent t0 (suc n) run.1 in
     elim (ends_term m d entry.event) as (λ b. from.state.now ≤ (elim b as (λ _. CapTerm) [
-      | true ↦ record { from = t0; until = entry.at.0; budget = cap_budget percent; last = n; ends_by_setting = is_some (cap_set m d entry.event) }
+      | true ↦ record { term = record { from = t0; until = entry.at.0; budget = cap_budget percent }; last = n; ends_by_setting = is_some (cap_set m d entry.event) }
       | false ↦ term_from m (after_entries m from (entry ∷ entries)).state d percent t0 (suc n) entries
-    ]).until) [ true ↦ omega (arith, moment_is) | false ↦ omega (arith, later, follow) ]
+    ]).term.until) [ true ↦ omega (arith, moment_is) | false ↦ omega (arith, later, follow) ]
 
 -- an event that ends a term decides for no core
 pub refill_quiet : (d : ℕ) (e : Event) → refills d e ≡ true → DecidesNone d e
@@ -81,7 +81,7 @@ module _ (m : Machine) (d : ℕ) (K : State → Type 0) (tracks : CapTracks m d 
 
   -- the sums over the open legs and those that follow
   abbrev pub time_rest : CapTerm → Opens → State → ℕ → List Entry → ℕ
-  time_rest term opens s n entries = rest high d (shared_span term) opens s n entries
+  time_rest term opens s n entries = rest high d (span_in term) opens s n entries
 
   abbrev pub late_rest : CapTerm → Opens → State → ℕ → List Entry → ℕ
   late_rest term opens s n entries = rest high d (late_of_met term) opens s n entries
@@ -90,9 +90,9 @@ module _ (m : Machine) (d : ℕ) (K : State → Type 0) (tracks : CapTracks m d 
   disturbed_rest term opens s n entries = rest high d (disturbs set term) opens s n entries
 
   -- a leg that is not disturbed by a setting of the cap
-  undisturbed : (term : CapTerm) (placed : PlacedLeg) → disturbs set term placed ≡ 0 → 0 < shared_span term placed → is_set_after set term placed ≡ false
+  undisturbed : (term : CapTerm) (placed : PlacedLeg) → disturbs set term placed ≡ 0 → 0 < span_in term placed → is_set_after set term placed ≡ false
   undisturbed term placed none met =
-      let is_met : meets term placed ≡ true = grind (arith, met) in
+      let is_met : meets term.term placed.leg ≡ true = grind (arith, met) in
       go (is_set_after set term placed) refl (sym (ap (λ (b : Bool). one_if (b && is_set_after set term placed)) is_met) ∙ none)
     where
       go : (b : Bool) → is_set_after set term placed ≡ b → one_if b ≡ 0 → is_set_after set term placed ≡ false
@@ -102,14 +102,14 @@ module _ (m : Machine) (d : ℕ) (K : State → Type 0) (tracks : CapTracks m d 
   -- a term that is over: its open legs end late enough
   over_fits : (entries : List Entry) (from : Reached) (n : ℕ) (opens : Opens) (stop : ℕ → ℤ) (term : CapTerm) (allowed : ℕ) → IsRunFrom m from entries → K from.state → Tracked d opens n from.state
       → ((r : ℕ) (o : OpenLeg) → opens r ≡ Some o → (x : Credit2Domain) × (credit2_in from.state d ≡ Some x) × (0 < x.cap) × Stops x o.unit (stop r))
-      → term.until ≤ from.state.now → (entries ≡ [] ⊎ (term.last < n)) → HasSettings m d set n entries
-      → total_over high (left_over opens stop term.from) ≤ allowed → disturbed_rest term opens (after_entries m from entries).state n entries ≡ 0
+      → term.term.until ≤ from.state.now → (entries ≡ [] ⊎ (term.last < n)) → HasSettings m d set n entries
+      → total_over high (left_over opens stop term.term.from) ≤ allowed → disturbed_rest term opens (after_entries m from entries).state n entries ≡ 0
       → time_rest term opens (after_entries m from entries).state n entries ≤ allowed + late_rest term opens (after_entries m from entries).state n entries
   over_fits entries from n opens stop term allowed run known tracked runs over_it past has few none =
       open_fits high d term opens stop (after_entries m from entries).state n allowed entries few ends
-      (later_none m d term.until (shared_span term) (λ placed starts. omega (arith, starts)) entries from (after_entries m from entries).state n run over_it)
+      (later_none m d term.term.until (span_in term) (λ placed starts. omega (arith, starts)) entries from (after_entries m from entries).state n run over_it)
     where
-      calm : (r : ℕ) (o : OpenLeg) → opens r ≡ Some o → 0 < shared_span term (to_close (after_entries m from entries).state r n entries o) → (entries ≡ [] ⊎ (term.last < n)) → Calm m d r entries
+      calm : (r : ℕ) (o : OpenLeg) → opens r ≡ Some o → 0 < span_in term (to_close (after_entries m from entries).state r n entries o) → (entries ≡ [] ⊎ (term.last < n)) → Calm m d r entries
       calm r o is met (inl empty) = subst (Calm m d r) (sym empty) tt
       calm r o is met (inr later) =
           let placed : PlacedLeg = to_close (after_entries m from entries).state r n entries o in
@@ -127,12 +127,12 @@ module _ (m : Machine) (d : ℕ) (K : State → Type 0) (tracks : CapTracks m d 
           (omega (arith, over_it, low), late.1)
 
   -- the leg that ends with an entry within the term
-  closed_counts : (t0 t : ℕ) (term : CapTerm) (closed : Option PlacedLeg) → term.from ≡ t0 → t ≤ term.until → ((placed : PlacedLeg) → closed ≡ Some placed → placed.leg.until ≡ t)
-      → (over (shared_span term) closed ≡ over (part t0) closed) × (over (late_of_met term) closed ≡ over (late_part t0) closed)
+  closed_counts : (t0 t : ℕ) (term : CapTerm) (closed : Option PlacedLeg) → term.term.from ≡ t0 → t ≤ term.term.until → ((placed : PlacedLeg) → closed ≡ Some placed → placed.leg.until ≡ t)
+      → (over (span_in term) closed ≡ over (part t0) closed) × (over (late_of_met term) closed ≡ over (late_part t0) closed)
   closed_counts t0 t term closed starts lasts ended =
-      (over_none (shared_span term) (part t0) closed same, over_none (late_of_met term) (late_part t0) closed (λ placed is. ap (λ (k : ℕ). cond (nat_lt 0 k) placed.leg.late 0) (same placed is)))
+      (over_none (span_in term) (part t0) closed same, over_none (late_of_met term) (late_part t0) closed (λ placed is. ap (λ (k : ℕ). cond (nat_lt 0 k) placed.leg.late 0) (same placed is)))
     where
-      same : (placed : PlacedLeg) → closed ≡ Some placed → shared_span term placed ≡ part t0 placed
+      same : (placed : PlacedLeg) → closed ≡ Some placed → span_in term placed ≡ part t0 placed
       same placed is = (let e = ended placed is in omega (arith, e, starts, lasts))
 
   pub kept_within : (entries : List Entry) (from : Reached) (n : ℕ) (opens : Opens) (stop : ℕ → ℤ) (x : Credit2Domain) (percent t0 allowed : ℕ) (term : CapTerm) → IsRunFrom m from entries → K from.state → Tracked d opens n from.state → Within from.state d x opens stop
@@ -140,8 +140,8 @@ module _ (m : Machine) (d : ℕ) (K : State → Type 0) (tracks : CapTracks m d 
       → term_from m (after_entries m from entries).state d percent t0 n entries ≡ term → term.ends_by_setting ≡ false → disturbed_rest term opens (after_entries m from entries).state n entries ≡ 0
       → time_rest term opens (after_entries m from entries).state n entries ≤ allowed + late_rest term opens (after_entries m from entries).state n entries
   kept_within [] from n opens stop x percent t0 allowed term run known tracked within begun few has is plain none =
-      let starts : term.from ≡ t0 = sym (ap (λ (z : CapTerm). z.from) is) in
-      let until : term.until ≡ from.state.now = sym (ap (λ (z : CapTerm). z.until) is) in
+      let starts : term.term.from ≡ t0 = sym (ap (λ (z : CapTerm). z.term.from) is) in
+      let until : term.term.until ≡ from.state.now = sym (ap (λ (z : CapTerm). z.term.until) is) in
       over_fits [] from n opens stop term allowed run known tracked (λ r o there. (x, within.at, within.capped, within.stops r o there)) (omega (arith, until)) (inl refl) has
       (subst (λ t. total_over high (left_over opens stop t) ≤ allowed) (sym starts) (omega (arith, few))) none
   kept_within (entry ∷ entries) from n opens stop x percent t0 allowed term run known tracked within begun few has is plain none =
@@ -159,17 +159,17 @@ module _ (m : Machine) (d : ℕ) (K : State → Type 0) (tracks : CapTracks m d 
             let last : State = (after_entries m next entries).state in
             let closed : Option PlacedLeg = closed_by d n entry opens (decides d entry.event) in
             let is2 : term_from m last d percent t0 (suc n) entries ≡ term = sym (ap (λ (b : Bool). elim b as (λ _. CapTerm) [
-              | true ↦ record { from = t0; until = entry.at.0; budget = cap_budget percent; last = n; ends_by_setting = is_some (cap_set m d entry.event) }
+              | true ↦ record { term = record { from = t0; until = entry.at.0; budget = cap_budget percent }; last = n; ends_by_setting = is_some (cap_set m d entry.event) }
               | false ↦ term_from m last d percent t0 (suc n) entries
             ]) stays) ∙ is in
-            let starts : term.from ≡ t0 = sym (ap (λ (z : CapTerm). z.from) is2) ∙ term_starts m d last entries percent t0 (suc n) in
-            let until : (term_from m last d percent t0 (suc n) entries).until ≡ term.until = ap (λ (z : CapTerm). z.until) is2 in
+            let starts : term.term.from ≡ t0 = sym (ap (λ (z : CapTerm). z.term.from) is2) ∙ term_starts m d last entries percent t0 (suc n) in
+            let until : (term_from m last d percent t0 (suc n) entries).term.until ≡ term.term.until = ap (λ (z : CapTerm). z.term.until) is2 in
             let lasts = term_lasts m d entries next percent t0 (suc n) run.1 in
             let counts = closed_counts t0 entry.at.0 term closed starts (omega (arith, at, later, lasts, until)) closes.ended in
             let time_counts = counts.0 in
             let late_counts = counts.1 in
             let pays = goes.pays t0 begun in
-            let times = closes.parts (shared_span term) last entries in
+            let times = closes.parts (span_in term) last entries in
             let lates = closes.parts (late_of_met term) last entries in
             let disturbed = closes.parts (disturbs set term) last entries in
             let follow = kept_within entries next (suc n) (opens_after d n entry opens) goes.stop_after goes.record_after percent t0 (allowed + over (late_part t0) closed - over (part t0) closed) term run.1 known2 tracked2 goes.within
@@ -186,17 +186,17 @@ module _ (m : Machine) (d : ℕ) (K : State → Type 0) (tracks : CapTracks m d 
           let later = time_goes_on m from entry run.0 in
           let tracked2 = tracked_after m d n opens entry from.state next.state at later step tracked in
           let last : State = (after_entries m next entries).state in
-          let is2 : record { from = t0; until = entry.at.0; budget = cap_budget percent; last = n; ends_by_setting = is_some (cap_set m d entry.event) } ≡ term = sym (ap (λ (b : Bool). elim b as (λ _. CapTerm) [
-            | true ↦ record { from = t0; until = entry.at.0; budget = cap_budget percent; last = n; ends_by_setting = is_some (cap_set m d entry.event) }
+          let is2 : record { term = record { from = t0; until = entry.at.0; budget = cap_budget percent }; last = n; ends_by_setting = is_some (cap_set m d entry.event) } ≡ term = sym (ap (λ (b : Bool). elim b as (λ _. CapTerm) [
+            | true ↦ record { term = record { from = t0; until = entry.at.0; budget = cap_budget percent }; last = n; ends_by_setting = is_some (cap_set m d entry.event) }
             | false ↦ term_from m last d percent t0 (suc n) entries
           ]) ends) ∙ is in
-          let starts : t0 ≡ term.from = ap (λ (z : CapTerm). z.from) is2 in
-          let until : entry.at.0 ≡ term.until = ap (λ (z : CapTerm). z.until) is2 in
+          let starts : t0 ≡ term.term.from = ap (λ (z : CapTerm). z.term.from) is2 in
+          let until : entry.at.0 ≡ term.term.until = ap (λ (z : CapTerm). z.term.until) is2 in
           let last_is : n ≡ term.last = ap (λ (z : CapTerm). z.last) is2 in
           let not_set : cap_set m d entry.event ≡ None = none_without (cap_set m d entry.event) (ap (λ (z : CapTerm). z.ends_by_setting) is2 ∙ plain) in
           let by = ends_by m d entry.event ends not_set in
           let closes = closes_none high d n entry opens by.0 in
-          let times = closes.parts (shared_span term) last entries in
+          let times = closes.parts (span_in term) last entries in
           let lates = closes.parts (late_of_met term) last entries in
           let disturbed = closes.parts (disturbs set term) last entries in
           let unchanged : (r : ℕ) → opens_after d n entry opens r ≡ opens r = λ r. late_is d n entry opens r None (by.0.none r) in

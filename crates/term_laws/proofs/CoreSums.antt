@@ -1,5 +1,5 @@
 -- Sums over the cores, and numbers above and below 0.
-use Rattle.std.proofs.Common.{◌≡◌, ◌≢◌, ◌≤◌, ◌<◌, ◌+◌, ◌-◌, ℕ, zero, suc, refl, arith, ap, ◌⊎◌, inl, inr}
+use Rattle.std.proofs.Common.{◌≡◌, ◌≢◌, ◌≤◌, ◌<◌, ◌+◌, ◌-◌, ℕ, zero, suc, refl, arith, ap, ◌⊎◌, inl, inr, Bool, true, cond, nat_lt}
 use Rattle.std.specs.Prelude.{ℤ, pos, negsuc, ◌+ℤ◌, ◌-ℤ◌, ◌≤ℤ◌}
 use Rattle.std.proofs.Math.Decide.{ℕ_discrete}
 use Rattle.std.proofs.lemmas.Int.{ints}
@@ -51,6 +51,11 @@ total_changed (suc n) i f g same high =
           let b = same n ne in
           omega (arith, a, b))
     ]
+
+-- a span is 0, or what was late of it counts
+pub counts_or_not : (span late : ℕ) → (span ≡ 0) ⊎ ((0 < span) × (cond (nat_lt 0 span) late 0 ≡ late))
+counts_or_not zero late = inl refl
+counts_or_not (suc n) late = inr (omega arith, (let e : nat_lt 0 (suc n) ≡ true = grind arith in ap (λ (b : Bool). cond b late 0) e))
 
 -- a number is not above 0, or it is what is above 0 of it
 pub above : (z : ℤ) → ((positive_part z ≡ 0) × (z ≤ℤ pos 0)) ⊎ (z ≡ pos (positive_part z))

@@ -1,13 +1,10 @@
--- A domain moves to another pool: what becomes of a unit.
+-- A domain moves to another pool: what the cores keep, and none of its units is on one.
 use Rattle.sched_base.specs.Numbers.{domain as domain_number}
-use Rattle.std.proofs.Common.{◌≡◌, ◌≢◌, ◌<◌, ◌+◌, ℕ, Bool, true, false, List, length, refl, ap, subst, sym, ◌∙◌, inl, inr}
-use Rattle.std.specs.Prelude.{Option, Some, None, option_map, is_some, ◌==◌, ◌||◌}
+use Rattle.std.proofs.Common.{◌≡◌, ◌+◌, ℕ, Bool, true, false, List, refl, ap, subst, sym, ◌∙◌}
+use Rattle.std.specs.Prelude.{Option, Some, None, option_map, is_some, ◌||◌}
 use Rattle.std.specs.List.{list_any}
 use Rattle.std.proofs.Math.Decide.{ℕ_discrete}
-use Rattle.sched_base.specs.declared.Moment.{Moment}
-use Rattle.sched_base.specs.declared.UnitId.{UnitId}
 use Rattle.sched_model.specs.declared.action.Action.TheVariants.{DomMoved}
-use Rattle.sched_model.specs.declared.event.Entry.{Entry}
 use Rattle.sched_model.specs.declared.machine.Machine.{Machine}
 use Rattle.sched_model.specs.declared.state.State.{State}
 use Rattle.sched_model.specs.declared.state.Pool.{Pool}
@@ -17,26 +14,15 @@ use Rattle.sched_model.specs.Places.{at_place, test_at, change_at, numbered_item
 use Rattle.sched_model.specs.Pool.{settled_pool, pool_without_domain, pool_with_domain, is_domain_unit, reconsidered_core, pool_core_set}
 use Rattle.sched_model.specs.Policy.{standard_dom_params}
 use Rattle.sched_model.specs.Actions.{home_pool_of_domain, change_pool}
-use Rattle.sched_model.specs.Machine.{after, event_of, after_dom_moved, left_by, joined_by, is_null_pool}
+use Rattle.sched_model.specs.Machine.{after_dom_moved, left_by, joined_by, is_null_pool}
 use Rattle.sched_laws.proofs.EachPlace.{by_option, by_cond, at_place-change_each}
 use Rattle.sched_base.proofs.Bools.{and_left, and_right, or_left}
-use Rattle.sched_laws.proofs.Lists.{test_at-some, some-test_at, none_passes, at_numbered}
-use Rattle.sched_laws.specs.PoolFacts.{IsThere}
+use Rattle.sched_laws.proofs.Lists.{some-test_at, none_passes, at_numbered}
 use Rattle.sched_laws.proofs.Opened.{with_domain-resources}
-use Rattle.term_laws.specs.RtdsTerm.{moves}
-use Rattle.term_laws.proofs.SamePool.{cur_in}
-use Rattle.term_laws.proofs.TermPool.{OffPool, OnPool}
-use Rattle.term_laws.proofs.RtdsSteps.{at_place-change_at, at_place-change_at_other}
-use Rattle.std.specs.Option.{IfSome}
-use Rattle.std.proofs.lemmas.Bool.{eq-eqb, ne_eqb, not-true}
-use Rattle.term_laws.proofs.TermState.{PoolHas, WithinTerm, one_home}
-use Rattle.term_laws.proofs.TermSums.{StepOff, StepOn}
-use Rattle.term_laws.proofs.TermsOfRuns.{TrackOff, TrackOn}
-use Rattle.term_laws.proofs.Track.{OffHome, OnHome}
-use Rattle.term_laws.proofs.ReachedStates.{Known}
-use Rattle.term_laws.proofs.ActsIn.{IsStable, ActsIn, home_pools_same, moved_after}
-use Rattle.term_laws.proofs.Beginning.{home_pool_of}
-use Rattle.term_laws.proofs.Deciding.{Tracks, OverPool, off_home_stable, on_home_stable, off_pool_stable, on_pool_stable, over_stable, cur_core, cur_of_seen_unit}
+use Rattle.term_laws.proofs.Same.{cur_in}
+use Rattle.term_laws.proofs.AtPlaces.{at_place-change_at, at_place-change_at_other}
+use Rattle.std.proofs.lemmas.Bool.{not-true}
+use Rattle.term_laws.proofs.ActsIn.{ActsIn}
 
 -- the cores of a pool keep their units
 abbrev pub CoresKeep : (Pool → Pool) → Type 0
@@ -100,86 +86,3 @@ mover_off m s d a r c at =
     let none = at_numbered (λ (x : Resource). (is_domain_unit d x.cur || is_domain_unit d x.saving) ≡ false) 0 a.pool.resources
     (none_passes passes (numbered_items 0 a.pool.resources) (not-true (list_any passes (numbered_items 0 a.pool.resources)) (and_right (test_at a.pool.domains d (λ domain. is_some domain.moving)) _ a.enabled))) in
     or_left (is_domain_unit d c.cur) (is_domain_unit d c.saving) (none r c at)
-
-module _ (m : Machine) (u : UnitId) (s : State) (d : ℕ) (k : Known m s) (a : ActsIn m s s.now (DomMoved (domain_number d))) (at : Moment) where
-  abbrev pub moved_entry : Entry
-  moved_entry = record { at = at; event = event_of m s s.now (DomMoved (domain_number d)) }
-
-  abbrev pub moved_next : State
-  moved_next = after m s s.now (DomMoved (domain_number d))
-
-  -- the pool has the domain
-  has_domain : d ≡ u.dom.0 → test_at a.pool.domains u.dom.0 (λ x. true) ≡ true
-  has_domain e = (let x = mover m s d a in subst (λ n. test_at a.pool.domains n (λ x. true) ≡ true) e (test_at-some a.pool.domains d (λ x. true) x.0 x.1 refl))
-
-  -- no core of it has a unit of the domain
-  nobody : d ≡ u.dom.0 → (r : ℕ) → cur_in (at_place a.pool.resources r) ≡ Some u → ⊥
-  nobody e r is =
-      let c = cur_core (at_place a.pool.resources r) u is in
-      let off : is_domain_unit d (Some u) ≡ false = subst (λ o. is_domain_unit d o ≡ false) c.2 (mover_off m s d a r c.0 c.1) in
-      let on : (u.dom.0 == d) ≡ true = eq-eqb u.dom.0 d (sym e) in
-      cc
-
-  -- so a unit of the domain is on no core
-  not_on : (Q : Pool → Type 0) → IsStable u Q → (r : ℕ) → ((p : Pool) → Q p → cur_in (at_place p.resources r) ≡ Some u) → d ≡ u.dom.0 → PoolHas Q s → ⊥
-  not_on Q stable r on e w =
-      let same = home_pools_same s w.home a.j w.pool a.pool w.at a.at (one_home s w.home a.j w.pool a.pool u.dom.0 k.apart w.at a.at (stable.there w.pool w.has) (has_domain e)) in
-      nobody e r (subst (λ (p : Pool). cur_in (at_place p.resources r) ≡ Some u) same (on w.pool w.has))
-
-  moves_no : d ≢ u.dom.0 → moves u.dom.0 (event_of m s s.now (DomMoved (domain_number d))) ≡ false
-  moves_no ne = ne_eqb d u.dom.0 ne
-
-  moves_yes : d ≡ u.dom.0 → moves u.dom.0 (event_of m s s.now (DomMoved (domain_number d))) ≡ true
-  moves_yes e = eq-eqb d u.dom.0 e
-
-  -- the unit's domain has a home after it too, where the unit is on no core
-  off_moved : (low : u.dom.0 < length m.config.domains) → Known m moved_next → d ≡ u.dom.0 → Tracks u None s → Tracks u None moved_next
-  off_moved low k2 e w =
-      let h = k2.housed.domains u.dom.0 low in
-      let p = home_pool_of (at_place moved_next.pools h.0) u.dom.0 h.1 in
-      record {
-        home = h.0;
-        pool = p.0;
-        at = p.1;
-        has = record {
-          there = p.2;
-          none = λ r is. (
-              let came = came_moved m.config.granularity s.now d s h.0 p.0 p.1 in
-              let is2 : cur_in (at_place came.0.resources r) ≡ Some u = sym (came.2 r) ∙ is in
-              let c = cur_core (at_place came.0.resources r) u is2 in
-              let own = ((k.own h.0 came.0 came.1).cores r c.0 c.1).cur in
-              let there : IsThere came.0.domains u = subst (λ o. IfSome o (IsThere came.0.domains)) c.2 own in
-              let same = home_pools_same s h.0 w.home came.0 w.pool came.1 w.at (one_home s h.0 w.home came.0 w.pool u.dom.0 k.apart came.1 w.at there w.has.there) in
-              w.has.none r (subst (λ (q : Pool). cur_in (at_place q.resources r) ≡ Some u) same is2));
-        };
-      }
-
-  pub track_off_moved : (low : u.dom.0 < length m.config.domains) → Known m moved_next → Tracks u None s → TrackOff (Tracks u) u moved_entry moved_next
-  track_off_moved low k2 w = elim (ℕ_discrete d u.dom.0) [
-    | yes e ↦ inl (refl, off_moved low k2 e w)
-    | no ne ↦ inl (refl, moved_after m u s s.now (OffHome u) (off_home_stable u) w d ne)
-  ]
-
-  pub track_on_moved : (r : ℕ) → Tracks u (Some r) s → TrackOn (Tracks u) u r moved_entry moved_next
-  track_on_moved r w = elim (ℕ_discrete d u.dom.0) [
-    | yes e ↦ absurd (not_on (OnHome u r) (on_home_stable u r) r (λ p o. o.on) e w)
-    | no ne ↦ inl (refl, refl, moved_after m u s s.now (OnHome u r) (on_home_stable u r) w d ne)
-  ]
-
-  pub over_moved : (r latest : ℕ) → PoolHas (OverPool u r latest) s → PoolHas (OverPool u r latest) moved_next
-  over_moved r latest w = elim (ℕ_discrete d u.dom.0) [
-    | yes e ↦ absurd (not_on (OverPool u r latest) (over_stable u r latest) r (λ p o. cur_of_seen_unit (at_place p.resources r) u _ o.at) e w)
-    | no ne ↦ moved_after m u s s.now (OverPool u r latest) (over_stable u r latest) w d ne
-  ]
-
-  pub off_moved_step : (deadline left : ℕ) → WithinTerm u deadline left None s → StepOff (WithinTerm u deadline) u deadline left s moved_entry moved_next
-  off_moved_step deadline left w = elim (ℕ_discrete d u.dom.0) [
-    | yes e ↦ inr (inr (inr (refl, moves_yes e)))
-    | no ne ↦ inl (refl, moves_no ne, moved_after m u s s.now (OffPool u left deadline) (off_pool_stable u left deadline) w d ne)
-  ]
-
-  pub on_moved_step : (deadline left r b : ℕ) → WithinTerm u deadline left (Some (r, b)) s → StepOn (WithinTerm u deadline) u deadline left r b s moved_entry moved_next
-  on_moved_step deadline left r b w = elim (ℕ_discrete d u.dom.0) [
-    | yes e ↦ absurd (not_on (OnPool u left deadline r b) (on_pool_stable u left deadline r b) r (λ p o. cur_of_seen_unit (at_place p.resources r) u _ o.at) e w)
-    | no ne ↦ inl (refl, refl, moves_no ne, moved_after m u s s.now (OnPool u left deadline r b) (on_pool_stable u left deadline r b) w d ne)
-  ]

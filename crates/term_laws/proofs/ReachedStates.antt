@@ -1,16 +1,17 @@
 -- The states that runs lead to, and what is known of them.
 use Rattle.sched_model.proofs.RunLemmas.{IsRunFrom-append, after_entries-append}
-use Rattle.std.proofs.Common.{◌≡◌, ℕ, Bool, false, List, [], ◌∷◌, ◌++◌, refl, ap, subst, sym, ◌∙◌}
+use Rattle.std.proofs.Common.{◌≡◌, ℕ, Bool, true, false, List, [], ◌∷◌, ◌++◌, refl, ap, subst, sym, ◌∙◌}
 use Rattle.std.specs.Prelude.{Option, Some, None}
 use Rattle.sched_model.specs.declared.action.Action.{Action}
+use Rattle.sched_model.specs.declared.event.Event.{Event}
 use Rattle.sched_model.specs.declared.event.Entry.{Entry}
 use Rattle.sched_model.specs.declared.machine.Machine.{Machine}
 use Rattle.sched_model.specs.declared.state.State.{State}
 use Rattle.sched_model.specs.declared.state.Pool.{Pool}
 use Rattle.sched_model.specs.Places.{at_place}
 use Rattle.sched_model.specs.CheckedMachine.{IsChecked}
-use Rattle.sched_model.specs.Machine.{after}
-use Rattle.sched_model.specs.Runs.{Reached, event_action, named_next_moment, after_quiet, after_event, after_entry, after_entries, run_start, IsNext, IsRun}
+use Rattle.sched_model.specs.Machine.{is_action_enabled, event_of, after}
+use Rattle.sched_model.specs.Runs.{Reached, event_action, named_next_moment, after_quiet, after_event, after_entry, after_entries, run_start, IsNext, IsNextEvent, IsRun}
 use Rattle.sched_laws.proofs.Kept.{IsApart}
 use Rattle.sched_laws.specs.PoolFacts.{UnitsAreOwn}
 use Rattle.sched_laws.specs.PoolFacts.{OnePlace}
@@ -64,3 +65,19 @@ knows m checked s r =
       range = in_range m checked r.before r.run;
       housed = housed_from m checked [] r.before (run_start m) refl tt r.run (housed_opening m checked);
     })
+
+-- what holds of an entry and of the states before and after it, by the entry's action
+module _ (m : Machine) (P : State → Event → State → Type 0) (stays : (s : State) (e : Event) → event_action e ≡ None → P s e s) (passes : (s : State) (e : Event) (n : ℕ) → event_action e ≡ None → P s e (record s { now = n }))
+    (acts : (s : State) (action : Action) → IsReached m s → IsReached m (after m s s.now action) → is_action_enabled m s s.now action ≡ true → P s (event_of m s s.now action) (after m s s.now action)) where
+  pub by_action : (from : Reached) (entry : Entry) → IsNext m from entry → IsReached m from.state → P from.state entry.event (after_entry m from entry).state
+  by_action from entry next reached = go (event_action entry.event) refl next.event
+    where
+      go_quiet : (end : Option ℕ) → event_action entry.event ≡ None → P from.state entry.event (after_quiet end from).state
+      go_quiet None is = stays from.state entry.event is
+      go_quiet (Some n) is = passes from.state entry.event n is
+
+      go : (o : Option Action) → event_action entry.event ≡ o → IsNextEvent m from.state entry.event o → P from.state entry.event (after_event m entry.event o from).state
+      go None is ev = go_quiet (named_next_moment entry.event) is
+      go (Some action) is ev =
+          subst (λ (e : Event). P from.state e (after m from.state from.state.now action)) (sym ev.1)
+          (acts from.state action reached (subst (λ (o : Option Action). IsReached m (after_event m entry.event o from).state) is (reached_next m from entry next reached)) ev.0)

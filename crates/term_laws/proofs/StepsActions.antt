@@ -14,9 +14,10 @@ use Rattle.sched_model.specs.CheckedMachine.{IsChecked}
 use Rattle.sched_model.specs.Machine.{is_action_enabled, event_of, after, line_verdict}
 use Rattle.term_laws.proofs.ActsIn.{acts_in}
 use Rattle.term_laws.proofs.Deciding.{decides}
-use Rattle.term_laws.proofs.StepsSame.{same_refl}
-use Rattle.term_laws.proofs.StepsSameAt.{SameAt, LeavesIt, PlanLeaves, sat_after}
-use Rattle.term_laws.proofs.StepsSameMoved.{sat_dom_moved}
+use Rattle.term_laws.proofs.StepsSame.{same_refl, SetsOther}
+use Rattle.term_laws.proofs.StepsSame.{SameAt, LeavesIt, sat_after}
+use Rattle.term_laws.proofs.Same.{PlanLeaves}
+use Rattle.term_laws.proofs.StepsSame.{sat_dom_moved}
 use Rattle.term_laws.proofs.StepsState.{Stands, HomeOf}
 use Rattle.term_laws.proofs.StepsHolds.{StepGives, StateHolds, IsNone, holds_in, holds_out, pool_holds_same, none_tracks}
 use Rattle.term_laws.proofs.StepsDecide.{decide_gives}
@@ -40,7 +41,7 @@ module _ (m : Machine) (checked : IsChecked m) (d : ℕ) (s : State) (k : Stands
   same_now : SameAt d home.home home.pool home.there s
   same_now = record { pool = home.pool; at = home.at; same = same_refl d home.pool }
 
-  by_leaving : (action : Action) → LeavesIt d home.home home.pool home.there m s action → is_action_enabled m s s.now action ≡ true → Stands m (after m s s.now action) → IsNone m d (event_of m s s.now action) → Gives action
+  by_leaving : (action : Action) → LeavesIt d m s action → is_action_enabled m s s.now action ≡ true → Stands m (after m s s.now action) → IsNone m d (event_of m s s.now action) → Gives action
   by_leaving action leaves on k2 none = by_same action k2 none (sat_after d home.home home.pool home.there m s.now action s leaves k.known.apart on same_now)
 
   xl_gives : is_action_enabled m s s.now Xl ≡ true → Stands m (after m s s.now Xl) → Gives Xl
@@ -49,7 +50,7 @@ module _ (m : Machine) (checked : IsChecked m) (d : ℕ) (s : State) (k : Stands
       go : (line : CommandLine) → slice_get m.work.commands s.next_command ≡ Some line → (o : Option ℕ) → verdict_cap d (line_verdict m s line) ≡ o → Gives Xl
       go line is None none =
           by_leaving Xl
-          (λ line2 is2. (let e : Some line ≡ Some line2 = sym is ∙ is2 in let e2 : line ≡ line2 = cc in subst (λ (l : CommandLine). IfOk (PlanLeaves d) (line_verdict m s l)) e2 (verdict_leaves d (line_verdict m s line) none)))
+          (λ line2 is2. (let e : Some line ≡ Some line2 = sym is ∙ is2 in let e2 : line ≡ line2 = cc in subst (λ (l : CommandLine). IfOk (PlanLeaves (SetsOther d)) (line_verdict m s l)) e2 (verdict_leaves d (line_verdict m s line) none)))
           on k2 (record { late = λ r. refl; stays = refl; sets = event_sets m s d s.now line is ∙ none; refill = refl })
       go line is (Some n) some = (let p = sets_it d n (line_verdict m s line) some in set_gives m d s k k2 home line is n p.0 p.1 p.2 holds)
 
@@ -58,7 +59,7 @@ module _ (m : Machine) (checked : IsChecked m) (d : ℕ) (s : State) (k : Stands
     | yes same ↦ (
         let own : is_action_enabled m s s.now (DomMoved (domain d)) ≡ true → Stands m (after m s s.now (DomMoved (domain d))) → HomeOf d (after m s s.now (DomMoved (domain d))) → Gives (DomMoved (domain d)) = λ on2 k3 home3. moved_gives m d s k k3 (acts_in m s s.now (DomMoved (domain d)) on2) home3 in
         subst (λ (n : ℕ). is_action_enabled m s s.now (DomMoved (domain n)) ≡ true → Stands m (after m s s.now (DomMoved (domain n))) → HomeOf d (after m s s.now (DomMoved (domain n))) → Gives (DomMoved (domain n))) (sym same) own on k2 home2)
-    | no other ↦ by_same (DomMoved (domain e)) k2 (record { late = λ r. refl; stays = ne_eqb e d other; sets = refl; refill = refl }) (sat_dom_moved d e other home.home home.pool home.there m.config.granularity s.now s same_now)
+    | no other ↦ by_same (DomMoved (domain e)) k2 (record { late = λ r. refl; stays = ne_eqb e d other; sets = refl; refill = refl }) (sat_dom_moved d home.home home.pool home.there e other m.config.granularity s.now s same_now)
   ]
 
   refill_any : (e : ℕ) → is_action_enabled m s s.now (Refill (domain e)) ≡ true → Stands m (after m s s.now (Refill (domain e))) → Gives (Refill (domain e))

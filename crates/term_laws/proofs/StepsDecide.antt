@@ -1,7 +1,7 @@
 -- A core decides: what becomes of a domain, in its pool and in the state.
 use Rattle.sched_base.specs.Numbers.{core}
 use Rattle.std.proofs.Common.{◌≡◌, ◌≢◌, ◌<◌, ℕ, true, refl, arith, ap, subst, sym, ◌∙◌}
-use Rattle.std.specs.Prelude.{Option, Some, None, option_map, is_some, slice_get, pos, ◌+ℤ◌}
+use Rattle.std.specs.Prelude.{Option, Some, None, is_some, slice_get, pos, ◌+ℤ◌}
 use Rattle.std.proofs.lemmas.Int.{ints}
 use Rattle.std.proofs.Math.Decide.{ℕ_discrete}
 use Rattle.sched_base.specs.Credit2Numbers.{positive_part}
@@ -16,15 +16,14 @@ use Rattle.sched_model.specs.CheckedMachine.{IsChecked}
 use Rattle.sched_model.specs.Places.{at_place, test_at}
 use Rattle.sched_model.specs.EligibleUnits.{Decision}
 use Rattle.sched_model.specs.Policy.{domain_credit2_record}
-use Rattle.sched_model.specs.Pool.{after_in, settled_pool, lateness}
+use Rattle.sched_model.specs.Pool.{settled_pool, lateness}
 use Rattle.sched_model.specs.Machine.{after, event_of}
 use Rattle.sched_laws.proofs.EachPlace.{is_empty}
 use Rattle.sched_laws.proofs.Lists.{test_at-some, is_some_at}
-use Rattle.term_laws.specs.RtdsTerm.{late_of, late_now}
-use Rattle.term_laws.proofs.RtdsSteps.{at_place-change_at, at_place-change_at_other}
-use Rattle.term_laws.proofs.SamePool.{cur_in}
-use Rattle.term_laws.proofs.TermState.{core_is_in}
-use Rattle.term_laws.proofs.ActsIn.{home_pools_same}
+use Rattle.term_laws.specs.Term.{late_of, late_now}
+use Rattle.term_laws.proofs.Same.{cur_in}
+use Rattle.term_laws.proofs.ActsIn.{core_is_in}
+use Rattle.term_laws.proofs.ActsIn.{home_pools_same, acts_here, acts_elsewhere}
 use Rattle.term_laws.proofs.Deciding as deciding
 use Rattle.term_laws.proofs.Deciding.{late_other}
 use Rattle.term_laws.specs.CapTerm.{credit2_in}
@@ -51,28 +50,26 @@ module _ (m : Machine) (checked : IsChecked m) (d : ℕ) (s : State) (n : ℕ) (
   abbrev the_unit : Decision
   the_unit = the_decision g s.now n dec.core q dec.has d
 
-  at_next : at_place s2.pools dec.acts.j ≡ Some next
-  at_next =
-      let f : Pool → Pool = λ p. settled_pool s.now (after_in g s.now p (Decide (core n))) in
-      ap (λ (x : State). at_place x.pools dec.acts.j) dec.acts.state ∙ at_place-change_at dec.acts.j f s.pools ∙ ap (option_map f) dec.acts.at ∙ ap (λ (x : Pool). Some (settled_pool s.now x)) dec.next
+  pub at_next : at_place s2.pools dec.acts.j ≡ Some next
+  at_next = acts_here m s s.now (Decide (core n)) dec.acts ∙ ap (λ (x : Pool). Some (settled_pool s.now x)) dec.next
 
-  at_other : (i : ℕ) → dec.acts.j ≢ i → at_place s2.pools i ≡ at_place s.pools i
-  at_other i ne = (let f : Pool → Pool = λ p. settled_pool s.now (after_in g s.now p (Decide (core n))) in ap (λ (x : State). at_place x.pools i) dec.acts.state ∙ at_place-change_at_other dec.acts.j i f s.pools ne)
+  pub at_other : (i : ℕ) → dec.acts.j ≢ i → at_place s2.pools i ≡ at_place s.pools i
+  at_other = acts_elsewhere m s s.now (Decide (core n)) dec.acts
 
   -- what is printed
   prints : number_in d (the_unit).unit ≡ decided_for d (event_of m s s.now (Decide (core n)))
   prints = ap (λ (x : Decision). number_in d x.unit) dec.unit
 
-  is_core : (r late : ℕ) → late_of r (event_of m s s.now (Decide (core n))) ≡ Some late → n ≡ r
+  pub is_core : (r late : ℕ) → late_of r (event_of m s s.now (Decide (core n))) ≡ Some late → n ≡ r
   is_core r late is = elim (ℕ_discrete n r) [ yes e ↦ e | no ne ↦ absurd (let no = late_other m s s.now n r ne in let e : None ≡ Some late = sym no ∙ is in cc) ]
 
-  not_core : (r : ℕ) → late_of r (event_of m s s.now (Decide (core n))) ≡ None → n ≢ r
+  pub not_core : (r : ℕ) → late_of r (event_of m s s.now (Decide (core n))) ≡ None → n ≢ r
   not_core r is e = (let here = dec.late in let is_n : late_of n (event_of m s s.now (Decide (core n))) ≡ None = subst (λ j. late_of j (event_of m s s.now (Decide (core n))) ≡ None) (sym e) is in let e2 : None ≡ Some (lateness s.now dec.core) = sym is_n ∙ here in cc)
 
   late_is : late_now s n ≡ lateness s.now dec.core
   late_is = ap (λ (o : Option Resource). elim o as (λ _. ℕ) [ None ↦ 0 | Some c ↦ lateness s.now c ]) (core_is_in s dec.acts.j n q dec.core k.known.apart dec.acts.at dec.has)
 
-  on_next : on_core s2 d n ≡ number_in d (the_unit).unit
+  pub on_next : on_core s2 d n ≡ number_in d (the_unit).unit
   on_next =
       let c2 = core_next g s.now n dec.core q dec.has d in
       on_core_cur s2 d n ∙ ap (λ (o : Option Resource). number_in d (cur_in o)) (core_is_in s2 dec.acts.j n next c2.0 k2.known.apart at_next c2.1 ∙ sym c2.1) ∙ ap (number_in d) (cur_here g s.now n dec.core q dec.has d)
@@ -88,6 +85,10 @@ module _ (m : Machine) (checked : IsChecked m) (d : ℕ) (s : State) (n : ℕ) (
             e3 ∙ sym late_is),
         on_next ∙ prints,
       )
+
+  -- no other pool has the core
+  pub no_core : (i : ℕ) (p : Pool) → at_place s.pools i ≡ Some p → dec.acts.j ≢ i → at_place p.resources n ≡ None
+  no_core i p at ne = is_empty (at_place p.resources n) (λ c has. ne (k.known.apart.cores dec.acts.j i n (test_at-some s.pools dec.acts.j (λ x. is_some (at_place x.resources n)) q dec.acts.at (is_some_at (at_place q.resources n) dec.core dec.has)) (test_at-some s.pools i (λ x. is_some (at_place x.resources n)) p at (is_some_at (at_place p.resources n) c has))))
 
   -- the pool of the core has the domain
   module _ (there : test_at q.domains d (λ x. true) ≡ true) (holds : StateHolds d s) where
@@ -140,9 +141,6 @@ module _ (m : Machine) (checked : IsChecked m) (d : ℕ) (s : State) (n : ℕ) (
     at2 : at_place s2.pools i ≡ Some p
     at2 = at_other i ne ∙ at
 
-    no_core : at_place p.resources n ≡ None
-    no_core = is_empty (at_place p.resources n) (λ c has. ne (k.known.apart.cores dec.acts.j i n (test_at-some s.pools dec.acts.j (λ x. is_some (at_place x.resources n)) q dec.acts.at (is_some_at (at_place q.resources n) dec.core dec.has)) (test_at-some s.pools i (λ x. is_some (at_place x.resources n)) p at (is_some_at (at_place p.resources n) c has))))
-
     nothing : (x y : Credit2Domain) → x ≡ y → Decides s.now None None x y
     nothing x y same = subst (λ (z : Credit2Domain). Decides s.now None None x z) same (record {
       given = pos 0;
@@ -173,7 +171,7 @@ module _ (m : Machine) (checked : IsChecked m) (d : ℕ) (s : State) (n : ℕ) (
         decided_there x y x_is y_is =
             let e1 : Some x ≡ Some y = sym (was m d s s2 k.known k2.known i i p p at there at2 there x x_is) ∙ is_now m d s s2 k.known k2.known i i p p at there at2 there y y_is in
             let e2 : x ≡ y = cc in
-            let none = ap (λ (o : Option Resource). number_in d (cur_in o)) no_core in
+            let none = ap (λ (o : Option Resource). number_in d (cur_in o)) (no_core i p at ne) in
             subst (λ (o : Option ℕ). Decides s.now o (on_core s2 d n) x y) (sym (on_before m d s s2 k.known k2.known i i p p at there at2 there n ∙ none))
             (subst (λ (o : Option ℕ). Decides s.now None o x y) (sym (on_after m d s s2 k.known k2.known i i p p at there at2 there n ∙ none)) (nothing x y e2))
 

@@ -20,19 +20,20 @@ use Rattle.sched_model.specs.Policy.{decision_of, decision_by, records_kind, dom
 use Rattle.sched_model.specs.Pool.{core_ask, after_decide, decided_core, same_choice, settled_pool, pool_core_set, reconsidered_core}
 use Rattle.sched_laws.proofs.EachPlace.{by_test, at_place-change_each}
 use Rattle.sched_laws.proofs.OnePlace.{decided_cur}
-use Rattle.term_laws.proofs.RtdsSteps.{at_place-set_other}
-use Rattle.term_laws.proofs.SamePool.{cur_in}
-use Rattle.term_laws.proofs.TermPool.{at_place-put_at}
-use Rattle.term_laws.proofs.Track.{kind_decided}
+use Rattle.term_laws.proofs.AtPlaces.{at_place-set_other}
+use Rattle.term_laws.proofs.Same.{cur_in}
+use Rattle.term_laws.proofs.AtPlaces.{at_place-put_at}
+use Rattle.term_laws.proofs.Deciding.{kind_decided}
 use Rattle.term_laws.proofs.CapTracks.{Stops, HasLeft, Decides, number_in}
 use Rattle.term_laws.proofs.StepsDomain.{ArePast}
 use Rattle.term_laws.proofs.StepsRecords.{RecordDecides, PoolDecides, pool_decides}
-use Rattle.term_laws.proofs.StepsSame.{due_in, Same, same_refl, same_settled}
+use Rattle.term_laws.proofs.Same.{due_in}
+use Rattle.term_laws.proofs.StepsSame.{Same, same_refl, same_settled}
 use Rattle.term_laws.proofs.StepsState.{credit2_pool}
 use Rattle.term_laws.proofs.StepsHolds.{OnIt, PoolHolds, on_it_kept}
 
 -- the due of a core after its decision
-due_decided : (t : ℕ) (d : Decision) (c : Resource) → (decided_core t d c).due ≡ d.due
+pub due_decided : (t : ℕ) (d : Decision) (c : Resource) → (decided_core t d c).due ≡ d.due
 due_decided t d c =
     by_test (λ (x : Resource). x.due ≡ d.due) (same_choice d.unit c.cur) (record c { due = d.due; pending = false; stage = Decided }) (record c { saving = c.cur; cur = d.unit; since = moment t; due = d.due; pending = false; stage = Decided }) (λ is. refl) (λ is. refl)
 
@@ -69,7 +70,7 @@ module _ (g t : ℕ) (n : ℕ) (c : Resource) (p : Pool) (at : at_place p.resour
       let f : Resource → Resource = reconsidered_core t (pool_core_set next) next.scheduler (0 + n) in
       (f (decided_core t the_decision c), at_place-change_each 0 n (reconsidered_core t (pool_core_set next) next.scheduler) next.resources ∙ ap (option_map f) (at_place-put_at n (decided_core t the_decision c) c p.resources at))
 
-  core_there : (k : ℕ) → n ≢ k → at_place (after_decide g t n c p).resources k ≡ at_place p.resources k
+  pub core_there : (k : ℕ) → n ≢ k → at_place (after_decide g t n c p).resources k ≡ at_place p.resources k
   core_there k ne = at_place-set_other n k (Some (decided_core t the_decision c)) p.resources ne
 
   pub cur_there : (k : ℕ) → n ≢ k → cur_in (at_place next_pool.resources k) ≡ cur_in (at_place p.resources k)
@@ -78,11 +79,11 @@ module _ (g t : ℕ) (n : ℕ) (c : Resource) (p : Pool) (at : at_place p.resour
   -- the dues of the cores that have a unit of the domain
   due_here : (y : Credit2Domain) (j : ℕ) → domain_credit2_record the_decision.records d ≡ Some y → has ≡ Some j → due_in (at_place next_pool.resources n) ≡ the_decision.due
   due_here y j is own =
-      settles.dues y is n j (ap (number_in d) (ap cur_in (at_place-put_at n (decided_core t the_decision c) c p.resources at) ∙ decided_cur t the_decision c) ∙ own)
+      settles.dues (y, is) n j (ap (number_in d) (ap cur_in (at_place-put_at n (decided_core t the_decision c) c p.resources at) ∙ decided_cur t the_decision c) ∙ own)
       ∙ ap due_in (at_place-put_at n (decided_core t the_decision c) c p.resources at) ∙ due_decided t the_decision c
 
   due_there : (y : Credit2Domain) (k j : ℕ) → domain_credit2_record the_decision.records d ≡ Some y → n ≢ k → number_in d (cur_in (at_place p.resources k)) ≡ Some j → due_in (at_place next_pool.resources k) ≡ due_in (at_place p.resources k)
-  due_there y k j is ne own = settles.dues y is k j (ap (λ (o : Option Resource). number_in d (cur_in o)) (core_there k ne) ∙ own) ∙ ap due_in (core_there k ne)
+  due_there y k j is ne own = settles.dues (y, is) k j (ap (λ (o : Option Resource). number_in d (cur_in o)) (core_there k ne) ∙ own) ∙ ap due_in (core_there k ne)
 
   -- what the decision does to the domain's record
   decides_in : (own : Credit2Records) → p.scheduler.records ≡ Credit2Pool own → PoolDecides d t had own the_decision

@@ -11,13 +11,14 @@ use Rattle.sched_model.specs.declared.state.Credit2Domain.{Credit2Domain}
 use Rattle.sched_model.specs.Places.{at_place, test_at}
 use Rattle.sched_model.specs.Policy.{domain_credit2_record}
 use Rattle.sched_base.proofs.Bools.{clash}
-use Rattle.term_laws.specs.RtdsTerm.{late_of, moves}
-use Rattle.term_laws.proofs.SamePool.{cur_in}
+use Rattle.term_laws.specs.Term.{late_of, moves}
+use Rattle.term_laws.proofs.Same.{cur_in}
 use Rattle.term_laws.proofs.ReachedStates.{Known}
 use Rattle.term_laws.specs.CapTerm.{cap_set, refills, cap_after, credit2_in}
 use Rattle.term_laws.proofs.CapTracks.{Stops, GoesOn, EventTracks, cap_at, number_in, on_core, due_at}
 use Rattle.term_laws.proofs.StepsDomain.{Kept}
-use Rattle.term_laws.proofs.StepsSame.{due_in, RecordGoes, SameRecord, Same}
+use Rattle.term_laws.proofs.Same.{due_in}
+use Rattle.term_laws.proofs.StepsSame.{RecordGoes, SameRecord, Same}
 use Rattle.term_laws.proofs.StepsState.{credit2_is, on_is, due_is}
 
 -- the unit runs, and a core that has it is due in time
@@ -70,9 +71,9 @@ record_before (Some x) o2 same y is =
 
 pub pool_holds_same : (d : ℕ) (p q : Pool) → Same d p q → PoolHolds d p → PoolHolds d q
 pool_holds_same d p q same h y is r n on =
-    let b = record_before (domain_credit2_record p.scheduler.records d) (domain_credit2_record q.scheduler.records d) same.record_is y is in
+    let b = record_before (domain_credit2_record p.scheduler.records d) (domain_credit2_record q.scheduler.records d) same.records y is in
     let on_p : number_in d (cur_in (at_place p.resources r)) ≡ Some n = ap (number_in d) (sym (same.curs r)) ∙ on in
-    on_it_goes b.0 y n (due_in (at_place p.resources r)) (due_in (at_place q.resources r)) b.2 (same.dues b.0 b.1 r n on_p) (h b.0 b.1 r n on_p)
+    on_it_goes b.0 y n (due_in (at_place p.resources r)) (due_in (at_place q.resources r)) b.2 (same.dues (b.0, b.1) r n on_p) (h b.0 b.1 r n on_p)
 
 -- the cap of a record that goes on
 abbrev pub cap_of : Option Credit2Domain → ℕ
@@ -119,14 +120,14 @@ module _ (m : Machine) (d : ℕ) (s s2 : State) (k : Known m s) (k2 : Known m s2
   none_tracks e none same = record {
     stays = λ r is. on_after r ∙ ap (number_in d) (same.curs r) ∙ sym (on_before r);
     decides = λ r late is. absurd (let no = none.late r in cc);
-    cap = caps_same same.record_is ∙ sym (cap_stays m d (cap_at s d) e none.stays none.sets);
+    cap = caps_same same.records ∙ sym (cap_stays m d (cap_at s d) e none.stays none.sets);
     moved = λ r is. absurd (clash (moves d e) is none.stays);
     set_budget = λ percent y is y_is. absurd (let no = none.sets in cc);
     set_stops = λ percent y is y_is n stop stops. absurd (let no = none.sets in cc);
     refilled = λ x y is x_is some y_is. absurd (clash (refills d e) is none.refill);
     decided = λ r late x y is x_is some y_is. absurd (let no = none.late r in cc);
     goes = λ x y ends late x_is some y_is. (
-        let b = record_before (domain_credit2_record p.scheduler.records d) (domain_credit2_record q.scheduler.records d) same.record_is y (is_now y y_is) in
+        let b = record_before (domain_credit2_record p.scheduler.records d) (domain_credit2_record q.scheduler.records d) same.records y (is_now y y_is) in
         let e1 : Some b.0 ≡ Some x = sym b.1 ∙ was x x_is in
         let e2 : b.0 ≡ x = cc in
         goes_on x y some (subst (λ (z : Credit2Domain). RecordGoes z y) e2 b.2));

@@ -24,11 +24,11 @@ use Rattle.sched_model.specs.Machine.{after, event_of, left_by, joined_by, is_nu
 use Rattle.sched_laws.proofs.EachPlace.{by_cond, at_place-put_at, read_change_at, read_put_at, place_below}
 use Rattle.sched_base.proofs.Bools.{or_right, clash}
 use Rattle.sched_laws.proofs.Lists.{test_at-some, some_is, test_at-clear_at_false}
-use Rattle.term_laws.proofs.SamePool.{cur_in}
+use Rattle.term_laws.proofs.Same.{cur_in}
 use Rattle.term_laws.proofs.ActsIn.{ActsIn, home_pools_same}
 use Rattle.term_laws.proofs.Moving.{came_moved, mover, mover_off}
 use Rattle.term_laws.proofs.Beginning.{queue_keeps}
-use Rattle.term_laws.proofs.TermState.{one_home}
+use Rattle.term_laws.proofs.ActsIn.{one_home}
 use Rattle.term_laws.specs.CapTerm.{refills, cap_set}
 use Rattle.term_laws.proofs.CapTracks.{cap_at, number_in, on_core}
 use Rattle.term_laws.proofs.StepsState.{Stands, HomeOf, home_is, credit2_is, on_is, no_unit_there}

@@ -23,7 +23,8 @@ use Rattle.sched_model.specs.Policy.{records_kind}
 use Rattle.sched_model.specs.Commands.{judged_command, is_same_kind, plan_reply}
 use Rattle.sched_model.specs.Machine.{line_verdict, answer_of, event_of}
 use Rattle.term_laws.specs.CapTerm.{cap_in_command, cap_in_line, cap_set}
-use Rattle.term_laws.proofs.StepsSameAt.{PlanLeaves}
+use Rattle.term_laws.proofs.Same.{PlanLeaves}
+use Rattle.term_laws.proofs.StepsSame.{SetsOther}
 
 -- the cap that a plan gives the domain, and that of a verdict
 abbrev pub plan_cap : ℕ → Plan → Option ℕ
@@ -70,12 +71,12 @@ module _ (m : Machine) (s : State) (d : ℕ) where
       go (Ok p) v_is = ap (λ (o : Option CommandLine). elim o as (λ _. Option ℕ) [ None ↦ None | Some x ↦ cap_in_line m d x ]) there ∙ line_sets line p v_is
 
 -- a plan that gives the domain no cap leaves it
-pub plan_leaves : (d : ℕ) (p : Plan) → plan_cap d p ≡ None → PlanLeaves d p
+pub plan_leaves : (d : ℕ) (p : Plan) → plan_cap d p ≡ None → PlanLeaves (SetsOther d) p
 plan_leaves d (plan.Credit2Dom e weight None answer) none = tt
 plan_leaves d (plan.Credit2Dom e weight (Some n) answer) none = λ same. (let b : (e.0 == d) ≡ true = grind (arith, same) in let e2 : Some n ≡ None = sym (ap (λ (c : Bool). cond c (Some n) None) b) ∙ none in cc)
 plan_leaves d _ none = tt
 
-pub verdict_leaves : (d : ℕ) (v : Result Plan Refusal) → verdict_cap d v ≡ None → IfOk (PlanLeaves d) v
+pub verdict_leaves : (d : ℕ) (v : Result Plan Refusal) → verdict_cap d v ≡ None → IfOk (PlanLeaves (SetsOther d)) v
 verdict_leaves d (Ok p) none = plan_leaves d p none
 verdict_leaves d (Err fault) none = tt
 

@@ -21,7 +21,7 @@ use Rattle.sched_laws.proofs.EachPlace.{at_place-change_each}
 use Rattle.sched_laws.specs.PoolFacts.{IfUnit}
 use Rattle.sched_laws.proofs.Sound.{change_at-twice}
 use Rattle.state_ranges.proofs.Decided.{choice_pays}
-use Rattle.term_laws.proofs.RtdsSteps.{at_place-change_at, at_place-change_at_other}
+use Rattle.term_laws.proofs.AtPlaces.{at_place-change_at, at_place-change_at_other}
 use Rattle.term_laws.proofs.CapTracks.{Stops, number_in}
 use Rattle.term_laws.proofs.StepsDomain.{ArePast, is_capped}
 use Rattle.term_laws.proofs.StepsChosen.{own_charged, was_reset, has_taken, now_from, chosen_domain, part_of, HoldsIt, own_cap, reset_cap, holds_taken, taken_is}

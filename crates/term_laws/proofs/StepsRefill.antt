@@ -19,17 +19,18 @@ use Rattle.sched_model.specs.Places.{at_place, test_at}
 use Rattle.sched_model.specs.Credit2.{most_weight, burned_unit, burned_domain, passed_periods, running_budget, domain_after_refill}
 use Rattle.sched_model.specs.Policy as policy
 use Rattle.sched_model.specs.Policy.{domain_credit2_record}
-use Rattle.sched_model.specs.Pool.{after_in, settled_pool, with_records}
+use Rattle.sched_model.specs.Pool.{settled_pool, with_records}
 use Rattle.sched_model.specs.Machine.{after, event_of}
 use Rattle.sched_base.proofs.Bools.{clash, or_left}
 use Rattle.state_ranges.proofs.Budget.{get_map}
-use Rattle.term_laws.proofs.RtdsSteps.{at_place-change_at}
-use Rattle.term_laws.proofs.SamePool.{cur_in}
-use Rattle.term_laws.proofs.ActsIn.{ActsIn, home_pools_same}
+use Rattle.term_laws.proofs.AtPlaces.{at_place-change_at}
+use Rattle.term_laws.proofs.Same.{cur_in}
+use Rattle.term_laws.proofs.ActsIn.{ActsIn, home_pools_same, acts_here}
 use Rattle.term_laws.specs.CapTerm.{ends_term}
 use Rattle.term_laws.proofs.CapTracks.{Stops, Refills, number_in}
 use Rattle.term_laws.proofs.StepsDomain.{ArePast, Kept, kept_burned, burned_now}
-use Rattle.term_laws.proofs.StepsSame.{due_in, Same, same_refl, same_settled}
+use Rattle.term_laws.proofs.Same.{due_in}
+use Rattle.term_laws.proofs.StepsSame.{Same, same_refl, same_settled}
 use Rattle.term_laws.proofs.StepsState.{Stands, HomeOf, home_is, credit2_is, are_past}
 use Rattle.term_laws.proofs.StepsHolds.{StepGives, PoolHolds, StateHolds, on_it_kept, holds_in, holds_out, cap_of, on_before, on_after, was, is_now}
 
@@ -70,9 +71,7 @@ module _ (m : Machine) (checked : IsChecked m) (d : ℕ) (s : State) (k : Stands
   next = settled_pool s.now mid
 
   at_next : at_place s2.pools a.j ≡ Some next
-  at_next =
-      let f : Pool → Pool = λ p. settled_pool s.now (after_in m.config.granularity s.now p (Refill (domain d))) in
-      ap (λ (x : State). at_place x.pools a.j) a.state ∙ at_place-change_at a.j f s.pools ∙ ap (option_map f) a.at
+  at_next = acts_here m s s.now (Refill (domain d)) a
 
   settles : Same d mid next
   settles = same_settled d s.now mid mid (same_refl d mid)
@@ -95,7 +94,7 @@ module _ (m : Machine) (checked : IsChecked m) (d : ℕ) (s : State) (k : Stands
       let cap : (domain_after_refill b.2 s.now b.0).cap ≡ (b.0).cap = refl in
       on_it_kept b.0 y n (due_in (at_place a.pool.resources r)) (due_in (at_place next.resources r)) (sym (ap (λ (z : Credit2Domain). z.cap) b.3) ∙ cap)
       (subst (λ (z : Credit2Domain). Kept b.0 z n) b.3 (kept_refilled b.2 s.now b.0 n (past b.0 b.1)))
-      (settles.dues y is r n on_mid)
+      (settles.dues (y, is) r n on_mid)
       (holds_in m s k.known d a.j a.pool a.at there holds b.0 b.1 r n on_mid)
 
   caps : (o : Option Credit2Domain) → domain_credit2_record a.pool.scheduler.records d ≡ o → cap_of (domain_credit2_record next.scheduler.records d) ≡ cap_of (domain_credit2_record a.pool.scheduler.records d)

@@ -19,12 +19,13 @@ use Rattle.sched_model.specs.Policy.{domain_credit2_record, changed_records}
 use Rattle.sched_model.specs.Pool.{changed_pool, settled_pool, is_domain_unit}
 use Rattle.sched_laws.proofs.EachPlace.{by_cond, at_place-change_each}
 use Rattle.state_ranges.proofs.Budget.{get_map}
-use Rattle.term_laws.proofs.RtdsSteps.{at_place-change_at}
-use Rattle.term_laws.proofs.SamePool.{cur_in}
+use Rattle.term_laws.proofs.AtPlaces.{at_place-change_at}
+use Rattle.term_laws.proofs.Same.{cur_in}
 use Rattle.term_laws.proofs.CapTracks.{Stops, number_in}
 use Rattle.term_laws.proofs.StepsDomain.{get_of_map, burn_some, burned_now}
-use Rattle.term_laws.proofs.StepsSame.{due_in, Same, same_refl, same_settled}
-use Rattle.term_laws.proofs.StepsChanges.{weight_goes}
+use Rattle.term_laws.proofs.Same.{due_in}
+use Rattle.term_laws.proofs.StepsSame.{Same, same_refl, same_settled}
+use Rattle.term_laws.proofs.StepsSame.{weight_goes}
 use Rattle.term_laws.proofs.StepsState.{unit_of_number}
 use Rattle.term_laws.proofs.StepsHolds.{PoolHolds}
 
@@ -136,7 +137,7 @@ module _ (d t n : ℕ) (weight : Option ℕ) (p : Pool) where
   set_dues : (y : Credit2Domain) → domain_credit2_record set_pool.scheduler.records d ≡ Some y → (r j : ℕ) → number_in d (cur_in (at_place p.resources r)) ≡ Some j → due_in (at_place set_pool.resources r) ≡ Some (moment t)
   set_dues y is r j on =
       let on_mid : number_in d (cur_in (at_place mid.resources r)) ≡ Some j = ap (number_in d) (ap cur_in (mid_core r) ∙ cur_mid (at_place p.resources r) (0 + r)) ∙ on in
-      settles.dues y is r j on_mid ∙ ap due_in (mid_core r) ∙ due_mid (at_place p.resources r) (0 + r) j on
+      settles.dues (y, is) r j on_mid ∙ ap due_in (mid_core r) ∙ due_mid (at_place p.resources r) (0 + r) j on
 
   pub holds_set : PoolHolds d p → PoolHolds d set_pool
   holds_set holds y is r j on =

@@ -40,15 +40,15 @@ use Rattle.state_ranges.proofs.BudgetWalk.{CountIs}
 use Rattle.state_ranges.proofs.RangesLaw.{StateFits, fits_in_runs}
 use Rattle.state_ranges.specs.Records.{HasRecords}
 use Rattle.state_ranges.proofs.RecordsLaw.{has_records}
-use Rattle.term_laws.specs.RtdsTerm.{core_in}
-use Rattle.term_laws.proofs.SamePool.{cur_in}
+use Rattle.term_laws.specs.Term.{core_in}
+use Rattle.term_laws.proofs.Same.{cur_in}
 use Rattle.sched_laws.proofs.PoolsLaw.{home_is as domain_home}
-use Rattle.term_laws.proofs.TermState.{core_is_in, has_domain, one_home}
+use Rattle.term_laws.proofs.ActsIn.{core_is_in, has_domain, one_home}
 use Rattle.term_laws.proofs.ReachedStates.{IsReached, Known, knows}
 use Rattle.term_laws.specs.CapTerm.{credit2_in}
 use Rattle.term_laws.proofs.CapTracks.{number_in, on_core, due_at}
 use Rattle.term_laws.proofs.StepsDomain.{ArePast}
-use Rattle.term_laws.proofs.StepsSame.{due_in}
+use Rattle.term_laws.proofs.Same.{due_in}
 
 -- what is known of a state that a run leads to
 pub record Stands (m : Machine) (s : State) : Type 0 where
@@ -85,7 +85,7 @@ unit_of_number d n (Some u) is = go (u.dom.0 == d) refl is
     go true same is2 = (u, refl, grind (arith, same), cc)
     go false same is2 = absurd (cc)
 
-same_units : (u v : UnitId) → u.dom.0 ≡ v.dom.0 → u.n ≡ v.n → u ≡ v
+pub same_units : (u v : UnitId) → u.dom.0 ≡ v.dom.0 → u.n ≡ v.n → u ≡ v
 same_units u v a b = same_unit_same u v (and_from (u.dom.0 == v.dom.0) (u.n == v.n) (eq-eqb u.dom.0 v.dom.0 a) (eq-eqb u.n v.n b))
 
 pub on_core_cur : (s : State) (d r : ℕ) → on_core s d r ≡ number_in d (cur_in (core_in s r))
@@ -106,10 +106,14 @@ module _ (m : Machine) (s : State) (k : Known m s) (d i : ℕ) (p : Pool) (at : 
   pub home_is : home_pool_of_domain s d ≡ Some i
   home_is = domain_home s i d k.apart (has_domain s i d p at there)
 
+  -- what is read of the records of the domain's pool
+  pub record_is : (X : Type 0) (f : Records → Option X) → elim (home_pool_of_domain s d) as (λ _. Option X) [ None ↦ None | Some j ↦ elim (at_place s.pools j) as (λ _. Option X) [ None ↦ None | Some pool ↦ f pool.scheduler.records ] ] ≡ f p.scheduler.records
+  record_is X f =
+      ap (λ (o : Option ℕ). elim o as (λ _. Option X) [ None ↦ None | Some j ↦ elim (at_place s.pools j) as (λ _. Option X) [ None ↦ None | Some pool ↦ f pool.scheduler.records ] ]) home_is
+      ∙ ap (λ (o : Option Pool). elim o as (λ _. Option X) [ None ↦ None | Some pool ↦ f pool.scheduler.records ]) at
+
   pub credit2_is : credit2_in s d ≡ domain_credit2_record p.scheduler.records d
-  credit2_is =
-      ap (λ (o : Option ℕ). elim o as (λ _. Option Credit2Domain) [ None ↦ None | Some j ↦ elim (at_place s.pools j) [ None ↦ None | Some pool ↦ domain_credit2_record pool.scheduler.records d ] ]) home_is
-      ∙ ap (λ (o : Option Pool). elim o as (λ _. Option Credit2Domain) [ None ↦ None | Some pool ↦ domain_credit2_record pool.scheduler.records d ]) at
+  credit2_is = record_is Credit2Domain (λ (records : Records). domain_credit2_record records d)
 
   -- the core of the pool, and one of another pool or of none
   cur_is : (r : ℕ) → number_in d (cur_in (core_in s r)) ≡ number_in d (cur_in (at_place p.resources r))

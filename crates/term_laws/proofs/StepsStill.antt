@@ -16,6 +16,8 @@ use Rattle.sched_model.specs.declared.state.State.{State}
 use Rattle.sched_model.specs.declared.state.Pool.{Pool}
 use Rattle.sched_model.specs.declared.state.Resource.{Resource}
 use Rattle.sched_model.specs.declared.state.Credit2Domain.{Credit2Domain}
+use Rattle.sched_model.specs.declared.state.Records.{Records}
+use Rattle.sched_model.specs.Policy.{domain_credit2_record}
 use Rattle.sched_model.specs.Places.{at_place, test_at}
 use Rattle.sched_model.specs.Actions.{home_pool_of_core, home_pool_of_domain}
 use Rattle.sched_model.specs.Commands.{meant_domain, named_domain_number}
@@ -25,8 +27,8 @@ use Rattle.sched_laws.specs.PoolFacts.{IfUnit}
 use Rattle.sched_laws.proofs.EachPlace.{by_option, by_cond, found_at, is_empty}
 use Rattle.sched_laws.proofs.Lists.{test_at-some, some-test_at, some_is}
 use Rattle.sched_laws.specs.PoolFacts.{IsThere}
-use Rattle.term_laws.specs.RtdsTerm.{late_of, late_now, moves}
-use Rattle.term_laws.proofs.SamePool.{cur_in}
+use Rattle.term_laws.specs.Term.{late_of, late_now, moves}
+use Rattle.term_laws.proofs.Same.{cur_in}
 use Rattle.term_laws.proofs.ReachedStates.{Known}
 use Rattle.term_laws.specs.CapTerm.{credit2_in, cap_set, cap_in_command, cap_in_line, refills}
 use Rattle.term_laws.proofs.CapTracks.{Stops, EventTracks, cap_at, number_in, on_core, decided_for}
@@ -106,13 +108,16 @@ module _ (m : Machine) (d : ℕ) where
         let r = (k.range.pools i p at).domains d x.0 x.1 in
         high (slice_get_within m.config.domains d r.config r.at)
 
-    pub no_record : (s : State) → Known m s → credit2_in s d ≡ None
-    no_record s k =
-        by_option (λ (o : Option Credit2Domain). o ≡ None) (home_pool_of_domain s d) None _ (λ none. refl)
+    pub no_read : (s : State) → Known m s → (X : Type 0) (f : Records → Option X) → elim (home_pool_of_domain s d) as (λ _. Option X) [ None ↦ None | Some i ↦ elim (at_place s.pools i) as (λ _. Option X) [ None ↦ None | Some pool ↦ f pool.scheduler.records ] ] ≡ None
+    no_read s k X f =
+        by_option (λ (o : Option X). o ≡ None) (home_pool_of_domain s d) None _ (λ none. refl)
         (λ i found. absurd (
-        let f = found_at i (λ p. is_some (at_place p.domains d)) s.pools found in
-        let x = some_is (at_place f.0.domains d) f.2 in
-        no_home s k i f.0 f.1 (test_at-some f.0.domains d (λ y. true) x.0 x.1 refl)))
+        let g = found_at i (λ p. is_some (at_place p.domains d)) s.pools found in
+        let x = some_is (at_place g.0.domains d) g.2 in
+        no_home s k i g.0 g.1 (test_at-some g.0.domains d (λ y. true) x.0 x.1 refl)))
+
+    pub no_record : (s : State) → Known m s → credit2_in s d ≡ None
+    no_record s k = no_read s k Credit2Domain (λ (records : Records). domain_credit2_record records d)
 
     pub no_core : (s : State) → Known m s → (r : ℕ) → on_core s d r ≡ None
     no_core s k r =

@@ -27,8 +27,8 @@ use Rattle.sched_model.specs.Machine.{after, after_command, event_of, line_verdi
 use Rattle.sched_base.proofs.Bools.{clash, or_left, or_right}
 use Rattle.sched_laws.proofs.Lists.{some-test_at}
 use Rattle.state_ranges.specs.Records.{IsRecorded}
-use Rattle.term_laws.specs.RtdsTerm.{moves}
-use Rattle.term_laws.proofs.RtdsSteps.{at_place-change_at}
+use Rattle.term_laws.specs.Term.{moves}
+use Rattle.term_laws.proofs.AtPlaces.{at_place-change_at}
 use Rattle.term_laws.specs.CapTerm.{cap_set, ends_term, refills, credit2_in}
 use Rattle.term_laws.proofs.CapTracks.{cap_at, number_in}
 use Rattle.sched_laws.proofs.Judged.{Fits, verdict_fits}

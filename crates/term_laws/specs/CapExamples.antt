@@ -11,9 +11,9 @@ use Rattle.sched_model.specs.declared.command.Command.TheVariants as command
 use Rattle.sched_model.specs.declared.command.Which.TheVariants as which
 use Rattle.sched_model.specs.declared.machine.Machine.{Machine}
 use Rattle.sched_laws.specs.StateLaws.{state_after}
-use Rattle.term_laws.specs.RtdsTerm.{Leg}
+use Rattle.term_laws.specs.Term.{Leg, time_on, late_within}
 use Rattle.sched_examples.specs.Words.{endless_script, stall, xl, run_of}
-use Rattle.term_laws.specs.CapTerm.{CapTerm, PlacedLeg, domain_legs, settings, cap_terms, time_on, late_within, is_undisturbed}
+use Rattle.term_laws.specs.CapTerm.{CapTerm, PlacedLeg, domain_legs, settings, cap_terms, spans, is_undisturbed}
 
 -- a term, the time for which the domain's units are on cores within it, what was late, and whether the law speaks of the term
 pub record CapSums : Type 0 where
@@ -33,14 +33,14 @@ legs_of m d = domain_legs (state_after m (run_of m)) d 0 (run_of m)
 
 -- the spans of the legs, and what was late of each
 abbrev pub spans_of : Machine → ℕ → List Leg
-spans_of m d = map (λ (placed : PlacedLeg). placed.leg) (legs_of m d)
+spans_of m d = spans (legs_of m d)
 
 -- its terms there, with their sums
 abbrev pub terms_of : Machine → ℕ → List CapSums
 terms_of m d =
     let placed = legs_of m d in
     let set = settings m d 0 (run_of m) in
-    map (λ (t : CapTerm). term t.from t.until t.budget (time_on t placed) (late_within t placed) (is_undisturbed set placed t)) (cap_terms m (state_after m (run_of m)) d (run_of m))
+    map (λ (t : CapTerm). term t.term.from t.term.until t.term.budget (time_on t.term (spans placed)) (late_within t.term (spans placed)) (is_undisturbed set placed t)) (cap_terms m (state_after m (run_of m)) d (run_of m))
 
 -- a Credit2 pool with a set of cores; a domain of it with a cap, which is 0 for none
 abbrev pub credit2_pool : List ℕ → ℕ → PoolConfig

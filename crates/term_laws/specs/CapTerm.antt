@@ -1,5 +1,5 @@
 -- The terms of a domain's cap, and the time for which its units are on cores in one.
-use Rattle.std.specs.Prelude.{ℕ, suc, ◌+◌, ◌-◌, ◌==◌, ◌&&◌, ◌||◌, ◌≡◌, ◌≤◌, Bool, true, false, not, List, [], ◌∷◌, Option, Some, None, Ok, Err, is_some, min, max, nat_lt, slice_get, sum_by, if◌then◌else◌}
+use Rattle.std.specs.Prelude.{ℕ, suc, ◌+◌, ◌-◌, ◌==◌, ◌&&◌, ◌||◌, ◌≡◌, ◌≤◌, Bool, true, false, not, List, [], ◌∷◌, Option, Some, None, Ok, Err, is_some, nat_lt, slice_get, map, if◌then◌else◌}
 use Rattle.std.specs.List.{list_any}
 use Rattle.sched_base.specs.Credit2Numbers.{cap_budget}
 use Rattle.sched_model.specs.declared.command.Command.{Command}
@@ -16,7 +16,7 @@ use Rattle.sched_model.specs.Policy.{domain_credit2_record}
 use Rattle.sched_model.specs.Opening.{opening}
 use Rattle.sched_model.specs.Actions.{home_pool_of_domain}
 use Rattle.sched_model.specs.Commands.{meant_domain}
-use Rattle.term_laws.specs.RtdsTerm.{Leg, late_of, leg_from, moves}
+use Rattle.term_laws.specs.Term.{Leg, Term, late_of, leg_from, moves, meets, time_on, late_within}
 
 -- Entries are numbered from 0, in their order. What is said of before and after is said of these numbers, since several entries have one moment.
 
@@ -81,22 +81,19 @@ cap_after m d cap e = elim (cap_set m d e) [ Some given ↦ given | None ↦ (if
 abbrev pub begins_term : Machine → ℕ → ℕ → Event → Bool
 begins_term m d cap e = (refills d e || is_some (cap_set m d e)) && nat_lt 0 cap
 
--- a term of a domain's cap: its span, the budget that the cap gives for it, the number of the entry that ends it, which is the count of all
--- where none does, and whether that entry sets the cap
+-- a term of a domain's cap, the number of the entry that ends it, which is the count of all where none does, and whether that entry sets the cap
 pub record CapTerm : Type 0 where
-  pub from : ℕ
-  pub until : ℕ
-  pub budget : ℕ
+  pub term : Term
   pub last : ℕ
   pub ends_by_setting : Bool
 
 -- the term that begins at a moment with this cap, where these entries follow, the first with the number n, and lead to the state s: it ends with the
 -- next refill, setting of the cap or move of the domain, or it is open now
 abbrev pub term_from : Machine → State → ℕ → ℕ → ℕ → ℕ → List Entry → CapTerm
-term_from m s d cap from n [] = record { from = from; until = s.now; budget = cap_budget cap; last = n; ends_by_setting = false }
+term_from m s d cap from n [] = record { term = record { from = from; until = s.now; budget = cap_budget cap }; last = n; ends_by_setting = false }
 term_from m s d cap from n (entry ∷ entries) =
     elim (ends_term m d entry.event) [
-      | true ↦ record { from = from; until = entry.at.0; budget = cap_budget cap; last = n; ends_by_setting = is_some (cap_set m d entry.event) }
+      | true ↦ record { term = record { from = from; until = entry.at.0; budget = cap_budget cap }; last = n; ends_by_setting = is_some (cap_set m d entry.event) }
       | false ↦ term_from m s d cap from (suc n) entries
     ]
 
@@ -127,31 +124,19 @@ cap_terms m s d entries =
       | false ↦ terms_begun m s d cap 0 entries
     ]
 
--- how long the leg lies within the term
-abbrev pub shared_span : CapTerm → PlacedLeg → ℕ
-shared_span term placed = min placed.leg.until term.until - max placed.leg.from term.from
-
--- whether the leg meets the term: they share a span
-abbrev pub meets : CapTerm → PlacedLeg → Bool
-meets term placed = nat_lt 0 (shared_span term placed)
-
--- the time for which the domain's units are on cores within the term, added up
-abbrev pub time_on : CapTerm → List PlacedLeg → ℕ
-time_on term placed = sum_by (shared_span term) placed
-
--- the lateness of the legs that meet the term, added up
-abbrev pub late_within : CapTerm → List PlacedLeg → ℕ
-late_within term placed = sum_by (λ leg. (if meets term leg then leg.leg.late else 0)) placed
-
 -- whether one of these settings of the cap comes within the leg, and after the entry that ends the term
 abbrev pub is_set_after : List ℕ → CapTerm → PlacedLeg → Bool
-is_set_after set term placed = list_any (λ n. nat_lt term.last n && nat_lt placed.first n && nat_lt n placed.last) set
+is_set_after set t placed = list_any (λ n. nat_lt t.last n && nat_lt placed.first n && nat_lt n placed.last) set
 
 -- whether the term is spoken of: no setting of the cap ends it, and none comes after it within a leg that meets it. (A setting makes the cores that
 -- run the domain's units due at once, so what was late of their legs before is forgotten.)
 abbrev pub is_undisturbed : List ℕ → List PlacedLeg → CapTerm → Bool
-is_undisturbed set placed term = not term.ends_by_setting && not (list_any (λ leg. meets term leg && is_set_after set term leg) placed)
+is_undisturbed set placed t = not t.ends_by_setting && not (list_any (λ p. meets t.term p.leg && is_set_after set t p) placed)
+
+-- the legs alone
+abbrev pub spans : List PlacedLeg → List Leg
+spans placed = map (λ (p : PlacedLeg). p.leg) placed
 
 -- the domain's units together are on cores within the term for the budget of the cap at most, and for what was late: the ends of the legs that meet it
 abbrev pub KeepsCap : List ℕ → List PlacedLeg → CapTerm → Type 0
-KeepsCap set placed term = is_undisturbed set placed term ≡ true → time_on term placed ≤ term.budget + late_within term placed
+KeepsCap set placed t = is_undisturbed set placed t ≡ true → time_on t.term (spans placed) ≤ t.term.budget + late_within t.term (spans placed)

@@ -1,3 +1,4 @@
+pub mod Term
 pub mod RtdsTerm
 pub mod RtdsExamples
 pub mod CapTerm

@@ -10,7 +10,8 @@ use Rattle.sched_model.specs.declared.command.Which.TheVariants as which
 use Rattle.sched_model.specs.declared.machine.Machine.{Machine}
 use Rattle.sched_examples.specs.Words.{endless_script, rtds_domain, rtds_pool, run_of, stall, xl}
 use Rattle.sched_laws.specs.StateLaws.{state_after}
-use Rattle.term_laws.specs.RtdsTerm.{Leg, Term, legs, terms, time_on, late_within}
+use Rattle.term_laws.specs.Term.{Leg, time_on, late_within}
+use Rattle.term_laws.specs.RtdsTerm.{RtdsTerm, legs, terms}
 
 -- the only unit of the domain d
 abbrev pub unit : ℕ → UnitId
@@ -36,7 +37,7 @@ abbrev pub legs_of : Machine → UnitId → List Leg
 legs_of m u = legs (state_after m (run_of m)) u (run_of m)
 
 abbrev pub terms_of : Machine → UnitId → List TermSums
-terms_of m u = map (λ (t : Term). term t.from t.until t.budget t.delay (time_on t (legs_of m u)) (late_within t (legs_of m u))) (terms m u (run_of m))
+terms_of m u = map (λ (t : RtdsTerm). term t.term.from t.term.until t.term.budget t.delay (time_on t.term (legs_of m u)) (late_within t.term (legs_of m u))) (terms m u (run_of m))
 
 -- a domain of the first pool, an RTDS pool, without extra time
 abbrev pub domain_of : List ℕ → ℕ → ℕ → List (List Span) → DomConfig
