@@ -102,13 +102,15 @@ fn judge_fields(e: Event, due: Entry) -> Result<(), NotStep>
 
 /// Judges whether the action, which may come, is the first that may.
 fn judge_first(plain: &mut Plain, action: Action) -> Result<(), NotStep>
+    requires { is_action_enabled plain.old.machine plain.old.state plain.old.state.now action
+        ≡ true }
     ensures verdict { result ≡ first_refusal plain.old.machine plain.old.state action
         (first_enabled_action plain.old.machine plain.old.state plain.old.state.now) }
     ensures first { IsOk result ↔ (first_enabled_action plain.old.machine plain.old.state
         plain.old.state.now ≡ Some action) }
     ensures unchanged { OnOk result (plain.new ≡ plain.old) }
 {
-    match plain.first_enabled() {
+    match plain.first_enabled_by_guess(action) {
         None => Err(NotStep::NotEnabled),
         Some(first) => {
             if is_same_action(first, action) {
@@ -124,6 +126,8 @@ fn judge_first(plain: &mut Plain, action: Action) -> Result<(), NotStep>
 
 /// Judges whether it is the turn of the action, which may come.
 fn judge_turn(plain: &mut Plain, ordered: bool, action: Action) -> Result<(), NotStep>
+    requires { is_action_enabled plain.old.machine plain.old.state plain.old.state.now action
+        ≡ true }
     ensures verdict { result ≡ turn_refusal ordered plain.old.machine plain.old.state action }
     ensures first { IsOk result ↔ (ordered ≡ true
         → first_enabled_action plain.old.machine plain.old.state

@@ -12,3 +12,10 @@ pub mod Domains
 pub mod Turns
 pub mod Settling
 pub mod Ready
+pub mod FloorBounds
+pub mod FloorLists
+pub mod AlikeCores
+pub mod TouchedSteps
+pub mod TouchedEvents
+pub mod KeptLaw
+pub mod FirstLaw

@@ -6,3 +6,5 @@ pub mod Search
 pub mod Soonest
 pub mod Stalls
 pub mod SettledPools
+pub mod PoolFloors
+pub mod KeptFloors

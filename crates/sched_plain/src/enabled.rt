@@ -46,7 +46,7 @@ fn command_due(machine: &Machine, state: &State, t: Moment) -> bool
 }
 
 /// Whether a core of no pool is leaving, and its first processor is up.
-fn free_ready(t: Moment, core: &FreeCore) -> bool
+pub(crate) fn free_ready(t: Moment, core: &FreeCore) -> bool
     ensures { result ≡ is_free_core_ready t.0 core.now }
 {
     core.target.is_some()

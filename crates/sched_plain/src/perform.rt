@@ -9,11 +9,13 @@ ghost use Rattle.cpupool.specs.Tool.{KnowsMachine};
 ghost use Rattle.sched_plain.specs.CommandList.{HasSpares};
 ghost use Rattle.sched_plain.specs.Fits.{PoolFitsAt};
 ghost use Rattle.sched_plain.specs.ReachedStates.{Stands};
+ghost use Rattle.sched_plain.specs.KeptFloors.{AreKeptIf, IsTouchedIf};
 ghost use Rattle.sched_plain.specs.SettledPools.{AreSettled, MayDecide};
 ghost use Rattle.pool_laws.specs.CoreLooks.{IsSettled};
 
 use crate::command::command;
 use crate::dom_moves::move_domain;
+use crate::floors::{Floors, forget_all, pend, touch};
 use crate::homes::home_of;
 use crate::moves::move_core;
 use crate::settled::{Settled, needs_look};
@@ -35,6 +37,7 @@ fn perform_in(
     t: Moment,
     action: Action,
     is_settled: bool,
+    floors: &mut Option<Floors>,
     pool: &mut Pool,
 ) -> Event
     requires some { 0 < granularity }
@@ -48,11 +51,14 @@ fn perform_in(
     requires decides { MayDecide granularity pool.old }
     ensures event { result ≡ event_in granularity t.0 pool.old action }
     ensures pool { pool.new ≡ settled_pool t.0 (after_in granularity t.0 pool.old action) }
+    ensures floors { IsTouchedIf granularity t.0 pool.old pool.new floors.old floors.new }
 {
+    touch(granularity, action, pool, floors);
     let is_looked_at = needs_look(is_settled, action, pool);
     let event = happen(granularity, t, action, pool);
     if is_looked_at {
         settle(t, pool);
+        pend(pool.resources.as_slice(), floors);
     }
     event
 }
@@ -65,9 +71,12 @@ fn perform_at(
     place: usize,
     state: &mut State,
     settled: &mut Settled,
+    floors: &mut Option<Floors>,
 ) -> Event
     requires stands { Stands machine.now state.old }
     requires settled { AreSettled state.old.now state.old.pools settled.old }
+    requires floors { AreKeptIf machine.now.config.granularity state.old.now state.old.pools
+        floors.old }
     requires now { t.0 ≡ state.old.now }
     requires own { IsOfPool action }
     requires enabled { is_action_enabled machine.now state.old state.old.now action ≡ true }
@@ -76,6 +85,8 @@ fn perform_at(
     ensures event { result ≡ event_of machine.now state.old state.old.now action }
     ensures state { state.new ≡ after machine.now state.old state.old.now action }
     ensures settled { AreSettled state.new.now state.new.pools settled.new }
+    ensures floors { AreKeptIf machine.now.config.granularity state.new.now state.new.pools
+        floors.new }
 {
     if place >= state.pools.len() {
         unreachable!();
@@ -88,6 +99,7 @@ fn perform_at(
                 t,
                 action,
                 settled.has(place),
+                floors,
                 pool,
             );
             settled.mark(place);
@@ -101,20 +113,25 @@ fn perform_at_home(
     machine: &Machine,
     state: &mut State,
     settled: &mut Settled,
+    floors: &mut Option<Floors>,
     action: Action,
 ) -> Event
     requires stands { Stands machine.now state.old }
     requires settled { AreSettled state.old.now state.old.pools settled.old }
+    requires floors { AreKeptIf machine.now.config.granularity state.old.now state.old.pools
+        floors.old }
     requires own { IsOfPool action }
     requires enabled { is_action_enabled machine.now state.old state.old.now action ≡ true }
     ensures event { result ≡ event_of machine.now state.old state.old.now action }
     ensures state { state.new ≡ after machine.now state.old state.old.now action }
     ensures settled { AreSettled state.new.now state.new.pools settled.new }
+    ensures floors { AreKeptIf machine.now.config.granularity state.new.now state.new.pools
+        floors.new }
 {
     let t = state.now;
     match home_of(machine.config.granularity, state, action) {
         None => unreachable!(),
-        Some(i) => perform_at(machine, Moment(t), action, i, state, settled),
+        Some(i) => perform_at(machine, Moment(t), action, i, state, settled, floors),
     }
 }
 
@@ -125,6 +142,7 @@ pub fn perform(
     tool: &mut ToolState,
     spares: &mut Row<Option<Pool>>,
     settled: &mut Settled,
+    floors: &mut Option<Floors>,
     action: Action,
 ) -> Event
     requires stands { Stands machine.now state.old }
@@ -132,29 +150,37 @@ pub fn perform(
     requires tool { KnowsMachine machine.now tool.old }
     requires spares { HasSpares machine.now state.old.next_command spares.old }
     requires settled { AreSettled state.old.now state.old.pools settled.old }
+    requires floors { AreKeptIf machine.now.config.granularity state.old.now state.old.pools
+        floors.old }
     ensures event { result ≡ event_of machine.now state.old state.old.now action }
     ensures state { state.new ≡ after machine.now state.old state.old.now action }
     ensures tool { KnowsMachine machine.now tool.new }
     ensures spares { HasSpares machine.now state.new.next_command spares.new }
     ensures settled { AreSettled state.new.now state.new.pools settled.new }
+    ensures floors { AreKeptIf machine.now.config.granularity state.new.now state.new.pools
+        floors.new }
 {
     match action {
         Action::Stall => {
             settled.clear();
+            forget_all(floors);
             stall(machine, state)
         }
         Action::Xl => {
             settled.clear();
+            forget_all(floors);
             command(machine, state, tool, spares)
         }
         Action::Moved(r) => {
             settled.clear();
+            forget_all(floors);
             move_core(machine, r, state)
         }
         Action::DomMoved(d) => {
             settled.clear();
+            forget_all(floors);
             move_domain(machine, d, state)
         }
-        _ => perform_at_home(machine, state, settled, action),
+        _ => perform_at_home(machine, state, settled, floors, action),
     }
 }

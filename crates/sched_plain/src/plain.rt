@@ -7,6 +7,8 @@ ghost use Rattle.sched_model.specs.CheckedMachine.{IsChecked};
 ghost use Rattle.sched_model.specs.Opening.{opening};
 
 use crate::enabled::is_enabled;
+use crate::first::first_by_guess;
+use crate::floors::{Floors, forget_all};
 use crate::perform::perform;
 use crate::scan::first_enabled;
 use crate::settled::Settled;
@@ -34,6 +36,7 @@ pub struct Plain {
     tool: ToolState,
     spares: Row<Option<Pool>>,
     settled: Settled,
+    floors: Option<Floors>,
 }
 
 impl Model for Plain {
@@ -44,13 +47,15 @@ impl Model for Plain {
     ghost use Rattle.cpupool.specs.Tool.{KnowsMachine};
     ghost use Rattle.sched_plain.specs.CommandList.{HasSpares};
     ghost use Rattle.sched_plain.specs.ReachedStates.{Stands};
+    ghost use Rattle.sched_plain.specs.KeptFloors.{AreKeptIf};
     ghost use Rattle.sched_plain.specs.SettledPools.{AreSettled};
 
     ghost view = { λ p. record { machine = p.machine; state = p.state } };
 
     ghost invariant = { λ p. Stands p.machine p.state × KnowsMachine p.machine p.tool
         × HasSpares p.machine p.state.next_command p.spares
-        × AreSettled p.state.now p.state.pools p.settled };
+        × AreSettled p.state.now p.state.pools p.settled
+        × AreKeptIf p.machine.config.granularity p.state.now p.state.pools p.floors };
 }
 
 /// The state of a machine at its opening, and what its tool knows then.
@@ -111,6 +116,7 @@ impl Plain {
                 tool,
                 spares,
                 settled: Settled::none(),
+                floors: None,
             }),
             Err(full) => {
                 drop(machine);
@@ -139,6 +145,18 @@ impl Plain {
         ensures { result ≡ first_enabled_action self.now.machine self.now.state self.now.state.now }
     {
         first_enabled(&self.machine, &self.state, Moment(self.state.now))
+    }
+
+    /// The same, where this action may come now and is thought to be the first that may. What is found out is kept for later questions, so that one
+    /// after an event judges only what that event touched.
+    pub fn first_enabled_by_guess(&mut self, guess: Action) -> Option<Action>
+        requires { is_action_enabled self.old.machine self.old.state self.old.state.now guess
+            ≡ true }
+        ensures first { result
+            ≡ first_enabled_action self.old.machine self.old.state self.old.state.now }
+        ensures unchanged { self.new ≡ self.old }
+    {
+        first_by_guess(&self.machine, &mut self.state, &mut self.floors, guess)
     }
 
     /// The processor of the workload's next stall, or none where all have come.
@@ -174,6 +192,7 @@ impl Plain {
             &mut self.tool,
             &mut self.spares,
             &mut self.settled,
+            &mut self.floors,
             action,
         )
     }
@@ -195,5 +214,6 @@ impl Plain {
     {
         self.state.now = next.0;
         self.settled.clear();
+        forget_all(&mut self.floors);
     }
 }

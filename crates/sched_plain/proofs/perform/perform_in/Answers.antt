@@ -1,4 +1,6 @@
 use Rattle.std.proofs.Common.{sym, ◌∙◌}
+use Rattle.sched_model.specs.Pool.{after_in}
+use Rattle.sched_plain.proofs.KeptLaw.{event_touched_is, look_touched_is, looked_cores}
 use Rattle.sched_plain.proofs.Settling.{spared_then}
 use Rattle.sched_plain.proofs.perform.perform_in.Goals as goal
 
@@ -6,3 +8,16 @@ pub returns-else-is_looked_at-clause-pool : goal.returns-else-is_looked_at-claus
 returns-else-is_looked_at-clause-pool c =
     c.happen-event.ensures.pool
     ∙ sym (spared_then c.args.granularity c.args.t.0 c.args.pool.now c.args.action c.args.is_settled c.requires.decides c.requires.settled (sym c.needs_look-is_looked_at.ensures ∙ c.if-is_looked_at.false))
+
+pub pend-requires : goal.pend-requires
+pend-requires c =
+    looked_cores c.args.t.0 (after_in c.args.granularity c.args.t.0 c.args.pool.now c.args.action) c.happen-event.new.pool c.settle.new.pool c.as_slice.result.now c.happen-event.ensures.pool c.settle.ensures c.as_slice.ensures c.requires.after
+
+pub returns-then-is_looked_at-clause-floors : goal.returns-then-is_looked_at-clause-floors
+returns-then-is_looked_at-clause-floors c =
+    look_touched_is c.args.granularity c.args.t.0 c.args.pool.now c.args.action c.requires.some c.requires.decides.known c.requires.own c.happen-event.new.pool c.settle.new.pool c.as_slice.result.now c.args.floors.now c.touch.new.floors c.pend.new.floors
+    c.happen-event.ensures.pool c.settle.ensures c.as_slice.ensures c.touch.ensures c.pend.ensures
+
+pub returns-else-is_looked_at-clause-floors : goal.returns-else-is_looked_at-clause-floors
+returns-else-is_looked_at-clause-floors c =
+    event_touched_is c.args.granularity c.args.t.0 c.args.pool.now c.args.action c.requires.some c.requires.decides.known c.requires.own c.happen-event.new.pool c.args.floors.now c.touch.new.floors c.happen-event.ensures.pool c.touch.ensures
