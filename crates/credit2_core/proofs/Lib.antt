@@ -14,3 +14,5 @@ pub mod Coming
 pub mod Deciding
 pub mod Keeping
 pub mod Refills
+pub mod Charges
+pub mod Best

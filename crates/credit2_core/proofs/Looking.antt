@@ -1,9 +1,11 @@
 -- Where no unit waits of a domain that may run, and none was pinned, no core is to decide anew.
-use Rattle.std.proofs.Common.{◌≡◌, ◌<◌, ◌≤◌, ℕ, Bool, true, false, not, List, length, refl, ap, sym, ◌∙◌, arith}
+use Rattle.std.proofs.Common.{◌≡◌, ◌<◌, ◌≤◌, ◌+◌, ◌-◌, ◌*◌, ℕ, zero, suc, Bool, true, false, not, List, length, refl, ap, sym, ◌∙◌, arith}
 use Rattle.std.specs.Prelude.{Option, Some, None, is_some, ◌&&◌, ◌||◌, int_lt}
 use Rattle.std.specs.List.{list_any}
 use Rattle.sched_base.specs.declared.UnitId.{UnitId}
 use Rattle.sched_model.specs.declared.state.Resource.{Resource}
+use mir.Val.{bool_byte}
+use Rattle.sched_model.specs.State.{has_core_bit}
 use Rattle.sched_model.specs.Places.{at_place}
 use Rattle.sched_model.specs.Policy.{has_better_waiting}
 use Rattle.sched_model.specs.EligibleUnits.{is_allowed_by}
@@ -12,6 +14,7 @@ use Rattle.sched_laws.specs.EachPlace.{EachPlace}
 use Rattle.sched_laws.proofs.EachPlace.{place_below}
 use Rattle.sched_ops.specs.Conditions.{IsOwnOf}
 use Rattle.sched_ops.specs.WantedCores.{MayAsk, is_core_wanted}
+use Rattle.sched_ops.proofs.Bits.{front_first, front_rest}
 use Rattle.queue_laws.specs.Arrivals.{arrivals}
 use Rattle.credit2_core.specs.declared.state.Credit2State.{Credit2State}
 use Rattle.credit2_core.specs.declared.run_queue.Ready.{Ready}
@@ -58,3 +61,8 @@ module _ (h : Credit2State) (ready : Ready) (quiet : IsQuiet h ready) where
           let below = place_below cores r c is in
           ap (λ (b : Bool). not c.leaving && not c.pending && b) (none_better c.cur c.since.0 t r home (omega (arith, below, few)) (asks r c is).own)
           ∙ and-false (not c.leaving && not c.pending)
+
+-- one place more at the front of a set
+pub bits_before : (is : ℕ → Bool) (r set : ℕ) (b : Bool) → ((k : ℕ) → has_core_bit set k ≡ is (r + k)) → 0 < r → b ≡ is (r - 1) → (k : ℕ) → has_core_bit (2 * set + bool_byte b) k ≡ is (r - 1 + k)
+bits_before is r set b rest some here zero = (let same : r - 1 ≡ r - 1 + 0 = omega arith in front_first set b ∙ here ∙ ap is same)
+bits_before is r set b rest some here (suc k) = (let same : r + k ≡ r - 1 + suc k = omega (arith, some) in front_rest set b k ∙ rest k ∙ ap is same)

@@ -1,5 +1,5 @@
 -- What the first unit of the run queue is to a scan.
-use Rattle.std.specs.Prelude.{ℕ, ℤ, pos, true, false, ◌*◌, ◌&&◌, Bool, List, Option, Some, None, filter, int_lt, if◌then◌else◌}
+use Rattle.std.specs.Prelude.{ℕ, ℤ, pos, true, false, ◌≡◌, ◌<◌, ◌*◌, ◌&&◌, Bool, List, Option, Some, None, option_map, filter, int_lt, if◌then◌else◌}
 use Rattle.sched_base.specs.declared.UnitId.{UnitId}
 use Rattle.sched_base.specs.declared.Cores.{Cores}
 use Rattle.arrival_queue.specs.Filters.{first_that}
@@ -50,3 +50,7 @@ abbrev pub first_with_unit : Credit2Records → Bool → Option UnitId → UnitI
 first_with_unit records false first u = first
 first_with_unit records true None u = Some u
 first_with_unit records true (Some w) u = richer_of records w (Some u)
+
+-- each core may take some unit that waits, and the best of them has this credit
+abbrev pub HasBest : List UnitId → List (Option (List Cores)) → Credit2Records → ℤ → Type 0
+HasBest queue affinity records credit = (core home : ℕ) → core < 64 → option_map (unit_credit records) (best_of queue affinity home core records) ≡ Some credit

@@ -14,12 +14,13 @@ ghost use Rattle.credit2_core.specs.Credit2State.{IsFree, IsSound, IsLine, IsSam
 ghost use Rattle.credit2_core.specs.Choice.{best_of, credit_or_0, is_better_of};
 ghost use Rattle.credit2_core.specs.Whole.{IsReadyIn};
 
+use crate::below::is_below;
 use crate::run_queue::{Ready, best_ready, may_be_on, rekey_all, richer};
 use crate::state::Credit2State;
 use sched_base::{Cores, Moment, ResId, UnitId};
 use sched_model::ask::Ask;
 use sched_model::state::Credit2Records;
-use scheduler_records::credit2_running::{burned_credit_by, credit_of, reset};
+use scheduler_records::credit2_running::{credit_of, reset};
 use scheduler_records::credit2_slice::{domain_has_budget, is_within_limit};
 use scheduler_records::eligible::is_allowed;
 
@@ -133,7 +134,7 @@ fn better_than(
 {
     match waiting {
         None => false,
-        Some(u) => burned_credit_by(most, &state.records, t, own) < credit_of(&state.records, u),
+        Some(u) => is_below(most, &state.records, t, own, credit_of(&state.records, u)),
     }
 }
 

@@ -1,6 +1,7 @@
 //! Credit2 behind the calls of a scheduler: the run queue finds the unit of greatest credit.
 #![tactic(auto)]
 
+mod below;
 mod choice;
 pub mod credit2;
 mod decide;

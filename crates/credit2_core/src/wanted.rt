@@ -1,16 +1,22 @@
 //! The cores for which one that waits is better, and what may free something for them.
 
-ghost use Rattle.std.specs.Prelude.{◌≡◌, ◌≤◌, ℕ, Bool, false, length};
+ghost use Rattle.std.specs.Prelude.{◌≡◌, ◌≤◌, ◌<◌, ◌+◌, ◌-◌, ◌*◌, ℕ, Bool, Some, true, false, length};
 ghost use Rattle.sched_model.specs.State.{has_core_bit};
+ghost use Rattle.sched_model.specs.declared.state.Resource.{Resource as ResourceRecord};
 ghost use Rattle.sched_model.specs.Places.{at_place};
+ghost use Rattle.sched_model.specs.Policy.{has_better_waiting};
+ghost use Rattle.sched_model.specs.Credit2.{most_weight};
 ghost use Rattle.sched_laws.specs.EachPlace.{EachPlace};
 ghost use Rattle.settle_laws.specs.Frees.{may_free};
-ghost use Rattle.sched_ops.specs.Conditions.{IsNow};
+ghost use Rattle.sched_ops.specs.Conditions.{IsNow, IsOwnOf};
 ghost use Rattle.sched_ops.specs.Seen.{scheduler_without_unit};
 ghost use Rattle.sched_ops.specs.WantedCores.{MayAsk, is_core_wanted};
+ghost use Rattle.queue_laws.specs.Arrivals.{arrivals};
+ghost use Rattle.credit2_core.specs.Choice.{HasBest};
 ghost use Rattle.credit2_core.specs.Credit2State.{IsSound, scheduler_in, seen_in};
 ghost use Rattle.credit2_core.specs.Whole.{IsReadyIn};
 
+use crate::below::is_below;
 use crate::choice::better_waits;
 use crate::run_queue::Ready;
 use crate::state::Credit2State;
@@ -19,6 +25,7 @@ use sched_base::{Cores, Moment, UnitId};
 use sched_model::state::Resource;
 use sched_model::units::is_there;
 use sched_ops::wanted_where;
+use scheduler_records::credit2_running::credit_of;
 
 /// The cores that are to decide anew at t, of those at these places, each asked by itself.
 fn wanted_by_core(
@@ -41,6 +48,95 @@ fn wanted_by_core(
     })
 }
 
+/// Whether a core with this unit of its own, since a moment, is to decide anew at t, where none was pinned and a unit of this credit is
+/// the first of those that may run. A core whose unit started before a moment has run for the rate limit.
+#[inline(always)]
+fn makes_way(
+    state: &Credit2State,
+    ready: &Ready,
+    started: u64,
+    credit: i64,
+    cur: Option<UnitId>,
+    since: Moment,
+    t: Moment,
+) -> bool
+    requires sound { IsSound state.now }
+    requires now { IsNow (seen_in state.now) t.0 }
+    requires most { ready.now.most ≡ most_weight state.now.records }
+    requires free { state.now.unpinned ≡ true }
+    requires started { started ≡ (t.0 + 1) - state.now.records.limit * 1000 }
+    requires since { since.0 ≤ t.0 }
+    requires own { IsOwnOf (scheduler_in state.now) cur }
+    requires best { HasBest (arrivals state.now.queue.units) state.now.affinity state.now.records
+        credit }
+    ensures { (core home : ℕ) → core < 64 → result
+        ≡ has_better_waiting cur since.0 t.0 core home (scheduler_in state.now) }
+{
+    match cur {
+        None => true,
+        Some(own) => { since.0 < started && is_below(ready.most, &state.records, t, own, credit) }
+    }
+}
+
+/// The same of the core at a place. What most cores fail is asked first.
+#[inline(always)]
+fn is_wanted(
+    state: &Credit2State,
+    ready: &Ready,
+    started: u64,
+    credit: i64,
+    place: &Option<Resource>,
+    t: Moment,
+) -> bool
+    requires sound { IsSound state.now }
+    requires now { IsNow (seen_in state.now) t.0 }
+    requires most { ready.now.most ≡ most_weight state.now.records }
+    requires free { state.now.unpinned ≡ true }
+    requires started { started ≡ (t.0 + 1) - state.now.records.limit * 1000 }
+    requires best { HasBest (arrivals state.now.queue.units) state.now.affinity state.now.records
+        credit }
+    requires asks { (c : ResourceRecord) → place.now ≡ Some c → MayAsk t.0
+        (scheduler_in state.now) c }
+    ensures { (r home : ℕ) → r < 64 → result
+        ≡ is_core_wanted t.0 home (scheduler_in state.now) r place.now }
+{
+    match place {
+        None => false,
+        Some(c) => {
+            makes_way(state, ready, started, credit, c.cur, c.since, t) && !c.leaving && !c.pending
+        }
+    }
+}
+
+/// The cores that are to decide anew at t, of those at these places, where none was pinned and a unit of this credit is the first of those
+/// that may run. It may have each core, so it alone is compared with what the cores run.
+fn wanted_by_first(
+    state: &Credit2State,
+    ready: &Ready,
+    credit: i64,
+    cores: &[Option<Resource>],
+    t: Moment,
+) -> Cores
+    requires sound { IsSound state.now }
+    requires now { IsNow (seen_in state.now) t.0 }
+    requires most { ready.now.most ≡ most_weight state.now.records }
+    requires free { state.now.unpinned ≡ true }
+    requires best { HasBest (arrivals state.now.queue.units) state.now.affinity state.now.records
+        credit }
+    requires few { length cores.now ≤ 64 }
+    requires asks { EachPlace (MayAsk t.0 (scheduler_in state.now)) cores.now }
+    ensures { (home r : ℕ) → has_core_bit result.0 r
+        ≡ is_core_wanted t.0 home (scheduler_in state.now) r (at_place cores.now r) }
+{
+    let started = (t.0 + 1).saturating_sub(state.records.limit as u64 * 1000);
+    let mut set = 0;
+    for r in (0..cores.len()).rev() {
+        let wanted = is_wanted(state, ready, started, credit, &cores[r], t);
+        set = 2 * set + wanted as u64;
+    }
+    Cores(set)
+}
+
 /// The cores that are to decide anew at t, of those at these places. Where no unit waits of a domain that may run, and none was pinned,
 /// there is none.
 pub fn wanted(
@@ -59,10 +155,16 @@ pub fn wanted(
         ≡ is_core_wanted t.0 home.0 (scheduler_in state.now) r (at_place cores.now r) }
 {
     state.queue.law_order();
-    if ready.first.is_none() && state.unpinned {
-        return Cores(0);
+    if !state.unpinned {
+        return wanted_by_core(state, ready, cores, t, home);
     }
-    wanted_by_core(state, ready, cores, t, home)
+    match ready.first {
+        None => Cores(0),
+        Some(first) => {
+            let credit = credit_of(&state.records, first);
+            wanted_by_first(state, ready, credit, cores, t)
+        }
+    }
 }
 
 /// The same, where without the unit there would be none. Where none was pinned, only the first unit of a domain that may run can make a

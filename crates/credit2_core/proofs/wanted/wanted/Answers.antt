@@ -1,21 +1,28 @@
-use Rattle.std.proofs.Common.{◌≡◌, ◌∙◌, ap, sym, refl, false, not}
-use Rattle.std.specs.Prelude.{Option, Some, None, is_some, ◌==◌}
+use Rattle.std.proofs.Common.{◌∙◌, ap, sym, subst, rules, w64, FitsSigned}
+use Rattle.std.specs.Prelude.{◌==◌}
+use Rattle.std.proofs.lemmas.Int.{to_z-of_z}
 use Rattle.std.proofs.lemmas.Nat.Bits.{bit_at-zero}
-use Rattle.sched_base.specs.declared.UnitId.{UnitId}
 use Rattle.credit2_core.proofs.Looking.{IsQuiet, none_wanted}
+use Rattle.queue_laws.specs.Arrivals.{arrivals}
+use Rattle.credit2_core.specs.Choice.{HasBest}
+use Rattle.credit2_core.proofs.Best.{has_best}
+use Rattle.credit2_core.proofs.Waiting.{IsOrdered}
 use Rattle.credit2_core.proofs.wanted.wanted.Goals as goal
 
-none_there : (o : Option UnitId) → is_some o ≡ false → o ≡ None
-none_there None is = refl
-none_there (Some u) is = absurd cc
-
-pub returns-then-state : goal.returns-then-state
-returns-then-state c r =
+pub returns-in-None : goal.returns-in-None
+returns-in-None c r =
     let quiet : IsQuiet c.args.state.now c.args.ready.now = record {
       sound = c.requires.sound;
       kept = c.requires.ready;
       ordered = record { order = c.law_order.ensures.order; ranks = c.law_order.ensures.ranks; units = c.law_order.ensures.units };
-      none = none_there c.args.ready.now.first (c.is_none.ensures ∙ ap not c.if-is_none.true);
-      free = c.if-state.true;
+      none = c.in-None.is;
+      free = c.if-not-state.false;
     } in
     ap (λ k. k == 1) (bit_at-zero r) ∙ sym (none_wanted c.args.state.now c.args.ready.now quiet c.args.cores.now c.args.t.0 c.args.home.0 r c.requires.few c.requires.asks)
+
+pub wanted_by_first-requires-clause-best : goal.wanted_by_first-requires-clause-best
+wanted_by_first-requires-clause-best c =
+    let h = c.args.state.now in
+    let ordered : IsOrdered h.queue.units = record { order = c.law_order.ensures.order; ranks = c.law_order.ensures.ranks; units = c.law_order.ensures.units } in
+    let fits : FitsSigned w64 c.credit_of-credit.result = search rules in
+    subst (HasBest (arrivals h.queue.units) h.affinity h.records) (sym c.credit_of-credit.ensures ∙ sym (to_z-of_z w64 c.credit_of-credit.result fits)) (has_best h c.args.ready.now c.in-Some.first c.requires.sound c.requires.ready ordered c.if-not-state.false c.in-Some.is)
