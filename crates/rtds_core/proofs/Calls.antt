@@ -71,7 +71,7 @@ own_unit domains affinity q spare latest None is own = tt
 own_unit domains affinity q spare latest (Some u) is own =
     let o : IsOwn (seen_of domains affinity q spare latest).scheduler u = own u refl in
     let r = member_record domains affinity u is o.member in
-    record { unit = r.0; at = r.1; waits_not = o.waits_not }
+    record { unit = r.0; at = r.1; on = sym (ap on_in r.1) ∙ o.on; waits_not = o.waits_not }
 
 -- the queues after a charge of the core's own
 pub own_low : (domains : List (Option (List RtdsUnit))) (affinity : List (Option (List Cores))) (q : Lists) (cur : Option UnitId) → IsShaped domains affinity → IfSome cur (IsOwnUnit domains q) → (u : UnitId) → cur ≡ Some u → IsLow u

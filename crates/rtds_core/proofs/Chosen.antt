@@ -37,10 +37,11 @@ use Rattle.rtds_core.proofs.Steps.{tells_waiting, kept_removed, kept_like, kept_
 use Rattle.std.proofs.Math.Bool.{or-false}
 use Rattle.std.proofs.lemmas.Bool.{cases_Bool}
 
--- a core's own unit: it has a record, and does not wait
+-- a core's own unit: it has a record, is on, and does not wait
 pub record IsOwnUnit (domains : List (Option (List RtdsUnit))) (q : Lists) (u : UnitId) : Type 0 where
   pub unit : RtdsUnit
   pub at : rtds_unit_at domains u ≡ Some unit
+  pub on : is_some unit.burned ≡ true
   pub waits_not : has_listed_unit (queue_of q) u ≡ false
 
 set_set : (i : ℕ) (a b : Option Moment) (dues : List (Option Moment)) → slice_set (slice_set dues i a) i b ≡ slice_set dues i b
@@ -70,7 +71,7 @@ module _ (affinity : List (Option (List Cores))) (q : Lists) (masks : List Cores
 
   own_charged : (cur : Option UnitId) (domains : List (Option (List RtdsUnit))) → IfSome cur (IsOwnUnit domains q) → IfSome cur (IsOwnUnit (own_burned_domains cur t domains) q)
   own_charged None domains own = tt
-  own_charged (Some u) domains own = record { unit = unit_burned_to t own.unit; at = rtds_unit-same u (unit_burned_to t) domains own.unit own.at; waits_not = own.waits_not }
+  own_charged (Some u) domains own = record { unit = unit_burned_to t own.unit; at = rtds_unit-same u (unit_burned_to t) domains own.unit own.at; on = burned_on t own.unit ∙ own.on; waits_not = own.waits_not }
 
   -- it runs no more
   kept_stopped : (cur : Option UnitId) (domains : List (Option (List RtdsUnit))) (dues : List (Option Moment)) → IfSome cur (IsOwnUnit domains q) → IsKept domains affinity q masks dues spare t → IsKept (off_domains cur domains) affinity q masks (dues_without cur dues) spare t

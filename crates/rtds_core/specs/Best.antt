@@ -3,11 +3,13 @@ use Rattle.std.specs.Prelude.{ℕ, ◌+◌, ◌≡◌, ◌<◌, Bool, false, Lis
 use Rattle.std.specs.List.{AllByRecursion}
 use Rattle.sched_base.specs.Numbers.{moment}
 use Rattle.unit_places.specs.Masks.{mask_of}
+use Rattle.unit_places.specs.Places.{unit_index}
+use Rattle.due_heap.specs.Dues.{armed_moment}
 use Rattle.sched_base.specs.declared.Cores.{Cores}
 use Rattle.sched_base.specs.declared.Moment.{Moment}
 use Rattle.sched_base.specs.declared.UnitId.{UnitId}
 use Rattle.sched_model.specs.declared.state.RtdsUnit.{RtdsUnit}
-use Rattle.sched_model.specs.Places.{at_place, is_unit}
+use Rattle.sched_model.specs.Places.{at_place}
 use Rattle.sched_model.specs.EligibleUnits.{unit_cores, rtds_unit_at}
 use Rattle.sched_model.specs.Rtds.{unit_left_budget, is_unit_before, running_domains}
 use Rattle.arrival_queue.specs.Queues.{Queued}
@@ -87,7 +89,10 @@ abbrev pub dues_without : Option UnitId → List (Option Moment) → List (Optio
 dues_without None dues = dues
 dues_without (Some u) dues = with_due u None dues
 
--- the same, but for one that is chosen again
-abbrev pub dues_left : Option UnitId → Option UnitId → List (Option Moment) → List (Option Moment)
-dues_left None chosen dues = dues
-dues_left (Some u) chosen dues = (if is_unit chosen u then dues else with_due u None dues)
+-- a core's own unit after its charge up to a moment: it is on from then, does not wait, and its deadline is armed
+pub record IsCharged (at : ℕ) (domains : List (Option (List RtdsUnit))) (q : Lists) (dues : List (Option Moment)) (u : UnitId) : Type 0 where
+  pub unit : RtdsUnit
+  pub there : rtds_unit_at domains u ≡ Some unit
+  pub on : unit.burned ≡ Some at
+  pub waits_not : holds q u ≡ false
+  pub armed : armed_moment dues (unit_index u) ≡ Some (moment unit.deadline)

@@ -9,7 +9,7 @@ ghost use Rattle.sched_model.specs.Rtds.{unit_left_budget, first_of_units, rtds_
 ghost use Rattle.arrival_queue.specs.Order.{IsInOrder, EachRankOnce, EachUnitOnce};
 ghost use Rattle.scheduler_records.specs.Parts.{scheduler_of};
 ghost use Rattle.unit_places.specs.Places.{unit_index};
-ghost use Rattle.rtds_core.specs.Best.{queue_of, key_by, AreQueued, AreMasks, list_of, is_waiting_first, due_at, deadline_in, run_from, queues_without, dues_with, dues_left};
+ghost use Rattle.rtds_core.specs.Best.{queue_of, key_by, AreQueued, AreMasks, list_of, is_waiting_first, due_at, deadline_in, run_from, queues_without, dues_with, dues_without, IsCharged};
 ghost use Rattle.rtds_core.specs.RtdsParts.{IsShaped};
 
 use crate::alarms::Alarms;
@@ -19,7 +19,7 @@ use sched_model::ask::Ask;
 use sched_model::config::Pins;
 use sched_model::row::Row;
 use sched_model::state::{RtdsUnit, RtdsUnits};
-use sched_model::units::is_there;
+use sched_model::units::is_same_choice;
 use scheduler_records::rtds::{budget_left, own_candidate, rtds_unit, set_running, unit_before};
 use unit_places::Masks;
 
@@ -110,27 +110,20 @@ pub fn due_of(domains: &[Option<RtdsUnits>], at: u64, chosen: Option<UnitId>) ->
     }
 }
 
-/// The core's own unit runs no more. As it does not wait, it is not armed either, unless it is chosen again: its moment stays then.
-pub fn stop(
-    cur: Option<UnitId>,
-    chosen: Option<UnitId>,
-    domains: &mut Row<Option<RtdsUnits>>,
-    alarms: &mut Alarms,
-)
+/// The core's own unit runs no more. As it does not wait, it is not armed either.
+fn stop(cur: Option<UnitId>, domains: &mut Row<Option<RtdsUnits>>, alarms: &mut Alarms)
     requires known { ForSome cur (λ u. unit_index u < 2048) }
     ensures domains { domains.new ≡ off_domains cur domains.old }
-    ensures alarms { alarms.new ≡ dues_left cur chosen alarms.old }
+    ensures alarms { alarms.new ≡ dues_without cur alarms.old }
 {
     if let Some(u) = cur {
         set_running(None, u, domains);
-        if !is_there(chosen, u) {
-            alarms.disarm(u);
-        }
+        alarms.disarm(u);
     }
 }
 
 /// The chosen unit runs from a moment on. It waits no more, and its deadline is armed.
-pub fn start(
+fn start(
     at: u64,
     chosen: Option<UnitId>,
     domains: &mut Row<Option<RtdsUnits>>,
@@ -148,4 +141,29 @@ pub fn start(
         let _ = queues.remove(u);
         alarms.arm(u, Moment(deadline));
     }
+}
+
+/// The core's own unit runs no more, and the chosen unit runs from a moment on. Where they are the same nothing changes, since the unit was
+/// charged up to that moment, does not wait, and is armed.
+pub fn switch(
+    at: u64,
+    cur: Option<UnitId>,
+    chosen: Option<UnitId>,
+    domains: &mut Row<Option<RtdsUnits>>,
+    queues: &mut RtdsQueues,
+    alarms: &mut Alarms,
+)
+    requires own { ForSome cur (λ u. unit_index u < 2048) }
+    requires charged { ForSome cur (IsCharged at domains.old queues.old alarms.old) }
+    requires known { ForSome chosen (λ u. unit_index u < 2048) }
+    ensures domains { domains.new ≡ run_from at chosen (off_domains cur domains.old) }
+    ensures queues { queues.new ≡ queues_without chosen queues.old }
+    ensures alarms { alarms.new ≡ dues_with (off_domains cur domains.old) chosen
+        (dues_without cur alarms.old) }
+{
+    if is_same_choice(chosen, cur) {
+        return;
+    }
+    stop(cur, domains, alarms);
+    start(at, chosen, domains, queues, alarms);
 }

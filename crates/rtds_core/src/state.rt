@@ -10,7 +10,7 @@ ghost use Rattle.rtds_core.specs.RtdsParts.{size, renewed_if, rearmed_dues};
 ghost use Rattle.rtds_core.specs.WantedCores.{is_ready};
 
 use crate::alarms::Alarms;
-use crate::best::{due_of, key_of, pick, start, stop};
+use crate::best::{due_of, key_of, pick, switch};
 use crate::masks::set_masks;
 use crate::records::join_records;
 use crate::wanted::{Ahead, open_cores, outrun_by, stands_behind, wanted};
@@ -220,9 +220,9 @@ impl RtdsState {
             ask,
         );
         let due = due_of(self.domains.as_slice(), ask.at.0, chosen);
-        stop(ask.cur, chosen, &mut self.domains, &mut self.alarms);
-        start(
+        switch(
             ask.at.0,
+            ask.cur,
             chosen,
             &mut self.domains,
             &mut self.queues,

@@ -1,8 +1,7 @@
 use Rattle.std.proofs.Common.{◌≡◌, ◌≤◌, ◌∙◌, ap, sym, subst, List, Option, arith, refl}
-use Rattle.std.specs.Option.{IfSome}
+use Rattle.std.specs.Option.{ForSome, IfSome}
 use Rattle.sched_base.specs.declared.Cores.{Cores}
 use Rattle.sched_base.specs.declared.UnitId.{UnitId}
-use Rattle.sched_base.specs.declared.Moment.{Moment}
 use Rattle.sched_model.specs.declared.state.RtdsUnit.{RtdsUnit}
 use Rattle.sched_model.specs.declared.state.Records.TheVariants.{RtdsPool}
 use Rattle.sched_model.specs.Rtds.{own_burned_domains, off_domains, rtds_choice, unit_left_budget}
@@ -10,9 +9,9 @@ use Rattle.sched_model.specs.Policy.{decision_of, after_decision}
 use Rattle.sched_ops.specs.Seen.{Seen, seen_at}
 use Rattle.scheduler_records.specs.Parts.{scheduler_of}
 use Rattle.rtds_queue.specs.Lists.{Lists}
-use Rattle.rtds_core.specs.Best.{queue_of, AreQueued, queues_without, dues_with, dues_without, run_from}
+use Rattle.rtds_core.specs.Best.{queue_of, AreQueued, queues_without, dues_with, dues_without, run_from, IsCharged}
 use Rattle.rtds_core.specs.RtdsParts.{IsShaped, seen_of}
-use Rattle.rtds_core.proofs.Again.{armed_again}
+use Rattle.rtds_core.proofs.Again.{is_charged}
 use Rattle.rtds_core.proofs.Changed.{shared_fits}
 use Rattle.rtds_core.proofs.Queues.{IsOrdered}
 use Rattle.rtds_core.proofs.First.{IsKnown}
@@ -52,15 +51,24 @@ pub due_of-due-requires-clause-left : goal.due_of-due-requires-clause-left
 due_of-due-requires-clause-left c u =
     subst (λ (ds : List (Option (List RtdsUnit))). unit_left_budget ds u ≤ 1000000000000) (sym c.as_slice-3.ensures) (c.burn_cur.ensures.left u)
 
-pub stop-requires : goal.stop-requires
-stop-requires c =
+pub switch-requires-clause-own : goal.switch-requires-clause-own
+switch-requires-clause-own c =
     let i = c.self.inside in
     let ask = c.args.ask.now in
     let own = own_asked i.domains i.affinity i.queues i.spare i.latest ask c.args.self.now c.self.view_is c.requires.asked c.self.invariant.shape in
-    record { known = λ u is. (own_low i.domains i.affinity i.queues ask.cur c.self.invariant.shape own u is).id }
+    λ u is. (own_low i.domains i.affinity i.queues ask.cur c.self.invariant.shape own u is).id
 
-pub start-requires : goal.start-requires
-start-requires c =
+pub switch-requires-clause-charged : goal.switch-requires-clause-charged
+switch-requires-clause-charged c =
+    let i = c.self.inside in
+    let ask = c.args.ask.now in
+    let later = kept_asked i.domains i.affinity i.queues i.masks i.alarms i.spare i.latest ask c.args.self.now c.self.view_is c.requires.asked c.self.invariant in
+    let own = own_asked i.domains i.affinity i.queues i.spare i.latest ask c.args.self.now c.self.view_is c.requires.asked c.self.invariant.shape in
+    subst (λ (ds : List (Option (List RtdsUnit))). ForSome ask.cur (IsCharged ask.at.0 ds i.queues i.alarms)) (sym c.burn_cur.ensures.domains)
+    (is_charged i.affinity i.queues i.masks i.spare ask.at.0 ask.cur i.domains i.alarms own later)
+
+pub switch-requires-clause-known : goal.switch-requires-clause-known
+switch-requires-clause-known c =
     let i = c.self.inside in
     let ask = c.args.ask.now in
     let later = kept_asked i.domains i.affinity i.queues i.masks i.alarms i.spare i.latest ask c.args.self.now c.self.view_is c.requires.asked c.self.invariant in
@@ -73,7 +81,7 @@ start-requires c =
     c.pick-chosen.ensures ∙ ap (λ (a : List (Option (List Cores))). rtds_choice ask (scheduler_of (queue_of i.queues) a (RtdsPool c.as_slice.result.now)) c.as_slice.result.now) c.as_slice-2.ensures
     ∙ ap (λ (ds : List (Option (List RtdsUnit))). rtds_choice ask (scheduler_of (queue_of i.queues) i.affinity (RtdsPool ds)) ds) slice in
     let known : IfSome c.pick-chosen.result (IsKnown burned) = subst (λ (o : Option UnitId). IfSome o (IsKnown burned)) (sym chosen) (choice_known burned ask (seen_of i.domains i.affinity i.queues i.spare i.latest).scheduler) in
-    record { known = λ u is. (known_low burned i.affinity c.pick-chosen.result charged.shape known u is).id }
+    λ u is. (known_low burned i.affinity c.pick-chosen.result charged.shape known u is).id
 
 pub invariant_of-self : goal.invariant_of-self
 invariant_of-self c =
@@ -89,14 +97,12 @@ invariant_of-self c =
     c.pick-chosen.ensures ∙ ap (λ (a : List (Option (List Cores))). rtds_choice ask (scheduler_of (queue_of i.queues) a (RtdsPool c.as_slice.result.now)) c.as_slice.result.now) c.as_slice-2.ensures
     ∙ ap (λ (ds : List (Option (List RtdsUnit))). rtds_choice ask (scheduler_of (queue_of i.queues) i.affinity (RtdsPool ds)) ds) slice in
     let known : IfSome c.pick-chosen.result (IsKnown burned) = subst (λ (o : Option UnitId). IfSome o (IsKnown burned)) (sym chosen) (choice_known burned ask (seen_of i.domains i.affinity i.queues i.spare i.latest).scheduler) in
-    let off : c.stop.new.domains ≡ off_domains ask.cur burned = c.stop.ensures.domains ∙ ap (off_domains ask.cur) c.burn_cur.ensures.domains in
-    let domains : c.start.new.domains ≡ run_from ask.at.0 c.pick-chosen.result (off_domains ask.cur burned) = c.start.ensures.domains ∙ ap (run_from ask.at.0 c.pick-chosen.result) off in
-    let alarms : c.start.new.alarms ≡ dues_with (off_domains ask.cur burned) c.pick-chosen.result (dues_without ask.cur i.alarms) =
-    c.start.ensures.alarms ∙ ap (λ (ds : List (Option (List RtdsUnit))). dues_with ds c.pick-chosen.result c.stop.new.alarms) off
-    ∙ ap (λ (dues : List (Option Moment)). dues_with (off_domains ask.cur burned) c.pick-chosen.result dues) c.stop.ensures.alarms
-    ∙ armed_again (off_domains ask.cur burned) ask.cur c.pick-chosen.result i.alarms in
-    kept_as (run_from ask.at.0 c.pick-chosen.result (off_domains ask.cur burned)) c.start.new.domains i.affinity i.affinity (queues_without c.pick-chosen.result i.queues) c.start.new.queues i.masks
-    (dues_with (off_domains ask.cur burned) c.pick-chosen.result (dues_without ask.cur i.alarms)) c.start.new.alarms i.spare ask.at.0 domains refl c.start.ensures.queues alarms
+    let domains : c.switch.new.domains ≡ run_from ask.at.0 c.pick-chosen.result (off_domains ask.cur burned) =
+    c.switch.ensures.domains ∙ ap (λ (ds : List (Option (List RtdsUnit))). run_from ask.at.0 c.pick-chosen.result (off_domains ask.cur ds)) c.burn_cur.ensures.domains in
+    let alarms : c.switch.new.alarms ≡ dues_with (off_domains ask.cur burned) c.pick-chosen.result (dues_without ask.cur i.alarms) =
+    c.switch.ensures.alarms ∙ ap (λ (ds : List (Option (List RtdsUnit))). dues_with (off_domains ask.cur ds) c.pick-chosen.result (dues_without ask.cur i.alarms)) c.burn_cur.ensures.domains in
+    kept_as (run_from ask.at.0 c.pick-chosen.result (off_domains ask.cur burned)) c.switch.new.domains i.affinity i.affinity (queues_without c.pick-chosen.result i.queues) c.switch.new.queues i.masks
+    (dues_with (off_domains ask.cur burned) c.pick-chosen.result (dues_without ask.cur i.alarms)) c.switch.new.alarms i.spare ask.at.0 domains refl c.switch.ensures.queues alarms
     (kept_chosen i.affinity i.queues i.masks i.spare ask.at.0 ask.cur c.pick-chosen.result i.domains i.alarms own known order later)
 
 pub returns-clause-after : goal.returns-clause-after
@@ -113,9 +119,9 @@ returns-clause-after c =
     c.pick-chosen.ensures ∙ ap (λ (a : List (Option (List Cores))). rtds_choice ask (scheduler_of (queue_of i.queues) a (RtdsPool c.as_slice.result.now)) c.as_slice.result.now) c.as_slice-2.ensures
     ∙ ap (λ (ds : List (Option (List RtdsUnit))). rtds_choice ask (scheduler_of (queue_of i.queues) i.affinity (RtdsPool ds)) ds) slice in
     let known : IfSome c.pick-chosen.result (IsKnown burned) = subst (λ (o : Option UnitId). IfSome o (IsKnown burned)) (sym chosen) (choice_known burned ask (seen_of i.domains i.affinity i.queues i.spare i.latest).scheduler) in
-    let off : c.stop.new.domains ≡ off_domains ask.cur burned = c.stop.ensures.domains ∙ ap (off_domains ask.cur) c.burn_cur.ensures.domains in
-    let domains : c.start.new.domains ≡ run_from ask.at.0 c.pick-chosen.result (off_domains ask.cur burned) = c.start.ensures.domains ∙ ap (run_from ask.at.0 c.pick-chosen.result) off in
-    ap (λ (ds : List (Option (List RtdsUnit))). seen_of ds i.affinity c.start.new.queues i.spare ask.at.0) domains
-    ∙ ap (λ (q : Lists). seen_of (run_from ask.at.0 c.pick-chosen.result (off_domains ask.cur burned)) i.affinity q i.spare ask.at.0) c.start.ensures.queues
+    let domains : c.switch.new.domains ≡ run_from ask.at.0 c.pick-chosen.result (off_domains ask.cur burned) =
+    c.switch.ensures.domains ∙ ap (λ (ds : List (Option (List RtdsUnit))). run_from ask.at.0 c.pick-chosen.result (off_domains ask.cur ds)) c.burn_cur.ensures.domains in
+    ap (λ (ds : List (Option (List RtdsUnit))). seen_of ds i.affinity c.switch.new.queues i.spare ask.at.0) domains
+    ∙ ap (λ (q : Lists). seen_of (run_from ask.at.0 c.pick-chosen.result (off_domains ask.cur burned)) i.affinity q i.spare ask.at.0) c.switch.ensures.queues
     ∙ seen_chosen i.affinity i.queues i.masks i.spare ask.at.0 ask c.pick-chosen.result i.domains i.alarms i.latest refl own known order later chosen
     ∙ ap (λ (s : Seen). seen_at ask.at.0 (after_decision (decision_of ask s.scheduler) s.scheduler) s) c.self.view_is
