@@ -15,9 +15,12 @@
 //!
 //! *Ordering.* A window's unit is better than every other unit, so there are no equals. There are no timers: the ends of windows are the
 //! moments at which cores ask again.
+//!
+//! `Arinc` has the units of its pool, or none before the first `reserve`. What it knows without them stands beside: the frame, the window that
+//! was found last, and the greatest moment given.
 
 ghost use Rattle.sched_model.specs.CheckedMachine.{most_span};
-ghost use Rattle.std.specs.Prelude.{◌≡◌, ◌≤◌, ◌<◌, ℕ};
+ghost use Rattle.std.specs.Prelude.{◌≡◌, ◌≤◌, ◌<◌, ℕ, [], None, true};
 ghost use Rattle.std.specs.Option.{ForSome};
 ghost use Rattle.sched_model.specs.declared.state.Records.TheVariants.{ArincPool};
 ghost use Rattle.sched_model.specs.declared.config.SchedKind.TheVariants.{Arinc653};
@@ -27,7 +30,10 @@ ghost use Rattle.sched_model.specs.declared.state.ArincRecords.{ArincRecords as 
 ghost use Rattle.sched_laws.specs.RecordRanges.{IsFrame};
 ghost use Rattle.scheduler_records.specs.Parts.{scheduler_of};
 ghost use Rattle.sched_ops.specs.Conditions.{ArePoolParams};
+ghost use Rattle.sched_ops.specs.Affinity.{is_member_among};
 ghost use Rattle.sched_ops.specs.Seen.{Tells};
+ghost use Rattle.sched_model.specs.Places.{has_listed_unit};
+ghost use Rattle.arinc_frame.specs.ArincView.{units_by, without_chosen};
 ghost use Rattle.arinc_frame.specs.Frames.{IsPresent};
 ghost use Rattle.arinc_frame.specs.WaitingUnits.{eligible_window_unit, chosen_window_unit, allowed_unit, queued_window_unit, is_another_unit};
 
@@ -43,30 +49,28 @@ use sched_model::units::{is_same, is_there};
 use sched_ops::{Choice, Places, Policy, Timer, wanted_where};
 use std::alloc::Global;
 use std::marker::Model;
+use std::mem;
 
-/// The scheduler ARINC 653 of one pool. Contracts see what they see of every scheduler: the waiting units, the sets of cores,
-/// the frame with the moment of its installation, how many units may still join, and the greatest moment given.
+/// The scheduler ARINC 653 of one pool. It holds no memory until the first `reserve`, and has no place for a domain then.
+///
+/// Contracts see what they see of every scheduler: the waiting units, the sets of cores, the frame with the moment of its installation, how
+/// many units may still join, and the greatest moment given.
 #[derive(Drop)]
 pub struct Arinc {
-    units: PoolUnits,
+    units: Option<PoolUnits>,
     records: ArincRecords,
     present: Option<Present>,
     latest: u64,
 }
 
 impl Model for Arinc {
-    ghost use Rattle.sched_model.specs.declared.state.Records.TheVariants.{ArincPool};
-    ghost use Rattle.scheduler_records.specs.Parts.{scheduler_of};
     ghost use Rattle.sched_ops.specs.Seen.{Seen};
+    ghost use Rattle.arinc_frame.specs.ArincView.{seen_by};
     ghost use Rattle.arinc_frame.specs.Frames.{IsReady};
 
     ghost Value = { Seen };
 
-    ghost view = { λ a. record {
-      scheduler = scheduler_of a.units.queue a.units.affinity (ArincPool a.records);
-      spare = a.units.spare;
-      latest = a.latest;
-    } };
+    ghost view = { λ a. seen_by a.units a.records a.latest };
 
     ghost invariant = { λ a. IsReady a.records a.present a.latest };
 }
@@ -196,6 +200,63 @@ fn decide(units: &PoolUnits, records: &ArincRecords, present: Option<Present>, a
     }
 }
 
+/// The decision for a core without a unit of its own, before memory is taken: no unit has joined, so none is chosen.
+fn bare_choice(records: &ArincRecords, present: Option<Present>, ask: &Ask) -> Choice
+    requires frame { ForSome records.now.frame IsFrame }
+    requires present { ForSome present (IsPresent records.now) }
+    requires early { ask.now.at.0 ≤ most_span }
+    requires none { ask.now.cur ≡ None }
+    ensures { Tells result (decision_of ask.now (scheduler_of [] [] (ArincPool records.now))) }
+{
+    let window = if ask.leaving {
+        None
+    } else {
+        window_now(records, present, ask.at)
+    };
+    let due = match window {
+        None => None,
+        Some(window) => Some(Moment(window.until)),
+    };
+    Choice {
+        unit: None,
+        due,
+        reset: 0,
+    }
+}
+
+/// The decision for a core. The unit that is chosen waits no more.
+fn choose(
+    units: &mut PoolUnits,
+    records: &ArincRecords,
+    present: Option<Present>,
+    ask: &Ask,
+) -> Choice
+    requires frame { ForSome records.now.frame IsFrame }
+    requires present { ForSome present (IsPresent records.now) }
+    requires early { ask.now.at.0 ≤ most_span }
+    requires core { ask.now.core.0 < 64 }
+    ensures answer { Tells result (decision_of ask.now
+        (scheduler_of units.old.queue units.old.affinity (ArincPool records.now))) }
+    ensures taken { units.new ≡ without_chosen result.unit units.old }
+{
+    let choice = decide(units, records, present, ask);
+    if let Some(u) = choice.unit {
+        units.dequeue(u);
+    }
+    choice
+}
+
+/// Does nothing, and tells that the units that wait have joined.
+fn law_members(units: &Option<PoolUnits>)
+    ensures { (u : UnitId) → has_listed_unit (units_by units.now).queue u ≡ true →
+        is_member_among (units_by units.now).affinity u ≡ true }
+{
+    match units {
+        None => {}
+        Some(units) => units.keeps(),
+    }
+}
+
 impl Arinc {
     ghost use Rattle.std.specs.Prelude.{◌≡◌};
     ghost use Rattle.sched_model.specs.declared.config.SchedKind.TheVariants as kinds;
@@ -206,7 +267,7 @@ impl Arinc {
         ensures { result ≡ bare_seen kinds.Arinc653 }
     {
         Arinc {
-            units: PoolUnits::empty(),
+            units: None,
             records: ArincRecords {
                 frame: None,
                 installed: 0,
@@ -221,7 +282,8 @@ impl Policy for Arinc {
     ghost seen = { λ a. a };
 
     fn reserve(&mut self, alloc: Global, places: Places, units: usize) -> Result<(), NoMemory> {
-        self.units = PoolUnits::room(alloc, places.domains, units)?;
+        let units = PoolUnits::room(alloc, places.domains, units)?;
+        drop(mem::replace(&mut self.units, Some(units)));
         self.records = ArincRecords {
             frame: None,
             installed: 0,
@@ -231,7 +293,7 @@ impl Policy for Arinc {
     }
 
     fn restart(&mut self, params: &PoolParams) {
-        self.units.keeps();
+        law_members(&self.units);
         self.records = ArincRecords {
             frame: frame_of(params),
             installed: 0,
@@ -240,37 +302,53 @@ impl Policy for Arinc {
     }
 
     fn join(&mut self, d: DomId, units: u8, params: &DomParams, t: Moment) {
-        self.units.join(d, units);
         self.latest = t.0;
+        match &mut self.units {
+            None => {}
+            Some(members) => members.join(d, units),
+        }
     }
 
     fn part(&mut self, d: DomId) {
-        self.units.part(d);
+        match &mut self.units {
+            None => {}
+            Some(units) => units.part(d),
+        }
     }
 
     fn enqueue(&mut self, u: UnitId) {
-        self.units.enqueue(u);
+        match &mut self.units {
+            None => {}
+            Some(units) => units.enqueue(u),
+        }
     }
 
     fn dequeue(&mut self, u: UnitId) {
-        self.units.dequeue(u);
+        match &mut self.units {
+            None => {}
+            Some(units) => units.dequeue(u),
+        }
     }
 
     fn choose(&mut self, ask: &Ask) -> Choice {
         self.latest = ask.at.0;
         self.present = found_at(&self.records, self.present, ask.at);
-        let choice = decide(&self.units, &self.records, self.present, ask);
-        if let Some(u) = choice.unit {
-            self.units.dequeue(u);
+        match &mut self.units {
+            None => bare_choice(&self.records, self.present, ask),
+            Some(units) => choose(units, &self.records, self.present, ask),
         }
-        choice
     }
 
     fn wanted(&self, cores: &[Option<Resource>], t: Moment, home: Cores) -> Cores {
-        let waiting = if_waits(&self.units, unit_now(&self.records, self.present, t));
-        wanted_where(cores, |core, cur, _since| {
-            is_wanted(&self.units, waiting, cur, core, home)
-        })
+        match &self.units {
+            None => Cores(0),
+            Some(units) => {
+                let waiting = if_waits(units, unit_now(&self.records, self.present, t));
+                wanted_where(cores, |core, cur, _since| {
+                    is_wanted(units, waiting, cur, core, home)
+                })
+            }
+        }
     }
 
     fn wanted_for(&self, u: UnitId, cores: &[Option<Resource>], t: Moment, home: Cores) -> Cores {
@@ -306,7 +384,10 @@ impl Policy for Arinc {
                 };
                 self.present = None;
             }
-            ParamChange::Pin { dom, unit, cores } => self.units.pin(*dom, *unit, *cores),
+            ParamChange::Pin { dom, unit, cores } => match &mut self.units {
+                None => {}
+                Some(units) => units.pin(*dom, *unit, *cores),
+            },
             _ => {}
         }
         self.latest = t.0;
@@ -323,6 +404,9 @@ impl Policy for Arinc {
     }
 
     fn keeps(&self) {
-        self.units.keeps();
+        match &self.units {
+            None => {}
+            Some(units) => units.keeps(),
+        }
     }
 }

@@ -1,6 +1,6 @@
 -- Each change of the units of a pool keeps that they are whole.
 use Rattle.std.proofs.Common.{◌≡◌, ◌≤◌, ◌<◌, ℕ, Bool, true, false, ◌||◌, List, [], ◌∷◌, ◌++◌, refl, arith, subst, sym, ◌∙◌, ap, cond, length}
-use Rattle.std.specs.Prelude.{Option, Some, None, nat_lt, replicate, not, filter, is_some, unwrap_or}
+use Rattle.std.specs.Prelude.{Option, Some, None, nat_lt, replicate, not, filter, is_some}
 use Rattle.std.specs.List.{list_any}
 use Rattle.std.proofs.Math.Decide.{ℕ_discrete}
 use Rattle.std.proofs.lemmas.List.{length-replicate, length-append}
@@ -75,8 +75,8 @@ none_in u affinity none member =
     omega (arith, low)
 
 -- what callers see of these fields
-abbrev pub units_of : List UnitId → Option (List (Option (List Cores))) → ℕ → Units
-units_of queue affinity spare = record { queue = queue; affinity = unwrap_or affinity []; spare = spare }
+abbrev pub units_of : List UnitId → List (Option (List Cores)) → ℕ → Units
+units_of queue affinity spare = record { queue = queue; affinity = affinity; spare = spare }
 
 pub whole_joined : (d count : ℕ) (units : Units) → at_place units.affinity d ≡ None → count ≤ units.spare → IsWhole units → IsWhole (after_join d count units)
 whole_joined d count units absent few whole =

@@ -3,9 +3,8 @@
 //! It is what the schedulers without keys have in common: nothing but the order of arrival tells their waiting units apart.
 #![tactic(auto)]
 
-ghost use Rattle.std.specs.Prelude.{◌≡◌, ◌≤◌, ◌<◌, Some, None, true, false, length, IfNone, IfOk, IfSome, unwrap_or, [], slice_get, slice_set};
-ghost use Rattle.sched_model.specs.Places.{at_place, change_at, has_listed_unit, without_unit};
-ghost use Rattle.sched_model.specs.Policy.{pinned_cores};
+ghost use Rattle.std.specs.Prelude.{◌≡◌, ◌≤◌, ◌<◌, Some, None, true, false, length, IfNone, IfOk, IfSome, slice_get};
+ghost use Rattle.sched_model.specs.Places.{at_place, has_listed_unit, without_unit};
 ghost use Rattle.sched_model.specs.EligibleUnits.{is_allowed_by};
 ghost use Rattle.sched_ops.specs.Conditions.{IsApart};
 
@@ -32,12 +31,11 @@ use std::marker::Model;
 pub struct PoolUnits {
     queue: Queue,
     marks: Marks,
-    affinity: Option<Row<Option<Pins>>>,
+    affinity: Row<Option<Pins>>,
     spare: usize,
 }
 
 impl Model for PoolUnits {
-    ghost use Rattle.std.specs.Prelude.{[], unwrap_or};
     ghost use Rattle.pool_units.specs.Units.{Units};
     ghost use Rattle.pool_units.specs.Marks.{IsMarked};
 
@@ -45,31 +43,12 @@ impl Model for PoolUnits {
 
     ghost view = { λ a. record {
       queue = a.queue;
-      affinity = unwrap_or a.affinity [];
+      affinity = a.affinity;
       spare = a.spare;
     } };
 
     ghost invariant = { λ a. IsMarked a.marks
-        (record { queue = a.queue; affinity = unwrap_or a.affinity []; spare = a.spare }) };
-}
-
-/// The domain's units have these sets of cores from now on, where there is a place for the domain.
-fn set_sets(affinity: &mut Option<Row<Option<Pins>>>, d: DomId, sets: Option<Pins>)
-    ensures { unwrap_or affinity.new [] ≡ slice_set (unwrap_or affinity.old []) d.0 sets }
-{
-    if let Some(places) = affinity {
-        set_place(places, d.0, sets);
-    }
-}
-
-/// One of the domain's units, or all of them, have this set of cores from now on.
-fn pin_sets(affinity: &mut Option<Row<Option<Pins>>>, d: DomId, unit: Option<u8>, cores: Cores)
-    ensures { unwrap_or affinity.new [] ≡ change_at d.0 (pinned_cores unit cores)
-        (unwrap_or affinity.old []) }
-{
-    if let Some(places) = affinity {
-        pin(d, unit, cores, places);
-    }
+        (record { queue = a.queue; affinity = a.affinity; spare = a.spare }) };
 }
 
 /// Where the unit stands among these, looked for from the end. `None` where it does not.
@@ -100,17 +79,6 @@ impl PoolUnits {
     ghost use Rattle.pool_units.specs.Units.{vacant_units, HasNoneWaiting, after_join, after_part, after_enqueue, after_dequeue, pinned_in};
     ghost use Rattle.sched_ops.specs.Affinity.{joined_unit_count, is_member_among};
     ghost use Rattle.unit_places.specs.Places.{has_unit_place};
-    /// No unit, no place for a domain and no room. It has no memory.
-    pub fn empty() -> Self
-        ensures { result ≡ vacant_units 0 0 }
-    {
-        PoolUnits {
-            queue: Short::new(),
-            marks: Marks::empty(),
-            affinity: None,
-            spare: 0,
-        }
-    }
 
     /// No unit, with so many places for domains and room for so many units.
     pub fn room(alloc: Global, domains: u8, units: usize) -> Result<Self, NoMemory>
@@ -122,7 +90,7 @@ impl PoolUnits {
         Ok(PoolUnits {
             queue: Short::new(),
             marks: Marks::room(alloc, domains)?,
-            affinity: Some(affinity),
+            affinity,
             spare: units,
         })
     }
@@ -136,7 +104,7 @@ impl PoolUnits {
         ensures { self.new ≡ after_join d.0 units self.old }
     {
         let sets = copies(Cores(u64::MAX), units);
-        set_sets(&mut self.affinity, d, Some(sets));
+        set_place(&mut self.affinity, d.0, Some(sets));
         self.spare -= units as usize;
     }
 
@@ -157,7 +125,7 @@ impl PoolUnits {
         ensures { self.new ≡ after_part d.0 self.old }
     {
         let units = self.count(d);
-        set_sets(&mut self.affinity, d, None);
+        set_place(&mut self.affinity, d.0, None);
         self.spare += units;
     }
 
@@ -201,7 +169,7 @@ impl PoolUnits {
     pub fn pin(&mut self, d: DomId, unit: Option<u8>, cores: Cores)
         ensures { self.new ≡ pinned_in d.0 unit cores self.old }
     {
-        pin_sets(&mut self.affinity, d, unit, cores);
+        pin(d, unit, cores, &mut self.affinity);
     }
 
     /// The units that wait, in order of arrival.
@@ -215,10 +183,7 @@ impl PoolUnits {
     pub fn affinity(&self) -> &[Option<Pins>]
         ensures { result.now ≡ self.now.affinity }
     {
-        match &self.affinity {
-            None => &[],
-            Some(affinity) => affinity.as_slice(),
-        }
+        self.affinity.as_slice()
     }
 
     /// Does nothing, and tells what is always so: no unit waits twice, those that wait have joined, and each of these has a place in tables.

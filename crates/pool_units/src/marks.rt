@@ -1,6 +1,6 @@
 //! Which units wait, told by their places.
 
-ghost use Rattle.std.specs.Prelude.{◌≡◌, false, [], replicate, slice_set, slice_index_or, unwrap_or, IfOk};
+ghost use Rattle.std.specs.Prelude.{◌≡◌, false, replicate, slice_set, slice_index_or, IfOk};
 
 use sched_base::{NoMemory, UnitId};
 use sched_model::row::Row;
@@ -11,15 +11,15 @@ use unit_places::{has_place, index_of};
 /// A mark, or none, at the place of each unit: 32 places for each domain. Contracts see the list of the places.
 #[derive(Drop)]
 pub struct Marks {
-    places: Option<Row<bool>>,
+    places: Row<bool>,
 }
 
 impl Model for Marks {
-    ghost use Rattle.std.specs.Prelude.{List, Bool, [], unwrap_or};
+    ghost use Rattle.std.specs.Prelude.{List, Bool};
 
     ghost Value = { List Bool };
 
-    ghost view = { λ a. unwrap_or a.places [] };
+    ghost view = { λ a. a.places };
 }
 
 /// So many places without a mark.
@@ -31,12 +31,10 @@ fn empty_marks(alloc: Global, count: usize) -> Result<Row<bool>, NoMemory>
 }
 
 /// There is a mark at the place from now on, or none, where there is such a place.
-fn set_mark(marks: &mut Option<Row<bool>>, place: usize, mark: bool)
-    ensures { unwrap_or marks.new [] ≡ slice_set (unwrap_or marks.old []) place mark }
+fn set_mark(places: &mut Row<bool>, place: usize, mark: bool)
+    ensures { places.new ≡ slice_set places.old place mark }
 {
-    if let Some(places) = marks
-        && place < places.len()
-    {
+    if place < places.len() {
         places.replace(place, mark);
     }
 }
@@ -49,25 +47,16 @@ fn has_mark(places: &[bool], place: usize) -> bool
 }
 
 impl Marks {
-    ghost use Rattle.std.specs.Prelude.{◌≡◌, ◌*◌, true, false, [], replicate, slice_set, IfOk};
+    ghost use Rattle.std.specs.Prelude.{◌≡◌, ◌*◌, true, false, replicate, slice_set, IfOk};
     ghost use Rattle.unit_places.specs.Places.{has_unit_place, unit_index};
     ghost use Rattle.pool_units.specs.Marks.{is_marked};
-
-    /// No place. It has no memory.
-    pub fn empty() -> Self
-        ensures { result ≡ [] }
-    {
-        Marks { places: None }
-    }
 
     /// The places of so many domains, without a mark.
     pub fn room(alloc: Global, domains: u8) -> Result<Self, NoMemory>
         ensures { IfOk result (λ marks. marks ≡ replicate (32 * domains) false) }
     {
         let places = empty_marks(alloc, 32 * domains as usize)?;
-        Ok(Marks {
-            places: Some(places),
-        })
+        Ok(Marks { places })
     }
 
     /// Marks a unit that has a place, or takes its mark away.
@@ -82,9 +71,6 @@ impl Marks {
     pub fn get(&self, u: UnitId) -> bool
         ensures { result ≡ is_marked self.now u }
     {
-        match &self.places {
-            None => false,
-            Some(places) => has_place(u) && has_mark(places.as_slice(), index_of(u)),
-        }
+        has_place(u) && has_mark(self.places.as_slice(), index_of(u))
     }
 }

@@ -10,7 +10,7 @@ use Rattle.sched_model.specs.Places.{at_place, clear_at, is_unit, same_unit}
 use Rattle.sched_model.specs.NullScheduler.{kept_without, kept_for}
 use Rattle.sched_laws.proofs.Choices.{same_unit_same}
 use Rattle.sched_laws.proofs.Counts.{is_that_unit, same_unit_refl}
-use Rattle.sched_laws.proofs.EachPlace.{at_place-put_at, at_place-put_at_other, at_place-replicate, place_below, read_put_at, read_clear_at, length_set}
+use Rattle.sched_laws.proofs.EachPlace.{at_place-put_at, at_place-put_at_other, at_place-replicate, read_put_at, read_clear_at, length_set}
 use Rattle.sched_laws.proofs.NullKept.{read_released, length_released}
 use Rattle.unit_places.specs.Places.{has_unit_place, unit_index}
 use Rattle.unit_places.proofs.Placed.{low_index}
@@ -23,22 +23,13 @@ Units = List (Option UnitId)
 abbrev Lasts : Type 0
 Lasts = List (Option ResId)
 
-pub kept_none : IsKept [] []
-kept_none =
-    record {
-      few = omega arith;
-      once = λ q r u at_q at_r. absurd (cc);
-      room = λ some. absurd (omega (arith, some));
-      last = λ r u at has. absurd (cc);
-    }
-
 -- cores that are kept for no unit
-kept_empty : (cores : ℕ) (lasts : Lasts) → cores ≤ 64 → (0 < cores → length lasts ≡ 2048) → IsKept (replicate cores None) lasts
+kept_empty : (cores : ℕ) (lasts : Lasts) → cores ≤ 64 → length lasts ≡ 2048 → IsKept (replicate cores None) lasts
 kept_empty cores lasts few room =
     record {
       few = (let n = count in omega (arith, few, n));
       once = λ q r u at_q at_r. absurd (none q u at_q);
-      room = λ some. room (let n = count in omega (arith, some, n));
+      room = room;
       last = λ r u at has. absurd (none r u at);
     }
   where
@@ -49,7 +40,7 @@ kept_empty cores lasts few room =
     none q u at = (let e : None ≡ Some u = sym (at_place-replicate cores q) ∙ at in cc)
 
 pub kept_fresh : (cores : ℕ) → cores ≤ 64 → IsKept (replicate cores None) (replicate 2048 None)
-kept_fresh cores few = kept_empty cores (replicate 2048 None) few (λ some. length-replicate {A = Option ResId} 2048 None)
+kept_fresh cores few = kept_empty cores (replicate 2048 None) few (length-replicate {A = Option ResId} 2048 None)
 
 pub kept_cleared : (kept : Units) (lasts : Lasts) → IsKept kept lasts → IsKept (replicate (length kept) None) lasts
 kept_cleared kept lasts is = kept_empty (length kept) lasts is.few is.room
@@ -59,7 +50,7 @@ kept_leave core kept lasts is =
     record {
       few = (let same = length_set core None kept in let few = is.few in omega (arith, same, few));
       once = λ q r u at_q at_r. is.once q r u (read_clear_at core q kept u at_q).1 (read_clear_at core r kept u at_r).1;
-      room = λ some. is.room (let same = length_set core None kept in omega (arith, same, some));
+      room = is.room;
       last = λ r u at has. is.last r u (read_clear_at core r kept u at).1 has;
     }
 
@@ -68,7 +59,7 @@ kept_released test kept lasts is =
     record {
       few = (let same = length_released test kept in let few = is.few in omega (arith, same, few));
       once = λ q r u at_q at_r. is.once q r u (read_released test kept q u at_q).0 (read_released test kept r u at_r).0;
-      room = λ some. is.room (let same = length_released test kept in omega (arith, same, some));
+      room = is.room;
       last = λ r u at has. is.last r u (read_released test kept r u at).0 has;
     }
 
@@ -107,12 +98,12 @@ kept_keep c u kept lasts is =
               | inr is_r ↦ is_q.0 ∙ sym is_r.0
             ]
           ];
-      room = λ some. length_lasts u c lasts ∙ is.room (let same = same_length in omega (arith, same, some));
+      room = length_lasts u c lasts ∙ is.room;
       last = λ r w at has.
           elim (read_put_at c.0 r u (kept_without (same_unit u) kept) w at) [
             | inl was ↦ (let old = read_released (same_unit u) kept r w was in last_there u w c lasts has old.1 ∙ is.last r w old.0 has)
             | inr here ↦
-                last_written r w here.1 has (let below : r < length (kept_for c.0 u kept) = place_below (kept_for c.0 u kept) r w at in let same = same_length in omega (arith, below, same))
+                last_written r w here.1 has
                 ∙ ap (λ (k : ℕ). Some (core_name k)) (sym here.0)
           ];
     }
@@ -120,10 +111,10 @@ kept_keep c u kept lasts is =
     same_length : length (kept_for c.0 u kept) ≡ length kept
     same_length = length_set c.0 (Some u) (kept_without (same_unit u) kept) ∙ length_released (same_unit u) kept
 
-    last_written : (r : ℕ) (w : UnitId) → u ≡ w → has_unit_place w ≡ true → 0 < length kept → at_place (lasts_after u c lasts) (unit_index w) ≡ Some (core_name c.0)
-    last_written r w e has some =
+    last_written : (r : ℕ) (w : UnitId) → u ≡ w → has_unit_place w ≡ true → at_place (lasts_after u c lasts) (unit_index w) ≡ Some (core_name c.0)
+    last_written r w e has =
         let mine : has_unit_place u ≡ true = subst (λ (x : UnitId). has_unit_place x ≡ true) (sym e) has in
-        let room = is.room some in
+        let room = is.room in
         let low = low_index u mine in
         subst (λ (x : UnitId). at_place (lasts_after u c lasts) (unit_index x) ≡ Some (core_name c.0)) e (last_here u c lasts mine (omega (arith, room, low)))
 

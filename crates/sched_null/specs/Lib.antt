@@ -1,2 +1,3 @@
 pub mod KeptCores
 pub mod Coming
+pub mod NullView

@@ -6,5 +6,6 @@
 
 pub mod kept;
 pub mod null;
+pub mod state;
 
 pub use null::Null;

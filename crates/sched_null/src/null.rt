@@ -13,276 +13,54 @@
 //! takes memory.
 //!
 //! *Ordering.* The unit that came to wait earlier goes first. No unit is better than a core's own. There are no timers.
+//!
+//! `Null` has a `NullState`, or none before the first `reserve`.
 
-ghost use Rattle.std.specs.Prelude.{◌≡◌, ◌==◌, ◌≤◌, ◌<◌, ◌&&◌, ℕ, [], true, false, Some, None, IfNone, IfSome, if◌then◌else◌, length};
-ghost use Rattle.sched_model.specs.Places.{at_place, has_listed_unit};
-ghost use Rattle.sched_model.specs.declared.state.Records.TheVariants.{NullPool};
-ghost use Rattle.sched_model.specs.State.{has_core_bit};
-ghost use Rattle.sched_model.specs.EligibleUnits.{is_allowed_by, is_unit_placed, is_core_given, has_given_core, eligible_units};
-ghost use Rattle.sched_model.specs.Policy.{has_better_waiting};
-ghost use Rattle.sched_model.specs.NullScheduler.{earliest_unit, null_choice, null_decision};
-ghost use Rattle.scheduler_records.specs.Parts.{scheduler_of};
-ghost use Rattle.sched_ops.specs.Seen.{Tells};
-ghost use Rattle.sched_ops.specs.WantedCores.{IsAnswer};
-ghost use Rattle.unit_places.specs.Places.{has_unit_place};
-ghost use Rattle.sched_null.specs.Coming.{is_idle, is_open_to};
+ghost use Rattle.std.specs.Prelude.{◌≡◌};
+ghost use Rattle.sched_model.specs.Policy.{records_kind};
+ghost use Rattle.sched_model.specs.declared.config.SchedKind.TheVariants as kinds;
+ghost use Rattle.sched_null.specs.NullView.{seen_by};
 
-use crate::kept::Kept;
-use pool_units::PoolUnits;
-use sched_base::{Cores, DomId, Moment, NoMemory, ResId, UnitId, has_core};
+use crate::state::NullState;
+use sched_base::{Cores, DomId, Moment, NoMemory, UnitId};
 use sched_model::ask::Ask;
-use sched_model::config::{DomParams, ParamChange, Pins, PoolParams};
+use sched_model::config::{DomParams, ParamChange, PoolParams};
 use sched_model::event::Event;
 use sched_model::facts::Stored;
-use sched_model::places::item_at;
 use sched_model::state::Resource;
-use sched_model::units::is_there;
-use sched_ops::{Choice, Places, Policy, Timer, wanted_where};
-use scheduler_records::eligible::is_allowed;
-use scheduler_records::null::passes;
+use sched_ops::{Choice, Places, Policy, Timer};
 use std::alloc::Global;
 use std::marker::Model;
+use std::mem;
 
-/// The null scheduler of one pool. Contracts see what they see of every scheduler: the waiting units, the sets of cores, the unit
-/// or none that each core is kept for, how many units may still join, and the greatest moment given.
+/// The null scheduler of one pool. It holds no memory until the first `reserve`, and has no place for a domain and no core then.
+///
+/// Contracts see what they see of every scheduler: the waiting units, the sets of cores, the unit or none that each core is kept for, how
+/// many units may still join, and the greatest moment given.
 #[derive(Drop)]
 pub struct Null {
-    units: PoolUnits,
-    kept: Kept,
-    latest: u64,
+    state: Option<NullState>,
+    early: u64,
 }
 
 impl Model for Null {
-    ghost use Rattle.sched_model.specs.declared.state.Records.TheVariants.{NullPool};
-    ghost use Rattle.scheduler_records.specs.Parts.{scheduler_of};
     ghost use Rattle.sched_ops.specs.Seen.{Seen};
 
     ghost Value = { Seen };
 
-    ghost view = { λ a.
-        record {
-          scheduler = scheduler_of a.units.queue a.units.affinity (NullPool a.kept);
-          spare = a.units.spare;
-          latest = a.latest;
-        } };
+    ghost use Rattle.sched_null.specs.NullView.{seen_by};
+
+    ghost view = { λ a. seen_by a.state a.early };
 }
 
-/// Whether the unit may have a core that is kept for it: the core is one of the pool's, and is allowed.
-fn may_have(units: &PoolUnits, home: Cores, core: ResId, u: UnitId) -> bool
-    requires { core.0 < 64 }
-    ensures { result ≡ (has_core_bit home.0 core.0
-        && is_allowed_by units.now.affinity home.0 core.0 u) }
+/// The greatest moment that was given, in nanoseconds.
+fn latest_of(state: &Option<NullState>, early: u64) -> u64
+    ensures latest { result ≡ (seen_by state.now early).latest }
+    ensures kind { records_kind (seen_by state.now early).scheduler.records ≡ kinds.Null }
 {
-    has_core(home, core) && units.is_allowed(home, core, u)
-}
-
-/// Whether the core is given to the unit: it is kept for it, is one of the pool's, and is allowed.
-fn is_placed(units: &PoolUnits, kept: &Kept, home: Cores, core: ResId, u: UnitId) -> bool
-    requires { core.0 < 64 }
-    ensures { result ≡ is_unit_placed (scheduler_of units.now.queue units.now.affinity
-        (NullPool kept.now)) kept.now home.0 core.0 u }
-{
-    is_there(kept.at(core), u) && may_have(units, home, core, u)
-}
-
-/// Whether the core is given to some unit.
-fn is_given(units: &PoolUnits, kept: &Kept, home: Cores, core: ResId) -> bool
-    requires { core.0 < 64 }
-    ensures { result ≡ is_core_given (scheduler_of units.now.queue units.now.affinity
-        (NullPool kept.now)) kept.now home.0 core.0 }
-{
-    match kept.at(core) {
-        None => false,
-        Some(w) => may_have(units, home, core, w),
-    }
-}
-
-/// The core that is given to a unit that has a place in tables: the one that is kept for it, where the unit may have that.
-fn given_core(units: &PoolUnits, kept: &Kept, home: Cores, u: UnitId) -> Option<ResId>
-    requires { has_unit_place u ≡ true }
-    ensures none { IfNone result (has_given_core (scheduler_of units.now.queue units.now.affinity
-        (NullPool kept.now)) kept.now home.0 u ≡ false) }
-    ensures given { IfSome result (λ core. is_unit_placed (scheduler_of units.now.queue
-        units.now.affinity (NullPool kept.now)) kept.now home.0 core.0 u ≡ true) }
-    ensures few { IfSome result (λ core. core.0 < 64) }
-{
-    kept.keeps();
-    let core = kept.core_of(u)?;
-    if may_have(units, home, core, u) {
-        Some(core)
-    } else {
-        None
-    }
-}
-
-/// The first waiting unit that may have the core, by a look at each of them.
-fn first_waiting(
-    waiting: &[UnitId],
-    affinity: &[Option<Pins>],
-    kept: &[Option<UnitId>],
-    home: Cores,
-    core: ResId,
-) -> Option<UnitId>
-    requires core { core.0 < 64 }
-    requires few { length kept.now ≤ 64 }
-    ensures { result ≡ earliest_unit (eligible_units
-        (scheduler_of waiting.now affinity.now (NullPool kept.now)) home.0 core.0 0) }
-{
-    for u in waiting {
-        if is_allowed(affinity, home, core, *u) && passes(kept, affinity, home, core, *u) {
-            return Some(*u);
-        }
-    }
-    None
-}
-
-fn if_waits(units: &PoolUnits, u: UnitId) -> Option<UnitId>
-    ensures { result ≡ (if has_listed_unit units.now.queue u then Some u else None) }
-{
-    if units.waits(u) { Some(u) } else { None }
-}
-
-/// The first waiting unit that may have the core: the one that it is given to, where it is given to any.
-fn first_eligible(units: &PoolUnits, kept: &Kept, home: Cores, core: ResId) -> Option<UnitId>
-    requires { core.0 < 64 }
-    ensures { result ≡ earliest_unit (eligible_units
-        (scheduler_of units.now.queue units.now.affinity (NullPool kept.now)) home.0 core.0 0) }
-{
-    if let Some(w) = kept.at(core)
-        && may_have(units, home, core, w)
-    {
-        return if_waits(units, w);
-    }
-    first_waiting(
-        units.waiting(),
-        units.affinity(),
-        kept.as_slice(),
-        home,
-        core,
-    )
-}
-
-/// Whether a core with this unit of its own is to decide anew: one waits for it while it has none, or its own is not allowed on it. No
-/// unit is better than a core's own. Where none waits at all, none is looked for.
-fn is_wanted(
-    units: &PoolUnits,
-    kept: &Kept,
-    waits: bool,
-    cur: Option<UnitId>,
-    core: ResId,
-    home: Cores,
-) -> bool
-    requires core { core.0 < 64 }
-    requires waits { waits ≡ false → units.now.queue ≡ [] }
-    ensures { (since t : ℕ) → result ≡ has_better_waiting cur since t core.0 home.0
-        (scheduler_of units.now.queue units.now.affinity (NullPool kept.now)) }
-{
-    match cur {
-        None => waits && first_eligible(units, kept, home, core).is_some(),
-        Some(own) => !units.is_allowed(home, core, own),
-    }
-}
-
-/// Whether the core at the place is asked, and idles.
-fn idles(cores: &[Option<Resource>], core: ResId) -> bool
-    ensures { result ≡ is_idle (at_place cores.now core.0) }
-{
-    match item_at(cores, core.0 as usize) {
-        None => false,
-        Some(c) => !c.leaving && !c.pending && c.cur.is_none(),
-    }
-}
-
-/// The one core, where it is asked and idles. No other place is looked at.
-fn if_idle(cores: &[Option<Resource>], core: ResId) -> Cores
-    requires { core.0 < 64 }
-    ensures { (r : ℕ) → has_core_bit result.0 r
-        ≡ (r == core.0 && is_idle (at_place cores.now r)) }
-{
-    if idles(cores, core) {
-        Cores(1 << core.0)
-    } else {
-        Cores(0)
-    }
-}
-
-/// Whether a core with this unit of its own is open to a unit that is given none.
-fn is_open(
-    units: &PoolUnits,
-    kept: &Kept,
-    cur: Option<UnitId>,
-    core: ResId,
-    home: Cores,
-    u: UnitId,
-) -> bool
-    requires { core.0 < 64 }
-    ensures { result ≡ is_open_to (scheduler_of units.now.queue units.now.affinity
-        (NullPool kept.now)) kept.now home.0 core.0 u cur }
-{
-    match cur {
-        None => units.is_allowed(home, core, u) && !is_given(units, kept, home, core),
-        Some(_) => false,
-    }
-}
-
-/// The cores, of those at these places, that are open to a unit that is given none.
-fn open_cores(
-    units: &PoolUnits,
-    kept: &Kept,
-    cores: &[Option<Resource>],
-    home: Cores,
-    u: UnitId,
-) -> Cores
-    requires { length cores.now ≤ 64 }
-    ensures { (r : ℕ) → IsAnswer (λ core cur since answer. answer
-        ≡ is_open_to (scheduler_of units.now.queue units.now.affinity (NullPool kept.now)) kept.now
-        home.0 core.0 u cur) r (at_place cores.now r) (has_core_bit result.0 r) }
-{
-    wanted_where(cores, |core, cur, _since| {
-        is_open(units, kept, cur, core, home, u)
-    })
-}
-
-/// The core's own unit, where it was given the core and may go on, and else one that waits.
-fn choice(units: &PoolUnits, kept: &Kept, ask: &Ask) -> Option<UnitId>
-    requires { ask.now.core.0 < 64 }
-    ensures { result ≡ null_choice ask.now
-        (scheduler_of units.now.queue units.now.affinity (NullPool kept.now)) kept.now }
-{
-    let home = ask.home;
-    let core = ask.core;
-    if let Some(u) = ask.cur
-        && ask.runnable
-        && is_placed(units, kept, home, core, u)
-    {
-        return Some(u);
-    }
-    first_eligible(units, kept, home, core)
-}
-
-/// The decision for a core: the chosen unit keeps it, and a core that is leaving keeps none.
-fn decide(units: &PoolUnits, kept: &mut Kept, ask: &Ask) -> Choice
-    requires { ask.now.core.0 < 64 }
-    ensures decided { Tells result (null_decision ask.now
-        (scheduler_of units.now.queue units.now.affinity (NullPool kept.old)) kept.old) }
-    ensures records { NullPool kept.new ≡
-        (null_decision ask.now (scheduler_of units.now.queue units.now.affinity (NullPool kept.old))
-        kept.old).records }
-{
-    let core = ask.core;
-    let unit = if ask.leaving {
-        kept.leave(core);
-        None
-    } else {
-        choice(units, kept, ask)
-    };
-    if let Some(u) = unit {
-        kept.keep(core, u);
-    }
-    Choice {
-        unit,
-        due: None,
-        reset: 0,
+    match state {
+        None => early,
+        Some(state) => state.latest(),
     }
 }
 
@@ -296,115 +74,136 @@ impl Null {
         ensures { result ≡ bare_seen kinds.Null }
     {
         Null {
-            units: PoolUnits::empty(),
-            kept: Kept::empty(),
-            latest: 0,
+            state: None,
+            early: 0,
         }
     }
 }
 
 impl Policy for Null {
-    ghost seen = { λ a. a };
+    ghost seen = { λ s. s };
 
     fn reserve(&mut self, alloc: Global, places: Places, units: usize) -> Result<(), NoMemory> {
-        let units = PoolUnits::room(alloc, places.domains, units)?;
-        self.kept = Kept::room(alloc, places.cores)?;
-        self.units = units;
+        let latest = latest_of(&self.state, self.early);
+        let state = NullState::room(alloc, places, units, latest)?;
+        drop(mem::replace(&mut self.state, Some(state)));
         Ok(())
     }
 
     fn restart(&mut self, params: &PoolParams) {
-        self.units.keeps();
-        self.kept.clear();
+        match &mut self.state {
+            None => {}
+            Some(state) => state.restart(params),
+        }
     }
 
     fn join(&mut self, d: DomId, units: u8, params: &DomParams, t: Moment) {
-        self.units.join(d, units);
-        self.latest = t.0;
+        match &mut self.state {
+            None => {}
+            Some(state) => state.join(d, units, params, t),
+        }
     }
 
     fn part(&mut self, d: DomId) {
-        self.units.part(d);
-        self.kept.part(d);
+        match &mut self.state {
+            None => {}
+            Some(state) => state.part(d),
+        }
     }
 
     fn enqueue(&mut self, u: UnitId) {
-        self.units.enqueue(u);
+        match &mut self.state {
+            None => {}
+            Some(state) => state.enqueue(u),
+        }
     }
 
     fn dequeue(&mut self, u: UnitId) {
-        self.units.dequeue(u);
+        match &mut self.state {
+            None => {}
+            Some(state) => state.dequeue(u),
+        }
     }
 
     fn choose(&mut self, ask: &Ask) -> Choice {
-        self.latest = ask.at.0;
-        let choice = decide(&self.units, &mut self.kept, ask);
-        if let Some(u) = choice.unit {
-            self.units.dequeue(u);
+        if let Some(state) = &mut self.state {
+            return state.choose(ask);
         }
-        choice
+        self.early = ask.at.0;
+        Choice {
+            unit: None,
+            due: None,
+            reset: 0,
+        }
     }
 
     fn wanted(&self, cores: &[Option<Resource>], t: Moment, home: Cores) -> Cores {
-        let waits = !self.units.waiting().is_empty();
-        wanted_where(cores, |core, cur, _since| {
-            is_wanted(&self.units, &self.kept, waits, cur, core, home)
-        })
+        match &self.state {
+            None => Cores(0),
+            Some(state) => state.wanted(cores, t, home),
+        }
     }
 
     fn wanted_for(&self, u: UnitId, cores: &[Option<Resource>], t: Moment, home: Cores) -> Cores {
-        self.units.keeps();
-        self.kept.keeps();
-        if !self.units.waits(u) {
-            return Cores(0);
-        }
-        match given_core(&self.units, &self.kept, home, u) {
-            Some(core) => if_idle(cores, core),
-            None => open_cores(&self.units, &self.kept, cores, home, u),
+        match &self.state {
+            None => Cores(0),
+            Some(state) => state.wanted_for(u, cores, t, home),
         }
     }
 
-    /// No: nothing is charged, and nothing comes with time.
     fn asks_moment(&self) -> bool {
-        let _ = &self.kept;
-        false
+        match &self.state {
+            None => false,
+            Some(state) => state.asks_moment(),
+        }
     }
 
-    /// A core that leaves gives its unit free, which may have another one then.
     fn frees(&self, cur: Option<UnitId>, leaving: bool) -> bool {
-        let _ = &self.kept;
-        leaving
+        match &self.state {
+            None => leaving,
+            Some(state) => state.frees(cur, leaving),
+        }
     }
 
     fn timer_due(&self, t: Moment) -> Option<(Moment, Timer)> {
-        let _ = &self.kept;
-        None
+        match &self.state {
+            None => None,
+            Some(state) => state.timer_due(t),
+        }
     }
 
     fn timer(&mut self, which: Timer, t: Moment) -> Event {
-        let _ = &self.kept;
-        unreachable!()
+        match &mut self.state {
+            None => unreachable!(),
+            Some(state) => state.timer(which, t),
+        }
     }
 
     fn set_params(&mut self, change: &ParamChange, t: Moment) {
-        if let ParamChange::Pin { dom, unit, cores } = change {
-            self.units.pin(*dom, *unit, *cores);
+        match &mut self.state {
+            None => {}
+            Some(state) => state.set_params(change, t),
         }
-        self.latest = t.0;
     }
 
     fn stored(&self, u: UnitId) -> Stored {
-        let _ = &self.kept;
-        Stored::Null
+        match &self.state {
+            None => Stored::Null,
+            Some(state) => state.stored(u),
+        }
     }
 
     fn rate(&self) -> u32 {
-        let _ = &self.kept;
-        0
+        match &self.state {
+            None => 0,
+            Some(state) => state.rate(),
+        }
     }
 
     fn keeps(&self) {
-        self.units.keeps();
-        self.kept.keeps();
+        match &self.state {
+            None => {}
+            Some(state) => state.keeps(),
+        }
     }
 }

@@ -7,7 +7,7 @@ pub invariant_of-self : goal.invariant_of-self
 invariant_of-self c =
     let r = rw (← c.self.view_is) at c.requires in
     let n = rw (← c.self.view_is) at c.count-units.ensures in
-    rw (c.set_sets.ensures, n) (marked_parted c.args.d.0 c.self.inside.marks (units_of c.self.inside.queue c.self.inside.affinity c.self.inside.spare) r c.self.invariant)
+    rw (c.set_place.ensures, n) (marked_parted c.args.d.0 c.self.inside.marks (units_of c.self.inside.queue c.self.inside.affinity c.self.inside.spare) r c.self.invariant)
 
 pub overflow_add-self : goal.overflow_add-self
 overflow_add-self c =

@@ -1,7 +1,7 @@
 use Rattle.std.proofs.Common.{ap}
 use Rattle.sched_model.specs.declared.state.Scheduler.{Scheduler}
 use Rattle.sched_null.proofs.Choosing.{begun_anew}
-use Rattle.sched_null.proofs.null.NullPolicy.restart.Goals as goal
+use Rattle.sched_null.proofs.state.NullState.restart.Goals as goal
 
 pub returns : goal.returns
 returns c =

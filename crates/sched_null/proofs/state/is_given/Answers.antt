@@ -1,6 +1,6 @@
 use Rattle.std.proofs.Common.{sym, ◌∙◌}
 use Rattle.sched_null.proofs.Coming.{taken_where}
-use Rattle.sched_null.proofs.null.is_given.Goals as goal
+use Rattle.sched_null.proofs.state.is_given.Goals as goal
 
 pub returns-in-Some : goal.returns-in-Some
 returns-in-Some c =

@@ -1,6 +1,6 @@
 use Rattle.std.proofs.Common.{sym, ◌∙◌}
 use Rattle.sched_null.proofs.Coming.{given_none, given_not}
-use Rattle.sched_null.proofs.null.given_core.Goals as goal
+use Rattle.sched_null.proofs.state.given_core.Goals as goal
 
 pub returns-in_err-core-clause-none : goal.returns-in_err-core-clause-none
 returns-in_err-core-clause-none c =

@@ -6,7 +6,7 @@ use Rattle.sched_model.specs.Places.{at_place}
 use Rattle.sched_model.specs.State.{has_core_bit}
 use Rattle.sched_null.specs.Coming.{is_idle}
 use Rattle.sched_null.proofs.Coming.{at_one, no_core, one_core}
-use Rattle.sched_null.proofs.null.if_idle.Goals as goal
+use Rattle.sched_null.proofs.state.if_idle.Goals as goal
 
 pub returns-then-idles : goal.returns-then-idles
 returns-then-idles c r =

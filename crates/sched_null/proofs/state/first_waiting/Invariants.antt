@@ -4,7 +4,7 @@ use Rattle.sched_model.specs.declared.state.Records.TheVariants.{NullPool}
 use Rattle.sched_model.specs.EligibleUnits.{is_unit_eligible}
 use Rattle.sched_model.specs.NullScheduler.{earliest_unit}
 use Rattle.scheduler_records.specs.Parts.{scheduler_of}
-use Rattle.sched_null.proofs.null.first_waiting.Given as goal
+use Rattle.sched_null.proofs.state.first_waiting.Given as goal
 
 abbrev pub invariant-loop-u : goal.invariant-loop-u
 invariant-loop-u l =

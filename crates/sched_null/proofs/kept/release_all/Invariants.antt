@@ -1,6 +1,6 @@
 use Rattle.std.proofs.Common.{◌≡◌, take, length}
 use Rattle.std.specs.Prelude.{replicate, None}
-use Rattle.sched_null.proofs.kept.empty_all.Given as goal
+use Rattle.sched_null.proofs.kept.release_all.Given as goal
 
 abbrev pub invariant-loop-r : goal.invariant-loop-r
 invariant-loop-r l =

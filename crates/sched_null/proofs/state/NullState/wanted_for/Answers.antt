@@ -10,7 +10,7 @@ use Rattle.sched_ops.specs.WantedCores.{is_core_wanted}
 use Rattle.sched_ops.proofs.Coming.{wanted_alone, wanted_alone_by}
 use Rattle.sched_null.specs.Coming.{is_open_to}
 use Rattle.sched_null.proofs.Coming.{absent_asks, given_asks, no_core, open_asks}
-use Rattle.sched_null.proofs.null.NullPolicy.wanted_for.Goals as goal
+use Rattle.sched_null.proofs.state.NullState.wanted_for.Goals as goal
 
 pub given_core-requires : goal.given_core-requires
 given_core-requires c = c.keeps.ensures.places c.args.u (c.keeps.ensures.members c.args.u (sym c.waits.ensures ∙ c.if-not-waits.false))

@@ -4,7 +4,7 @@ use Rattle.sched_model.specs.declared.state.Records.TheVariants.{NullPool}
 use Rattle.sched_model.specs.EligibleUnits.{is_unit_eligible, is_allowed_by}
 use Rattle.scheduler_records.specs.Parts.{scheduler_of}
 use Rattle.sched_null.proofs.Choosing.{any_is_first, only_where_barred}
-use Rattle.sched_null.proofs.null.is_wanted.Goals as goal
+use Rattle.sched_null.proofs.state.is_wanted.Goals as goal
 
 pub returns-then-waits : goal.returns-then-waits
 returns-then-waits c since t =

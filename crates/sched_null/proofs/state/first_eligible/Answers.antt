@@ -1,6 +1,6 @@
 use Rattle.std.proofs.Common.{sym, ◌∙◌}
 use Rattle.sched_null.proofs.Choosing.{first_of_placed, given_to_kept}
-use Rattle.sched_null.proofs.null.first_eligible.Goals as goal
+use Rattle.sched_null.proofs.state.first_eligible.Goals as goal
 
 pub returns : goal.returns
 returns c =
