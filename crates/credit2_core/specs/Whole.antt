@@ -1,5 +1,5 @@
 -- Credit2 with or without memory.
-use Rattle.std.specs.Prelude.{ℕ, ◌≡◌, ◌==◌, Bool, true, false, not, List, Option, Some, None}
+use Rattle.std.specs.Prelude.{ℕ, ◌≡◌, ◌+◌, ◌-◌, ◌*◌, ◌==◌, Bool, true, false, not, List, Option, Some, None}
 use Rattle.std.specs.Option.{ForSome}
 use Rattle.sched_model.specs.declared.config.PoolParams.TheVariants as pool_params
 use Rattle.sched_model.specs.declared.state.Credit2Records.{Credit2Records}
@@ -8,8 +8,10 @@ use Rattle.arrival_queue.specs.Filters.{first_that, has_core_bit}
 use Rattle.arrival_queue.specs.Queues.{Queued}
 use Rattle.sched_ops.specs.Seen.{Seen, vacant_scheduler}
 use Rattle.credit2_core.specs.declared.state.Credit2State.{Credit2State}
+use Rattle.queue_laws.specs.Arrivals.{arrivals}
 use Rattle.credit2_core.specs.declared.run_queue.Ready.{Ready}
-use Rattle.credit2_core.specs.Choice.{first_ready_unit}
+use Rattle.credit2_core.specs.declared.wanted.Rival.{Rival}
+use Rattle.credit2_core.specs.Choice.{first_ready_unit, HasBest}
 use Rattle.credit2_core.specs.Domains.{AreRunnable, AreRunnableBut}
 use Rattle.credit2_core.specs.Credit2State.{IsSound, seen_in}
 
@@ -37,6 +39,14 @@ pub record IsReadyBut (d : ℕ) (stands : Bool) (records : Credit2Records) (es :
   pub domains : AreRunnableBut d records.domains ready.domains.0
   pub first : stands ≡ true → ready.first ≡ first_that (λ u. has_core_bit ready.domains.0 u.dom.0) es
   pub most : ready.most ≡ most_weight records
+
+-- where none was pinned: the greatest weight, the moment before which a unit started that has run for the rate limit at t, and the credit of
+-- the best unit that waits
+pub record IsRival (h : Credit2State) (t : ℕ) (rival : Rival) : Type 0 where
+  pub free : h.unpinned ≡ true
+  pub most : rival.most ≡ most_weight h.records
+  pub started : rival.started ≡ (t + 1) - h.records.limit * 1000
+  pub best : HasBest (arrivals h.queue.units) h.affinity h.records rival.credit
 
 -- whether the unit is the first also where the domain d may run now, or may not
 abbrev pub stays_first : Ready → ℕ → Bool → Bool

@@ -5,16 +5,13 @@ ghost use Rattle.sched_model.specs.State.{has_core_bit};
 ghost use Rattle.sched_model.specs.declared.state.Resource.{Resource as ResourceRecord};
 ghost use Rattle.sched_model.specs.Places.{at_place};
 ghost use Rattle.sched_model.specs.Policy.{has_better_waiting};
-ghost use Rattle.sched_model.specs.Credit2.{most_weight};
 ghost use Rattle.sched_laws.specs.EachPlace.{EachPlace};
 ghost use Rattle.settle_laws.specs.Frees.{may_free};
 ghost use Rattle.sched_ops.specs.Conditions.{IsNow, IsOwnOf};
 ghost use Rattle.sched_ops.specs.Seen.{scheduler_without_unit};
 ghost use Rattle.sched_ops.specs.WantedCores.{MayAsk, is_core_wanted};
-ghost use Rattle.queue_laws.specs.Arrivals.{arrivals};
-ghost use Rattle.credit2_core.specs.Choice.{HasBest};
 ghost use Rattle.credit2_core.specs.Credit2State.{IsSound, scheduler_in, seen_in};
-ghost use Rattle.credit2_core.specs.Whole.{IsReadyIn};
+ghost use Rattle.credit2_core.specs.Whole.{IsReadyIn, IsRival};
 
 use crate::below::is_below;
 use crate::choice::better_waits;
@@ -48,53 +45,46 @@ fn wanted_by_core(
     })
 }
 
-/// Whether a core with this unit of its own, since a moment, is to decide anew at t, where none was pinned and a unit of this credit is
-/// the first of those that may run. A core whose unit started before a moment has run for the rate limit.
+/// What each core's own unit is compared with at a moment, where none was pinned: the greatest weight, the moment before which a unit
+/// started that has run for the rate limit, and the credit of the first unit of those that may run.
+#[derive(Clone, Copy)]
+pub struct Rival {
+    pub most: u32,
+    pub started: u64,
+    pub credit: i64,
+}
+
+/// Whether a core with this unit of its own, since a moment, is to decide anew at t.
 #[inline(always)]
 fn makes_way(
     state: &Credit2State,
-    ready: &Ready,
-    started: u64,
-    credit: i64,
+    rival: &Rival,
     cur: Option<UnitId>,
     since: Moment,
     t: Moment,
 ) -> bool
     requires sound { IsSound state.now }
     requires now { IsNow (seen_in state.now) t.0 }
-    requires most { ready.now.most ≡ most_weight state.now.records }
-    requires free { state.now.unpinned ≡ true }
-    requires started { started ≡ (t.0 + 1) - state.now.records.limit * 1000 }
+    requires rival { IsRival state.now t.0 rival.now }
     requires since { since.0 ≤ t.0 }
     requires own { IsOwnOf (scheduler_in state.now) cur }
-    requires best { HasBest (arrivals state.now.queue.units) state.now.affinity state.now.records
-        credit }
     ensures { (core home : ℕ) → core < 64 → result
         ≡ has_better_waiting cur since.0 t.0 core home (scheduler_in state.now) }
 {
     match cur {
         None => true,
-        Some(own) => { since.0 < started && is_below(ready.most, &state.records, t, own, credit) }
+        Some(own) => {
+            since.0 < rival.started && is_below(rival.most, &state.records, t, own, rival.credit)
+        }
     }
 }
 
 /// The same of the core at a place. What most cores fail is asked first.
 #[inline(always)]
-fn is_wanted(
-    state: &Credit2State,
-    ready: &Ready,
-    started: u64,
-    credit: i64,
-    place: &Option<Resource>,
-    t: Moment,
-) -> bool
+fn is_wanted(state: &Credit2State, rival: &Rival, place: &Option<Resource>, t: Moment) -> bool
     requires sound { IsSound state.now }
     requires now { IsNow (seen_in state.now) t.0 }
-    requires most { ready.now.most ≡ most_weight state.now.records }
-    requires free { state.now.unpinned ≡ true }
-    requires started { started ≡ (t.0 + 1) - state.now.records.limit * 1000 }
-    requires best { HasBest (arrivals state.now.queue.units) state.now.affinity state.now.records
-        credit }
+    requires rival { IsRival state.now t.0 rival.now }
     requires asks { (c : ResourceRecord) → place.now ≡ Some c → MayAsk t.0
         (scheduler_in state.now) c }
     ensures { (r home : ℕ) → r < 64 → result
@@ -102,36 +92,29 @@ fn is_wanted(
 {
     match place {
         None => false,
-        Some(c) => {
-            makes_way(state, ready, started, credit, c.cur, c.since, t) && !c.leaving && !c.pending
-        }
+        Some(c) => makes_way(state, rival, c.cur, c.since, t) && !c.leaving && !c.pending,
     }
 }
 
-/// The cores that are to decide anew at t, of those at these places, where none was pinned and a unit of this credit is the first of those
-/// that may run. It may have each core, so it alone is compared with what the cores run.
+/// The cores that are to decide anew at t, of those at these places. Each may take the first unit, so it alone is compared with what they
+/// run.
 fn wanted_by_first(
     state: &Credit2State,
-    ready: &Ready,
-    credit: i64,
+    rival: &Rival,
     cores: &[Option<Resource>],
     t: Moment,
 ) -> Cores
     requires sound { IsSound state.now }
     requires now { IsNow (seen_in state.now) t.0 }
-    requires most { ready.now.most ≡ most_weight state.now.records }
-    requires free { state.now.unpinned ≡ true }
-    requires best { HasBest (arrivals state.now.queue.units) state.now.affinity state.now.records
-        credit }
+    requires rival { IsRival state.now t.0 rival.now }
     requires few { length cores.now ≤ 64 }
     requires asks { EachPlace (MayAsk t.0 (scheduler_in state.now)) cores.now }
     ensures { (home r : ℕ) → has_core_bit result.0 r
         ≡ is_core_wanted t.0 home (scheduler_in state.now) r (at_place cores.now r) }
 {
-    let started = (t.0 + 1).saturating_sub(state.records.limit as u64 * 1000);
     let mut set = 0;
     for r in (0..cores.len()).rev() {
-        let wanted = is_wanted(state, ready, started, credit, &cores[r], t);
+        let wanted = is_wanted(state, rival, &cores[r], t);
         set = 2 * set + wanted as u64;
     }
     Cores(set)
@@ -161,8 +144,12 @@ pub fn wanted(
     match ready.first {
         None => Cores(0),
         Some(first) => {
-            let credit = credit_of(&state.records, first);
-            wanted_by_first(state, ready, credit, cores, t)
+            let rival = Rival {
+                most: ready.most,
+                started: (t.0 + 1).saturating_sub(state.records.limit as u64 * 1000),
+                credit: credit_of(&state.records, first),
+            };
+            wanted_by_first(state, &rival, cores, t)
         }
     }
 }

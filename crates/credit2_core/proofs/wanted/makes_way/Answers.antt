@@ -17,36 +17,36 @@ is_below-requires-clause-fits c =
 pub returns-in-None : goal.returns-in-None
 returns-in-None c core home low =
     let h = c.args.state.now in
-    some_waits h c.args.credit c.requires.best c.args.since.0 c.args.t.0 core home low
+    some_waits h c.args.rival.now.credit c.requires.rival.best c.args.since.0 c.args.t.0 core home low
     ∙ ap (λ (cur : Option UnitId). has_better_waiting cur c.args.since.0 c.args.t.0 core home (scheduler_in h)) (sym c.in-None.is)
 
-pub returns-then-since-started : goal.returns-then-since-started
-returns-then-since-started c core home low =
+pub returns-then-since-rival : goal.returns-then-since-rival
+returns-then-since-rival c core home low =
     let h = c.args.state.now in
     let own : UnitId = c.in-Some.own in
     let run : is_rate_limited h.records c.args.since.0 c.args.t.0 ≡ false =
-    has_run c.args.since.0 c.args.t.0 c.args.started (h.records.limit * 1000) c.requires.started c.requires.since c.if-since-started.true
+    has_run c.args.since.0 c.args.t.0 c.args.rival.now.started (h.records.limit * 1000) c.requires.rival.started c.requires.since c.if-since-rival.true
     in
     let left : ℤ = unit_credit (change_unit own (burned_unit (most_weight h.records) c.args.t.0) h.records) own in
-    let burned : Bool = int_lt left c.args.credit in
-    let fits : FitsSigned w64 c.args.credit = search rules in
+    let burned : Bool = int_lt left c.args.rival.now.credit in
+    let fits : FitsSigned w64 c.args.rival.now.credit = search rules in
     c.is_below.ensures
-    ∙ ap (int_lt left) (to_z-of_z w64 c.args.credit fits)
+    ∙ ap (int_lt left) (to_z-of_z w64 c.args.rival.now.credit fits)
     ∙ ap (λ (b : Bool). not b && burned) (sym run)
-    ∙ better_waits_by h c.args.credit c.requires.best own c.args.since.0 c.args.t.0 core home low c.requires.sound c.requires.free (c.requires.own own c.in-Some.is).member
+    ∙ better_waits_by h c.args.rival.now.credit c.requires.rival.best own c.args.since.0 c.args.t.0 core home low c.requires.sound c.requires.rival.free (c.requires.own own c.in-Some.is).member
     ∙ ap (λ (cur : Option UnitId). has_better_waiting cur c.args.since.0 c.args.t.0 core home (scheduler_in h)) (sym c.in-Some.is)
 
-pub returns-else-since-started : goal.returns-else-since-started
-returns-else-since-started c core home low =
+pub returns-else-since-rival : goal.returns-else-since-rival
+returns-else-since-rival c core home low =
     let h = c.args.state.now in
     let own : UnitId = c.in-Some.own in
     let within : is_rate_limited h.records c.args.since.0 c.args.t.0 ≡ true =
-    has_not_run c.args.since.0 c.args.t.0 c.args.started (h.records.limit * 1000) c.requires.started c.requires.since c.if-since-started.false
+    has_not_run c.args.since.0 c.args.t.0 c.args.rival.now.started (h.records.limit * 1000) c.requires.rival.started c.requires.since c.if-since-rival.false
     in
-    let burned : Bool = int_lt (unit_credit (change_unit own (burned_unit (most_weight h.records) c.args.t.0) h.records) own) c.args.credit in
-    let late = c.if-since-started.false in
-    let not_early : nat_lt c.args.since.0 c.args.started ≡ false = grind (arith, late) in
+    let burned : Bool = int_lt (unit_credit (change_unit own (burned_unit (most_weight h.records) c.args.t.0) h.records) own) c.args.rival.now.credit in
+    let late = c.if-since-rival.false in
+    let not_early : nat_lt c.args.since.0 c.args.rival.now.started ≡ false = grind (arith, late) in
     not_early
     ∙ ap (λ (b : Bool). not b && burned) (sym within)
-    ∙ better_waits_by h c.args.credit c.requires.best own c.args.since.0 c.args.t.0 core home low c.requires.sound c.requires.free (c.requires.own own c.in-Some.is).member
+    ∙ better_waits_by h c.args.rival.now.credit c.requires.rival.best own c.args.since.0 c.args.t.0 core home low c.requires.sound c.requires.rival.free (c.requires.own own c.in-Some.is).member
     ∙ ap (λ (cur : Option UnitId). has_better_waiting cur c.args.since.0 c.args.t.0 core home (scheduler_in h)) (sym c.in-Some.is)

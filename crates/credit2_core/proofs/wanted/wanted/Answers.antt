@@ -20,9 +20,14 @@ returns-in-None c r =
     } in
     ap (λ k. k == 1) (bit_at-zero r) ∙ sym (none_wanted c.args.state.now c.args.ready.now quiet c.args.cores.now c.args.t.0 c.args.home.0 r c.requires.few c.requires.asks)
 
-pub wanted_by_first-requires-clause-best : goal.wanted_by_first-requires-clause-best
-wanted_by_first-requires-clause-best c =
+pub wanted_by_first-requires-clause-rival : goal.wanted_by_first-requires-clause-rival
+wanted_by_first-requires-clause-rival c =
     let h = c.args.state.now in
     let ordered : IsOrdered h.queue.units = record { order = c.law_order.ensures.order; ranks = c.law_order.ensures.ranks; units = c.law_order.ensures.units } in
-    let fits : FitsSigned w64 c.credit_of-credit.result = search rules in
-    subst (HasBest (arrivals h.queue.units) h.affinity h.records) (sym c.credit_of-credit.ensures ∙ sym (to_z-of_z w64 c.credit_of-credit.result fits)) (has_best h c.args.ready.now c.in-Some.first c.requires.sound c.requires.ready ordered c.if-not-state.false c.in-Some.is)
+    let fits : FitsSigned w64 c.credit_of.result = search rules in
+    record {
+      free = c.if-not-state.false;
+      most = c.requires.ready.most;
+      started = c.saturating_sub.ensures;
+      best = subst (HasBest (arrivals h.queue.units) h.affinity h.records) (sym c.credit_of.ensures ∙ sym (to_z-of_z w64 c.credit_of.result fits)) (has_best h c.args.ready.now c.in-Some.first c.requires.sound c.requires.ready ordered c.if-not-state.false c.in-Some.is);
+    }
