@@ -1,11 +1,10 @@
 //! Whether an event that may come is the first of the whole machine: by what is known of each core and each domain, of which only those are judged
 //! anew of which too little is known.
 
-ghost use Rattle.std.specs.Prelude.{◌≡◌, ℕ, ◌+◌, ◌<◌, ◌≤◌, ◌^◌, length, true, false, Some};
+ghost use Rattle.std.specs.Prelude.{◌≡◌, ℕ, ◌+◌, ◌<◌, ◌≤◌, true, false, Some};
 ghost use Rattle.sched_model.specs.Places.{at_place};
 ghost use Rattle.sched_model.specs.declared.state.FreeCore.{FreeCore as FreeCoreRecord};
 ghost use Rattle.sched_model.specs.Machine.{first_enabled_action, is_action_enabled, is_free_core_ready};
-ghost use Rattle.sched_model.specs.Actions.{IsOfPool, home_pool_of_action};
 ghost use Rattle.pool_laws.specs.Order.{kind_place};
 ghost use Rattle.sched_plain.specs.KeptFloors.{AreBehind, AreKept, AreKeptIf, IsCoreFloorAmong, IsDomainFloorAmong, IsFirstAtHome, IsToolQuiet, SameBefore, core_number, domain_number, floor_at, least_kind};
 ghost use Rattle.sched_plain.specs.ReachedStates.{Stands};
@@ -283,6 +282,7 @@ fn is_known_first(
 }
 
 /// The first event that may come now, where this one may, and is thought to be the first.
+#[inline(never)]
 pub fn first_by_guess(
     machine: &Machine,
     state: &mut State,

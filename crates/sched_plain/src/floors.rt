@@ -123,15 +123,25 @@ fn touch_domains(granularity: u8, action: Action, pool: &Pool, floors: &mut [u8;
     }
 }
 
-/// What is known after the event of the pool, before its cores are looked at, where anything is kept.
+/// What is known after the event of the pool, before its cores are looked at.
+#[inline(never)]
+fn touch_kept(granularity: u8, action: Action, pool: &Pool, floors: &mut Floors)
+    requires some { 0 < granularity }
+    requires fits { PoolFits pool.now }
+    ensures { floors.new ≡ touched granularity pool.now action floors.old }
+{
+    forget(touched_core(granularity, pool, action), &mut floors.cores);
+    touch_domains(granularity, action, pool, &mut floors.domains);
+}
+
+/// The same where anything is kept.
 pub fn touch(granularity: u8, action: Action, pool: &Pool, floors: &mut Option<Floors>)
     requires some { 0 < granularity }
     requires fits { PoolFits pool.now }
     ensures { floors.new ≡ option_map (touched granularity pool.now action) floors.old }
 {
     if let Some(kept) = floors {
-        forget(touched_core(granularity, pool, action), &mut kept.cores);
-        touch_domains(granularity, action, pool, &mut kept.domains);
+        touch_kept(granularity, action, pool, kept);
     }
 }
 
@@ -145,6 +155,7 @@ fn lower(r: usize, floors: &mut [u8; 64])
 }
 
 /// The same of each of these cores that is pending, of which the first has the number r.
+#[inline(never)]
 fn pend_each(r: usize, cores: &[Option<Resource>], floors: &mut [u8; 64])
     requires { r + length cores.now < 2 ^ 64 }
     ensures { floors.new ≡ pended r cores.now floors.old }
