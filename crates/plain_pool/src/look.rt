@@ -6,9 +6,9 @@ ghost use Rattle.std.specs.Option.{ForSome};
 ghost use Rattle.sched_model.specs.declared.state.Records.TheVariants.{ArincPool};
 ghost use Rattle.sched_model.specs.Credit2.{has_domain_budget};
 ghost use Rattle.sched_model.specs.Rtds.{is_unit_before};
-ghost use Rattle.sched_model.specs.Policy.{is_unit_better, has_better_waiting};
+ghost use Rattle.sched_model.specs.Policy.{has_better_waiting};
 ghost use Rattle.scheduler_records.specs.Fits.{IsFrame, RecordsFit};
-ghost use Rattle.plain_pool.specs.Looks.{Finds, IsOwnAllowed, best_from, best_waiting, better, has_left, is_better_than, is_null, is_richer, most_of};
+ghost use Rattle.plain_pool.specs.Looks.{Finds, best_from, best_waiting, better, has_left, is_better_than, is_null, is_richer, most_of};
 ghost use Rattle.plain_schedulers.specs.WaitingUnits.{HasCredit};
 
 use plain_schedulers::credit2_choice::is_more;
@@ -115,32 +115,7 @@ pub fn look_of(scheduler: &Scheduler, t: Moment) -> BestWaiting
     }
 }
 
-/// Whether the unit is better than the core's own. The greatest weight of a Credit2 pool is most.
-fn is_better(
-    scheduler: &Scheduler,
-    most: u32,
-    cur: UnitId,
-    since: Moment,
-    t: Moment,
-    u: UnitId,
-) -> bool
-    requires records { RecordsFit t.0 scheduler.now.records }
-    requires early { t.0 ≤ most_span }
-    requires most { most ≡ most_of scheduler.now.records }
-    ensures { result ≡ is_unit_better scheduler.now.records cur since.0 t.0 u }
-{
-    match &scheduler.records {
-        Records::Credit2Pool(records) => {
-            !is_within_limit(records, since, t)
-                && burned_credit_by(most, records, t, cur) < credit_of(records, u)
-        }
-        Records::RtdsPool(domains) => unit_before(domains.as_slice(), u, cur),
-        Records::ArincPool(_) => !is_same(u, cur),
-        Records::NullPool(_) => false,
-    }
-}
-
-/// Whether the best unit is better than the core's own, which is any where it has none.
+/// Whether the best unit is better than the core's own, which is any where it has none. The greatest weight of a Credit2 pool is most.
 fn is_best_better(
     scheduler: &Scheduler,
     most: u32,
@@ -156,7 +131,15 @@ fn is_best_better(
 {
     match cur {
         None => true,
-        Some(own) => is_better(scheduler, most, own, since, t, best),
+        Some(own) => match &scheduler.records {
+            Records::Credit2Pool(records) => {
+                !is_within_limit(records, since, t)
+                    && burned_credit_by(most, records, t, own) < credit_of(records, best)
+            }
+            Records::RtdsPool(domains) => unit_before(domains.as_slice(), best, own),
+            Records::ArincPool(_) => !is_same(best, own),
+            Records::NullPool(_) => false,
+        },
     }
 }
 
@@ -167,36 +150,6 @@ fn hangs_on_core(scheduler: &Scheduler, cur: Option<UnitId>) -> bool
     match &scheduler.records {
         Records::NullPool(_) => cur.is_none(),
         _ => false,
-    }
-}
-
-/// Whether the core, on which its own unit may be, is to decide anew: for the best of the waiting units, or for another one.
-fn waits_for_core(
-    look: &BestWaiting,
-    cur: Option<UnitId>,
-    since: Moment,
-    t: Moment,
-    core: ResId,
-    home: Cores,
-    scheduler: &Scheduler,
-) -> bool
-    requires look { Finds look.now t.0 scheduler.now }
-    requires records { RecordsFit t.0 scheduler.now.records }
-    requires early { t.0 ≤ most_span }
-    requires core { core.0 < 64 }
-    requires own { IsOwnAllowed scheduler.now home.0 core.0 cur }
-    ensures { result ≡ has_better_waiting cur since.0 t.0 core.0 home.0 scheduler.now }
-{
-    match look.best {
-        None => {
-            hangs_on_core(scheduler, cur)
-                && policy::better_waits(cur, since, t, core, home, scheduler)
-        }
-        Some(best) => {
-            is_best_better(scheduler, look.most, cur, since, t, best)
-                && (is_allowed(scheduler.affinity.as_slice(), home, core, best)
-                    || policy::better_waits(cur, since, t, core, home, scheduler))
-        }
     }
 }
 
@@ -218,6 +171,16 @@ pub fn better_waits(
 {
     match cur {
         Some(own) if !is_allowed(scheduler.affinity.as_slice(), home, core, own) => true,
-        _ => waits_for_core(look, cur, since, t, core, home, scheduler),
+        _ => match look.best {
+            None => {
+                hangs_on_core(scheduler, cur)
+                    && policy::better_waits(cur, since, t, core, home, scheduler)
+            }
+            Some(best) => {
+                is_best_better(scheduler, look.most, cur, since, t, best)
+                    && (is_allowed(scheduler.affinity.as_slice(), home, core, best)
+                        || policy::better_waits(cur, since, t, core, home, scheduler))
+            }
+        },
     }
 }

@@ -1,5 +1,5 @@
 -- What an event asks of the parts of a pool, and what it makes of them.
-use Rattle.std.specs.Prelude.{ℕ, ◌≡◌, true}
+use Rattle.std.specs.Prelude.{ℕ, ◌≡◌, Bool, true}
 use Rattle.sched_model.specs.declared.action.Action.{Action}
 use Rattle.sched_model.specs.Pool.{after_in, enabled_in, event_in}
 use Rattle.pool_laws.specs.CoreLooks.{IsSettled}
@@ -19,6 +19,10 @@ pub record MayAct (t : ℕ) (action : Action) (guests : guests.Seen) (cores : co
 -- the same with some scheduler
 abbrev pub MayCome : ℕ → Action → guests.Seen → cores.Seen → Type 0
 MayCome t action guests cores = (s : schedulers.Seen) × MayAct t action guests cores s
+
+-- the answer whether the event may come at t, which the cores alone tell: whatever the guests and the scheduler are
+abbrev pub TellsMayCome : ℕ → ℕ → cores.Seen → Action → Bool → Type 0
+TellsMayCome g t cores action answer = (guests : guests.Seen) (s : schedulers.Seen) → answer ≡ enabled_in g t (pool_of guests cores s) action
 
 -- the event came at t: it is answered, the pool is the one after it, and what is kept is so still. Where the outcome says that the event
 -- spares the look, a settled pool is so still, but for the unit that came to wait

@@ -12,6 +12,7 @@ ghost use Rattle.unit_state.specs.Seen.{Seen as GuestsSeen};
 ghost use Rattle.core_state.specs.Ends.{may_core_part};
 ghost use Rattle.core_state.specs.Seen.{Seen as CoresSeen, processor_among};
 ghost use Rattle.sched_ops.specs.Seen.{Seen as SchedulerSeen};
+ghost use Rattle.pool_core.specs.Events.{TellsMayCome};
 ghost use Rattle.pool_core.specs.Order.{IsFirstByIn};
 ghost use Rattle.pool_laws.specs.Actors.{IsFirstBy};
 ghost use Rattle.pool_core.specs.Seen.{pool_of};
@@ -50,8 +51,7 @@ fn may_block(guests: &Guests, cores: &CoreState, p: ProcId, t: Moment) -> bool
 
 /// Whether the core's due may come.
 fn may_slice(cores: &CoreState, r: ResId, t: Moment) -> bool
-    ensures { (g : ℕ) (guests : GuestsSeen) (s : SchedulerSeen) → result
-        ≡ enabled_in g t.0 (pool_of guests cores.now s) (Slice r) }
+    ensures { (g : ℕ) → TellsMayCome g t.0 cores.now (Slice r) result }
 {
     match cores.core(r) {
         None => false,
@@ -82,8 +82,7 @@ fn is_free_at(cores: &CoreState, p: ProcId, t: Moment) -> bool
 
 /// Whether the processor may arrive.
 fn may_arrive(cores: &CoreState, p: ProcId, t: Moment) -> bool
-    ensures { (guests : GuestsSeen) (s : SchedulerSeen) → result
-        ≡ enabled_in cores.now.granularity t.0 (pool_of guests cores.now s) (Arrive p) }
+    ensures { TellsMayCome cores.now.granularity t.0 cores.now (Arrive p) result }
 {
     cores.keeps();
     gathers(cores, ResId(p.0 / cores.granularity())) && is_free_at(cores, p, t)
@@ -91,8 +90,7 @@ fn may_arrive(cores: &CoreState, p: ProcId, t: Moment) -> bool
 
 /// Whether the core may decide.
 fn may_decide(cores: &CoreState, r: ResId, t: Moment) -> bool
-    ensures { (g : ℕ) (guests : GuestsSeen) (s : SchedulerSeen) → result
-        ≡ enabled_in g t.0 (pool_of guests cores.now s) (Decide r) }
+    ensures { (g : ℕ) → TellsMayCome g t.0 cores.now (Decide r) result }
 {
     match cores.core(r) {
         None => false,
@@ -123,8 +121,7 @@ fn is_held_at(cores: &CoreState, p: ProcId, t: Moment) -> bool
 
 /// Whether the processor may leave.
 fn may_leave(cores: &CoreState, p: ProcId, t: Moment) -> bool
-    ensures { (guests : GuestsSeen) (s : SchedulerSeen) → result
-        ≡ enabled_in cores.now.granularity t.0 (pool_of guests cores.now s) (Leave p) }
+    ensures { TellsMayCome cores.now.granularity t.0 cores.now (Leave p) result }
 {
     cores.keeps();
     parts(cores, ResId(p.0 / cores.granularity())) && is_held_at(cores, p, t)
@@ -132,8 +129,7 @@ fn may_leave(cores: &CoreState, p: ProcId, t: Moment) -> bool
 
 /// Whether the core may put away the unit that it saves.
 fn may_save(cores: &CoreState, r: ResId, t: Moment) -> bool
-    ensures { (g : ℕ) (guests : GuestsSeen) (s : SchedulerSeen) → result
-        ≡ enabled_in g t.0 (pool_of guests cores.now s) (Save r) }
+    ensures { (g : ℕ) → TellsMayCome g t.0 cores.now (Save r) result }
 {
     match cores.core(r) {
         None => false,
@@ -212,27 +208,6 @@ fn leader_step(cores: &CoreState, r: ResId, p: ProcId, t: Moment) -> Option<Acti
     None
 }
 
-/// The first event by the first processor p of the core r that may come.
-fn first_of_leader<P: Policy>(
-    guests: &Guests,
-    cores: &CoreState,
-    policy: &P,
-    r: ResId,
-    p: ProcId,
-    t: Moment,
-) -> Option<Action>
-    requires same { cores.now.granularity ≡ guests.now.granularity }
-    requires on { AreOn (pool_of guests.now cores.now (P.seen policy.now)) }
-    requires number { p.0 ≡ r.0 * cores.now.granularity }
-    ensures { IsFirstBy guests.now.granularity t.0
-        (pool_of guests.now cores.now (P.seen policy.now)) (Proc p) result }
-{
-    match leader_due(guests, cores, policy, r, p, t) {
-        Some(action) => Some(action),
-        None => leader_step(cores, r, p, t),
-    }
-}
-
 /// The first event that may come by a processor that is not the first of its core.
 fn first_of_sibling(guests: &Guests, cores: &CoreState, p: ProcId, t: Moment) -> Option<Action>
     requires same { cores.now.granularity ≡ guests.now.granularity }
@@ -267,10 +242,13 @@ fn first_of_processor<P: Policy>(
 {
     cores.keeps();
     let g = cores.granularity();
-    if p.0 % g == 0 {
-        first_of_leader(guests, cores, policy, ResId(p.0 / g), p, t)
-    } else {
-        first_of_sibling(guests, cores, p, t)
+    if p.0 % g != 0 {
+        return first_of_sibling(guests, cores, p, t);
+    }
+    let r = ResId(p.0 / g);
+    match leader_due(guests, cores, policy, r, p, t) {
+        Some(action) => Some(action),
+        None => leader_step(cores, r, p, t),
     }
 }
 

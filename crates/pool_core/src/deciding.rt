@@ -3,10 +3,13 @@
 ghost use Rattle.std.specs.Prelude.{◌≡◌, true, false, None, Some};
 ghost use Rattle.sched_model.specs.declared.action.Action.TheVariants.{Decide, Repl};
 ghost use Rattle.sched_model.specs.State.{runnable_among};
-ghost use Rattle.sched_model.specs.Pool.{after_in, enabled_in, event_in};
+ghost use Rattle.sched_model.specs.Pool.{after_in, event_in};
 ghost use Rattle.sched_ops.specs.Conditions.{IsNow};
-ghost use Rattle.policy_laws.specs.Holds.{Holds};
+ghost use Rattle.sched_ops.specs.Timers.{is_due};
+ghost use Rattle.sched_ops.specs.declared.timer.Timer.TheVariants as timers;
+ghost use Rattle.unit_state.specs.Seen.{Seen as GuestsSeen};
 ghost use Rattle.pool_core.specs.CoreLooks.{is_decision_spared};
+ghost use Rattle.pool_core.specs.Events.{MayAct};
 ghost use Rattle.pool_core.specs.Seen.{pool_of};
 
 use core_state::CoreState;
@@ -66,11 +69,7 @@ pub fn decide<P: Policy>(
     t: Moment,
 ) -> Event
     requires now { IsNow (P.seen policy.old) t.0 }
-    requires same { cores.old.granularity ≡ guests.now.granularity }
-    requires enabled { enabled_in guests.now.granularity t.0
-        (pool_of guests.now cores.old (P.seen policy.old)) (Decide r) ≡ true }
-    requires holds { Holds guests.now.granularity t.0
-        (pool_of guests.now cores.old (P.seen policy.old)) }
+    requires may { MayAct t.0 (Decide r) guests.now cores.old (P.seen policy.old) }
     ensures event { result ≡ event_in guests.now.granularity t.0
         (pool_of guests.now cores.old (P.seen policy.old)) (Decide r) }
     ensures pool { pool_of guests.now cores.new (P.seen policy.new)
@@ -98,24 +97,13 @@ pub fn decide<P: Policy>(
 }
 
 /// The unit's deadline has come: it has its budget anew, and a core that runs it asks again when that is used up, if not before.
-pub fn replenish<P: Policy>(
-    guests: &Guests,
-    cores: &mut CoreState,
-    policy: &mut P,
-    u: UnitId,
-    t: Moment,
-) -> Event
+pub fn replenish<P: Policy>(cores: &mut CoreState, policy: &mut P, u: UnitId, t: Moment) -> Event
     requires now { IsNow (P.seen policy.old) t.0 }
-    requires same { cores.old.granularity ≡ guests.now.granularity }
-    requires enabled { enabled_in guests.now.granularity t.0
-        (pool_of guests.now cores.old (P.seen policy.old)) (Repl u) ≡ true }
-    requires holds { Holds guests.now.granularity t.0
-        (pool_of guests.now cores.old (P.seen policy.old)) }
-    ensures event { result ≡ event_in guests.now.granularity t.0
-        (pool_of guests.now cores.old (P.seen policy.old)) (Repl u) }
-    ensures pool { pool_of guests.now cores.new (P.seen policy.new)
-        ≡ after_in guests.now.granularity t.0 (pool_of guests.now cores.old (P.seen policy.old))
-        (Repl u) }
+    requires due { is_due t.0 (P.seen policy.old).scheduler (timers.Repl u) ≡ true }
+    ensures event { (guests : GuestsSeen) → result ≡ event_in guests.granularity t.0
+        (pool_of guests cores.old (P.seen policy.old)) (Repl u) }
+    ensures pool { (guests : GuestsSeen) → pool_of guests cores.new (P.seen policy.new)
+        ≡ after_in guests.granularity t.0 (pool_of guests cores.old (P.seen policy.old)) (Repl u) }
     ensures cores { cores.new ≡ record cores.old { resources = cores.new.resources } }
     ensures room { (P.seen policy.new).spare ≡ (P.seen policy.old).spare }
     ensures latest { (P.seen policy.new).latest ≡ t.0 }

@@ -81,25 +81,6 @@ fn slice(cores: &mut CoreState, r: ResId) -> Outcome
     }
 }
 
-/// An RTDS unit whose deadline has come at t has its budget anew. Each core is to be looked at.
-fn replenish<P: Policy>(
-    guests: &Guests,
-    cores: &mut CoreState,
-    policy: &mut P,
-    u: UnitId,
-    t: Moment,
-) -> Outcome
-    requires { MayAct t.0 (Repl u) guests.now cores.old (P.seen policy.old) }
-    ensures { HasActed t.0 (Repl u) guests.now guests.now cores.old cores.new (P.seen policy.old)
-        (P.seen policy.new) result }
-{
-    Outcome {
-        event: deciding::replenish(guests, cores, policy, u, t),
-        spares: false,
-        came: None,
-    }
-}
-
 /// The budget of a capped Credit2 domain, whose refill has come at t, is filled. Each core is to be looked at.
 fn refill<P: Policy>(policy: &mut P, d: DomId, t: Moment) -> Outcome
     requires now { IsNow (P.seen policy.old) t.0 }
@@ -166,26 +147,6 @@ fn leave(guests: &mut Guests, cores: &mut CoreState, p: ProcId, t: Moment) -> Ou
     }
 }
 
-/// A core, none of whose processors waits any more, puts away the unit that it saves.
-fn save<P: Policy>(
-    guests: &Guests,
-    cores: &mut CoreState,
-    policy: &mut P,
-    r: ResId,
-    t: Moment,
-) -> Outcome
-    requires { MayAct t.0 (Save r) guests.now cores.old (P.seen policy.old) }
-    ensures { HasActed t.0 (Save r) guests.now guests.now cores.old cores.new (P.seen policy.old)
-        (P.seen policy.new) result }
-{
-    let event = waking::save(guests, cores, policy, r, t);
-    Outcome {
-        event,
-        spares: true,
-        came: waking::came_of(&event),
-    }
-}
-
 /// An event of the pool that may come at t.
 pub fn act<P: Policy>(
     guests: &mut Guests,
@@ -203,12 +164,23 @@ pub fn act<P: Policy>(
         Action::Wake(v) => wake(guests, cores, policy, v, t),
         Action::Block(p) => block(guests, cores, p, t),
         Action::Slice(r) => slice(cores, r),
-        Action::Repl(u) => replenish(guests, cores, policy, u, t),
+        Action::Repl(u) => Outcome {
+            event: deciding::replenish(cores, policy, u, t),
+            spares: false,
+            came: None,
+        },
         Action::Refill(d) => refill(policy, d, t),
         Action::Arrive(p) => arrive(guests, cores, p, t),
         Action::Decide(r) => decide(guests, cores, policy, r, t),
         Action::Leave(p) => leave(guests, cores, p, t),
-        Action::Save(r) => save(guests, cores, policy, r, t),
+        Action::Save(r) => {
+            let event = waking::save(guests, cores, policy, r, t);
+            Outcome {
+                event,
+                spares: true,
+                came: waking::came_of(&event),
+            }
+        }
         Action::Stall | Action::Xl | Action::Moved(_) | Action::DomMoved(_) => unreachable!(),
     }
 }

@@ -3,10 +3,11 @@
 ghost use Rattle.std.specs.Prelude.{◌≡◌, ◌<◌, ◌||◌, true};
 ghost use Rattle.sched_model.specs.State.{runnable_among};
 ghost use Rattle.sched_model.specs.declared.action.Action.TheVariants.{Save};
-ghost use Rattle.sched_model.specs.Pool.{after_wake, after_in, enabled_in, event_in, joined_siblings};
+ghost use Rattle.sched_model.specs.Pool.{after_wake, after_in, event_in, joined_siblings};
 ghost use Rattle.policy_laws.specs.Holds.{Holds};
 ghost use Rattle.sched_ops.specs.Seen.{Seen as SchedulerSeen};
 ghost use Rattle.unit_state.specs.Seen.{IsNow, is_awake_among, is_due_among};
+ghost use Rattle.pool_core.specs.Events.{MayAct};
 ghost use Rattle.pool_core.specs.Seen.{pool_of};
 ghost use Rattle.pool_core.specs.ProcessorEvents.{IsMoved};
 ghost use Rattle.pool_core.specs.Wakes.{done_started, idles_among, is_held_among, came_by_save, came_by_wake, joined_works, woken_works, KeepsRoom};
@@ -118,11 +119,7 @@ pub fn save<P: Policy>(
     r: ResId,
     t: Moment,
 ) -> Event
-    requires same { cores.old.granularity ≡ guests.now.granularity }
-    requires enabled { enabled_in guests.now.granularity t.0
-        (pool_of guests.now cores.old (P.seen policy.old)) (Save r) ≡ true }
-    requires holds { Holds guests.now.granularity t.0
-        (pool_of guests.now cores.old (P.seen policy.old)) }
+    requires { MayAct t.0 (Save r) guests.now cores.old (P.seen policy.old) }
     ensures event { result ≡ event_in guests.now.granularity t.0
         (pool_of guests.now cores.old (P.seen policy.old)) (Save r) }
     ensures pool { pool_of guests.now cores.new (P.seen policy.new)

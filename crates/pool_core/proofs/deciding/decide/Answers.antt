@@ -24,7 +24,7 @@ use Rattle.pool_core.proofs.deciding.decide.Goals as goal
 
 pub choose-choice-requires : goal.choose-choice-requires
 choose-choice-requires g c =
-    let asks = may_ask c.args.guests.now.granularity c.args.t.0 (pool_of c.args.guests.now c.args.cores.now (g.P.Policy.seen c.args.policy.now)) c.requires.holds c.args.r.0 c.in-Some.c.now (sym c.in-Some.ensures) in
+    let asks = may_ask c.args.guests.now.granularity c.args.t.0 (pool_of c.args.guests.now c.args.cores.now (g.P.Policy.seen c.args.policy.now)) c.requires.may.kept.pool c.args.r.0 c.in-Some.c.now (sym c.in-Some.ensures) in
     let few = few_places c.args.cores.now.granularity (length c.args.cores.now.resources) c.keeps.ensures.granularity c.keeps.ensures.places in
     let below : c.args.r.0 < length c.args.cores.now.resources = place_below c.args.cores.now.resources c.args.r.0 c.in-Some.c.now (sym c.in-Some.ensures) in
     record { asked = subst (IsAsked (g.P.Policy.seen c.args.policy.now)) (sym c.ask_of-ask.ensures) (record { now = c.requires.now; since = asks.since; core = omega (arith, few, below); own = asks.own }) }
