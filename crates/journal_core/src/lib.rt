@@ -12,6 +12,7 @@ use sched_model::config::Config;
 use sched_model::event::{Entry, Event};
 use sched_model::work::Work;
 use std::alloc::Global;
+use std::boxed::Box;
 use std::marker::Model;
 use std::mem::size_of;
 use std::snapshot::Snapshot;
@@ -19,7 +20,8 @@ use std::snapshot::Snapshot;
 // An entry takes at most 64 bytes.
 const _: () = prove!(size_of::<Entry>() <= 64);
 
-/// The history of a run. It keeps of its input no more than which one it is, and takes all its memory when it is made.
+/// The history of a run. It keeps of its input no more than which one it is, and takes all its memory when it is made. It is small, since threads
+/// hand it to one another by value: what grows with the run or with the cores lies behind pointers.
 #[derive(Drop)]
 pub struct Book {
     config: Snapshot<Config>,
@@ -27,7 +29,7 @@ pub struct Book {
     entries: Vec<Entry>,
     limit: u32,
     moment: Moment,
-    decides: [u32; 64],
+    decides: Box<[u32; 64]>,
 }
 
 impl Model for Book {
@@ -39,7 +41,7 @@ impl Model for Book {
     ghost view = { λ b. chronicle b.config.value b.work.value b.entries.items b.limit };
 
     ghost invariant = { λ b. IsKept (chronicle b.config.value b.work.value b.entries.items b.limit)
-        (vec_capacity b.entries) b.moment.0 b.decides };
+        (vec_capacity b.entries) b.moment.0 b.decides.value };
 }
 
 // The moment that an entry leads to from the moment now.
@@ -85,13 +87,14 @@ impl Book {
         ensures limit { IfOk result (λ b. b.limit ≡ events) }
     {
         let entries = Vec::with_capacity(alloc, events as usize)?;
+        let decides = Box::new(alloc, no_decisions())?;
         Ok(Book {
             config: Snapshot::of(config),
             work: Snapshot::of(work),
             entries,
             limit: events,
             moment: Moment(0),
-            decides: no_decisions(),
+            decides,
         })
     }
 
