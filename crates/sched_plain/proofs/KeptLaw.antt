@@ -15,22 +15,18 @@ use Rattle.sched_laws.proofs.Lists.{some_same}
 use Rattle.pool_laws.specs.Order.{kind_place}
 use Rattle.sched_plain.specs.declared.floors.Floors.{Floors}
 use Rattle.sched_plain.specs.Fits.{PoolFitsAt}
-use Rattle.sched_plain.specs.KeptFloors.{AreKept, AreKeptIf, IsCoreFloorAmong, IsDomainFloorAmong, IsForgotten, IsTouched, IsTouchedIf, floor_at, floor_of, pended_floors, touched, touched_core, touched_domain, touched_domains}
+use Rattle.sched_plain.specs.KeptFloors.{AreKept, AreKeptIf, IsCoreFloorAmong, IsDomainFloorAmong, IsForgotten, IsTouched, IsTouchedIf, floor_at, floor_of, pended_floors, touched, touched_core, touched_domain}
 use Rattle.sched_plain.proofs.FloorLists.{forgotten_lower, none_known, pended_at, pended_lower, set_here, set_other}
 use Rattle.sched_plain.proofs.TouchedEvents.{event_lets}
 use Rattle.sched_plain.proofs.TouchedSteps.{look_step}
 
 -- less is known after an event
-domains_lower : (g : ℕ) (pool : Pool) (action : Action) (xs : List ℕ) (j : ℕ) → floor_at (touched_domains g pool action xs) j ≤ floor_at xs j
-domains_lower g pool (Decide r) xs j = (let a = none_known 64 j in omega (arith, a))
-domains_lower g pool action xs j = forgotten_lower (touched_domain g pool action) xs j
-
 module _ (g : ℕ) (pool : Pool) (action : Action) (floors : Floors) where
   cores_lower : (j : ℕ) → floor_at (touched g pool action floors).cores j ≤ floor_at floors.cores j
   cores_lower j = forgotten_lower (touched_core g pool action) floors.cores j
 
   owned_lower : (j : ℕ) → floor_at (touched g pool action floors).domains j ≤ floor_at floors.domains j
-  owned_lower j = domains_lower g pool action floors.domains j
+  owned_lower j = forgotten_lower (touched_domain g pool action) floors.domains j
 
   touched_lower : (other : Action) → floor_of g (touched g pool action floors) other ≤ floor_of g floors other
   touched_lower Stall = omega arith
@@ -64,13 +60,13 @@ module _ (g : ℕ) (cores : List (Option Resource)) (floors : Floors) where
   look_lower (Leave p) = pended_lower 0 cores floors.cores (p.0 / g)
   look_lower (Save r) = pended_lower 0 cores floors.cores r.0
 
-module _ (g t : ℕ) (pool : Pool) (action : Action) (some : 0 < g) (known : IsKnownPool g pool) (own : IsOfPool action) where
+module _ (g t : ℕ) (pool : Pool) (action : Action) (some : 0 < g) (known : IsKnownPool g pool) (own : IsOfPool action) (enabled : enabled_in g t pool action ≡ true) where
   abbrev next : Pool
   next = after_in g t pool action
 
   by_event : (floors after : Floors) → ((other : Action) → floor_of g after other ≤ floor_of g (touched g pool action floors) other)
       → (other : Action) → enabled_in g t next other ≡ true → (floor_of g after other ≤ kind_place other) ⊎ (enabled_in g t pool other ≡ true)
-  by_event floors after less other on = elim (event_lets g t t floors pool action some known own other on) [
+  by_event floors after less other on = elim (event_lets g t t floors pool action some known own enabled other on) [
     | inl hit ↦ inl (let a = less other in omega (arith, hit, a))
     | inr was ↦ inr was
   ]

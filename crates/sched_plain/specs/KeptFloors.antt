@@ -87,7 +87,7 @@ abbrev pub IsForgotten : Option Floors → Type 0
 IsForgotten None = Unit {0}
 IsForgotten (Some floors) = (floors.cores ≡ replicate 64 0) × (floors.domains ≡ replicate 64 0)
 
--- the core and the domain whose events an event of the pool may let come: its own, and what it changes beside
+-- the core and the domain whose events an event of the pool may let come: its own, and what it changes beside; a decision lets none of a domain come
 abbrev pub touched_core : ℕ → Pool → Action → Option ℕ
 touched_core g pool (Wake v) = unit_core pool (vcpu_unit g v)
 touched_core g pool (Block p) = Some (p.0 / g)
@@ -120,16 +120,11 @@ abbrev pub forgotten : Option ℕ → List ℕ → List ℕ
 forgotten None floors = floors
 forgotten (Some n) floors = slice_set floors n 0
 
--- the same of the domains; a decision changes the scheduler's records, and nothing is known of any domain
-abbrev pub touched_domains : ℕ → Pool → Action → List ℕ → List ℕ
-touched_domains g pool (Decide r) floors = replicate 64 0
-touched_domains g pool action floors = forgotten (touched_domain g pool action) floors
-
 -- what is known after the event of the pool, before its cores are looked at
 abbrev pub touched : ℕ → Pool → Action → Floors → Floors
 touched g pool action floors = record {
   cores = forgotten (touched_core g pool action) floors.cores;
-  domains = touched_domains g pool action floors.domains;
+  domains = forgotten (touched_domain g pool action) floors.domains;
 }
 
 -- the processors of each of these cores that is pending, of which the first has the number r, may arrive

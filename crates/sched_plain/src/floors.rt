@@ -3,7 +3,7 @@
 
 ghost use Rattle.std.specs.Prelude.{◌≡◌, ◌<◌, ◌≤◌, ◌+◌, ◌^◌, length, replicate, option_map, slice_set};
 ghost use Rattle.pool_records.specs.Fits.{PoolFits};
-ghost use Rattle.sched_plain.specs.KeptFloors.{IsForgotten, forgotten, lowered, pended, pended_floors, touched, touched_core as core_touched, touched_domain as domain_touched, touched_domains};
+ghost use Rattle.sched_plain.specs.KeptFloors.{IsForgotten, forgotten, lowered, pended, pended_floors, touched, touched_core as core_touched, touched_domain as domain_touched};
 ghost use Rattle.sched_model.specs.Pool.{saving_among};
 
 use plain_pool::pool::guest_of;
@@ -112,17 +112,6 @@ fn forget(number: Option<usize>, floors: &mut [u8; 64])
     }
 }
 
-/// The same of the domains; a decision changes the scheduler's records, and nothing is known of any domain.
-fn touch_domains(granularity: u8, action: Action, pool: &Pool, floors: &mut [u8; 64])
-    requires { 0 < granularity }
-    ensures { floors.new ≡ touched_domains granularity pool.now action floors.old }
-{
-    match action {
-        Action::Decide(_) => *floors = [0; 64],
-        _ => forget(touched_domain(granularity, pool, action), floors),
-    }
-}
-
 /// What is known after the event of the pool, before its cores are looked at.
 #[inline(never)]
 fn touch_kept(granularity: u8, action: Action, pool: &Pool, floors: &mut Floors)
@@ -131,7 +120,10 @@ fn touch_kept(granularity: u8, action: Action, pool: &Pool, floors: &mut Floors)
     ensures { floors.new ≡ touched granularity pool.now action floors.old }
 {
     forget(touched_core(granularity, pool, action), &mut floors.cores);
-    touch_domains(granularity, action, pool, &mut floors.domains);
+    forget(
+        touched_domain(granularity, pool, action),
+        &mut floors.domains,
+    );
 }
 
 /// The same where anything is kept.

@@ -15,9 +15,9 @@ pend-requires c =
 
 pub returns-then-is_looked_at-clause-floors : goal.returns-then-is_looked_at-clause-floors
 returns-then-is_looked_at-clause-floors c =
-    look_touched_is c.args.granularity c.args.t.0 c.args.pool.now c.args.action c.requires.some c.requires.decides.known c.requires.own c.happen-event.new.pool c.settle.new.pool c.as_slice.result.now c.args.floors.now c.touch.new.floors c.pend.new.floors
+    look_touched_is c.args.granularity c.args.t.0 c.args.pool.now c.args.action c.requires.some c.requires.decides.known c.requires.own c.requires.enabled c.happen-event.new.pool c.settle.new.pool c.as_slice.result.now c.args.floors.now c.touch.new.floors c.pend.new.floors
     c.happen-event.ensures.pool c.settle.ensures c.as_slice.ensures c.touch.ensures c.pend.ensures
 
 pub returns-else-is_looked_at-clause-floors : goal.returns-else-is_looked_at-clause-floors
 returns-else-is_looked_at-clause-floors c =
-    event_touched_is c.args.granularity c.args.t.0 c.args.pool.now c.args.action c.requires.some c.requires.decides.known c.requires.own c.happen-event.new.pool c.args.floors.now c.touch.new.floors c.happen-event.ensures.pool c.touch.ensures
+    event_touched_is c.args.granularity c.args.t.0 c.args.pool.now c.args.action c.requires.some c.requires.decides.known c.requires.own c.requires.enabled c.happen-event.new.pool c.args.floors.now c.touch.new.floors c.happen-event.ensures.pool c.touch.ensures
