@@ -1,9 +1,12 @@
 -- Lists of floors: what is left where one is set, or several.
-use Rattle.std.proofs.Common.{◌≡◌, ◌≢◌, ◌≤◌, ◌<◌, ◌+◌, ℕ, zero, suc, Bool, true, false, List, [], ◌∷◌, length, refl, sym, ap, subst, arith, cond, min}
+use Rattle.std.proofs.Common.{◌≡◌, ◌≢◌, ◌∙◌, ◌≤◌, ◌<◌, ◌+◌, ℕ, zero, suc, Bool, true, false, List, [], ◌∷◌, drop, length, refl, sym, ap, subst, arith, cond, min, take}
 use Rattle.std.specs.Prelude.{Option, Some, None, slice_set, replicate}
+use Rattle.std.proofs.Math.Decide.{dec_lt}
+use Rattle.std.proofs.lemmas.Bool.Decides.{nat_tests}
 use Rattle.sched_model.specs.declared.state.Resource.{Resource}
 use Rattle.sched_model.specs.Places.{at_place}
-use Rattle.sched_plain.specs.KeptFloors.{floor_at, forgotten, lowered, pended}
+use Rattle.plain_pool.specs.Ready.{least_each}
+use Rattle.sched_plain.specs.KeptFloors.{AreBehind, floor_at, forgotten, least_kind, lowered, pended}
 
 -- past the end nothing is set
 pub set_past : {X : Type 0} (xs : List X) (n : ℕ) (x : X) → length xs ≤ n → slice_set xs n x ≡ xs
@@ -58,48 +61,85 @@ pub forgotten_none : (o : Option ℕ) (n : ℕ) (xs : List ℕ) → o ≡ Some n
 forgotten_none None n xs is = absurd (cc)
 forgotten_none (Some k) n xs is = (let e : k ≡ n = cc in subst (λ (i : ℕ). floor_at (slice_set xs k 0) i ≤ 0) e (set_here xs k 0))
 
--- where pending cores may let their processors arrive
-lowered_lower : (r : ℕ) (xs : List ℕ) (j : ℕ) → floor_at (lowered r xs) j ≤ floor_at xs j
-lowered_lower r xs j = set_lower xs r j (min (floor_at xs r) 9) (omega arith)
+-- where no more is known of pending cores
+lowered_lower : (most r : ℕ) (xs : List ℕ) (j : ℕ) → floor_at (lowered most r xs) j ≤ floor_at xs j
+lowered_lower most r xs j = set_lower xs r j (min (floor_at xs r) most) (omega arith)
 
-lowered_here : (r : ℕ) (xs : List ℕ) → floor_at (lowered r xs) r ≤ 9
-lowered_here r xs = (let a = set_here xs r (min (floor_at xs r) 9) in omega (arith, a))
+lowered_here : (most r : ℕ) (xs : List ℕ) → floor_at (lowered most r xs) r ≤ most
+lowered_here most r xs = (let a = set_here xs r (min (floor_at xs r) most) in omega (arith, a))
 
-if_lowered : (b : Bool) (r : ℕ) (xs : List ℕ) (j : ℕ) → floor_at (cond b (lowered r xs) xs) j ≤ floor_at xs j
-if_lowered true r xs j = lowered_lower r xs j
-if_lowered false r xs j = omega arith
+pub lowered_none : (r : ℕ) (xs : List ℕ) → slice_set xs r 0 ≡ lowered 0 r xs
+lowered_none r xs = (let e : 0 ≡ min (floor_at xs r) 0 = omega arith in ap (slice_set xs r) e)
 
-pub pended_lower : (r : ℕ) (cores : List (Option Resource)) (xs : List ℕ) (j : ℕ) → floor_at (pended r cores xs) j ≤ floor_at xs j
-pended_lower r [] xs j = omega arith
-pended_lower r (None ∷ cores) xs j = pended_lower (suc r) cores xs j
-pended_lower r (Some c ∷ cores) xs j =
-    let a = pended_lower (suc r) cores (cond c.pending (lowered r xs) xs) j in
-    let b = if_lowered c.pending r xs j in
+if_lowered : (most : ℕ) (b : Bool) (r : ℕ) (xs : List ℕ) (j : ℕ) → floor_at (cond b (lowered most r xs) xs) j ≤ floor_at xs j
+if_lowered most true r xs j = lowered_lower most r xs j
+if_lowered most false r xs j = omega arith
+
+pub pended_lower : (most r : ℕ) (cores : List (Option Resource)) (xs : List ℕ) (j : ℕ) → floor_at (pended most r cores xs) j ≤ floor_at xs j
+pended_lower most r [] xs j = omega arith
+pended_lower most r (None ∷ cores) xs j = pended_lower most (suc r) cores xs j
+pended_lower most r (Some c ∷ cores) xs j =
+    let a = pended_lower most (suc r) cores (cond c.pending (lowered most r xs) xs) j in
+    let b = if_lowered most c.pending r xs j in
     omega (arith, a, b)
 
-pended_from : (r k : ℕ) (cores : List (Option Resource)) (xs : List ℕ) (c : Resource) → at_place cores k ≡ Some c → c.pending ≡ true → floor_at (pended r cores xs) (r + k) ≤ 9
-pended_from r k [] xs c at is = absurd (none k at)
+pended_from : (most r k : ℕ) (cores : List (Option Resource)) (xs : List ℕ) (c : Resource) → at_place cores k ≡ Some c → c.pending ≡ true → floor_at (pended most r cores xs) (r + k) ≤ most
+pended_from most r k [] xs c at is = absurd (none k at)
   where
     none : (i : ℕ) → at_place [] i ≡ Some c → ⊥
     none zero e = cc
     none (suc i) e = cc
-pended_from r zero (None ∷ cores) xs c at is = absurd (cc)
-pended_from r (suc k) (None ∷ cores) xs c at is =
+pended_from most r zero (None ∷ cores) xs c at is = absurd (cc)
+pended_from most r (suc k) (None ∷ cores) xs c at is =
     let e : suc r + k ≡ r + suc k = omega arith in
-    subst (λ (i : ℕ). floor_at (pended (suc r) cores xs) i ≤ 9) e (pended_from (suc r) k cores xs c at is)
-pended_from r zero (Some d ∷ cores) xs c at is =
+    subst (λ (i : ℕ). floor_at (pended most (suc r) cores xs) i ≤ most) e (pended_from most (suc r) k cores xs c at is)
+pended_from most r zero (Some d ∷ cores) xs c at is =
     let same : c ≡ d = cc in
     let pends : d.pending ≡ true = subst (λ (x : Resource). x.pending ≡ true) same is in
     let number : r + 0 ≡ r = omega arith in
-    let a = pended_lower (suc r) cores (cond d.pending (lowered r xs) xs) (r + 0) in
-    let b : floor_at (cond d.pending (lowered r xs) xs) (r + 0) ≤ 9 =
-    subst (λ (x : Bool). floor_at (cond x (lowered r xs) xs) (r + 0) ≤ 9) (sym pends) (subst (λ (i : ℕ). floor_at (lowered r xs) i ≤ 9) (sym number) (lowered_here r xs)) in
+    let a = pended_lower most (suc r) cores (cond d.pending (lowered most r xs) xs) (r + 0) in
+    let b : floor_at (cond d.pending (lowered most r xs) xs) (r + 0) ≤ most =
+    subst (λ (x : Bool). floor_at (cond x (lowered most r xs) xs) (r + 0) ≤ most) (sym pends) (subst (λ (i : ℕ). floor_at (lowered most r xs) i ≤ most) (sym number) (lowered_here most r xs)) in
     omega (arith, a, b)
-pended_from r (suc k) (Some d ∷ cores) xs c at is =
+pended_from most r (suc k) (Some d ∷ cores) xs c at is =
     let e : suc r + k ≡ r + suc k = omega arith in
-    subst (λ (i : ℕ). floor_at (pended (suc r) cores (cond d.pending (lowered r xs) xs)) i ≤ 9) e (pended_from (suc r) k cores (cond d.pending (lowered r xs) xs) c at is)
+    subst (λ (i : ℕ). floor_at (pended most (suc r) cores (cond d.pending (lowered most r xs) xs)) i ≤ most) e (pended_from most (suc r) k cores (cond d.pending (lowered most r xs) xs) c at is)
 
-pub pended_at : (k : ℕ) (cores : List (Option Resource)) (xs : List ℕ) (c : Resource) → at_place cores k ≡ Some c → c.pending ≡ true → floor_at (pended 0 cores xs) k ≤ 9
-pended_at k cores xs c at is =
+pub pended_at : (most k : ℕ) (cores : List (Option Resource)) (xs : List ℕ) (c : Resource) → at_place cores k ≡ Some c → c.pending ≡ true → floor_at (pended most 0 cores xs) k ≤ most
+pended_at most k cores xs c at is =
     let e : 0 + k ≡ k = omega arith in
-    subst (λ (i : ℕ). floor_at (pended 0 cores xs) i ≤ 9) e (pended_from 0 k cores xs c at is)
+    subst (λ (i : ℕ). floor_at (pended most 0 cores xs) i ≤ most) e (pended_from most 0 k cores xs c at is)
+
+-- the least of a kind and of floors
+least_below : (best : ℕ) (xs : List ℕ) → least_each min best xs ≤ best
+least_below best [] = omega arith
+least_below best (x ∷ xs) = (let a = least_below (min best x) xs in omega (arith, a))
+
+least_front : (k own n best : ℕ) (xs : List ℕ) → k < least_each min best (take own xs) → n < own → n < length xs → suc k ≤ floor_at xs n
+least_front k own n best [] more before inside = absurd (omega (arith, inside))
+least_front k zero n best (x ∷ xs) more before inside = absurd (omega (arith, before))
+least_front k (suc own) zero best (x ∷ xs) more before inside = (let a = least_below (min best x) (take own xs) in omega (arith, a, more))
+least_front k (suc own) (suc n) best (x ∷ xs) more before inside = least_front k own n (min best x) xs more (omega (arith, before)) (omega (arith, inside))
+
+least_all : (k n best : ℕ) (xs : List ℕ) → k ≤ least_each min best xs → n < length xs → k ≤ floor_at xs n
+least_all k n best [] enough inside = absurd (omega (arith, inside))
+least_all k zero best (x ∷ xs) enough inside = (let a = least_below (min best x) xs in omega (arith, a, enough))
+least_all k (suc n) best (x ∷ xs) enough inside = least_all k n (min best x) xs enough (omega (arith, inside))
+
+least_rest : (k own n best : ℕ) (xs : List ℕ) → k ≤ least_each min best (drop own xs) → own ≤ n → n < length xs → k ≤ floor_at xs n
+least_rest k own n best [] enough behind inside = absurd (omega (arith, inside))
+least_rest k zero n best (x ∷ xs) enough behind inside = least_all k n best (x ∷ xs) enough inside
+least_rest k (suc own) zero best (x ∷ xs) enough behind inside = absurd (omega (arith, behind))
+least_rest k (suc own) (suc n) best (x ∷ xs) enough behind inside = least_rest k own n best xs enough (omega (arith, behind)) (omega (arith, inside))
+
+pub behind_by_least : (kind own before behind : ℕ) (xs rest : List ℕ) → length xs ≡ 64 → rest ≡ drop own xs → before ≡ least_each min 13 (take own xs) → behind ≡ least_each min 13 rest → kind < before → kind ≤ behind → AreBehind kind own 0 xs
+behind_by_least kind own before behind xs rest count is_rest is_before is_behind more enough = λ n from inside. elim (dec_lt n own) [
+  | yes low ↦ (
+      let is : least_kind kind own n ≡ suc kind = grind (arith, nat_tests, low) in
+      let a = least_front kind own n 13 xs (subst (λ (least : ℕ). kind < least) is_before more) low (omega (arith, inside, count)) in
+      omega (arith, is, a))
+  | no high ↦ (
+      let is : least_kind kind own n ≡ kind = grind (arith, nat_tests, high) in
+      let a = least_rest kind own n 13 xs (subst (λ (least : ℕ). kind ≤ least) (is_behind ∙ ap (least_each min 13) is_rest) enough) (omega (arith, high)) (omega (arith, inside, count)) in
+      omega (arith, is, a))
+]

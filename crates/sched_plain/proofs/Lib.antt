@@ -19,4 +19,6 @@ pub mod TouchedSteps
 pub mod Decided
 pub mod TouchedEvents
 pub mod KeptLaw
+pub mod WaitBounds
+pub mod SeenLaw
 pub mod FirstLaw
