@@ -1,12 +1,9 @@
 -- Lists of floors: what is left where one is set, or several.
-use Rattle.std.proofs.Common.{◌≡◌, ◌≢◌, ◌∙◌, ◌≤◌, ◌<◌, ◌+◌, ℕ, zero, suc, Bool, true, false, List, [], ◌∷◌, drop, length, refl, sym, ap, subst, arith, cond, min, take}
+use Rattle.std.proofs.Common.{◌≡◌, ◌≢◌, ◌≤◌, ◌<◌, ◌+◌, ℕ, zero, suc, Bool, true, false, List, [], ◌∷◌, length, refl, sym, ap, subst, arith, cond, min}
 use Rattle.std.specs.Prelude.{Option, Some, None, slice_set, replicate}
-use Rattle.std.proofs.Math.Decide.{dec_lt}
-use Rattle.std.proofs.lemmas.Bool.Decides.{nat_tests}
 use Rattle.sched_model.specs.declared.state.Resource.{Resource}
 use Rattle.sched_model.specs.Places.{at_place}
-use Rattle.plain_pool.specs.Ready.{least_each}
-use Rattle.sched_plain.specs.KeptFloors.{AreBehind, floor_at, forgotten, least_kind, lowered, pended}
+use Rattle.sched_plain.specs.KeptFloors.{AreAsked, AreBehind, floor_at, forgotten, least_kind, lowered, pended}
 
 -- past the end nothing is set
 pub set_past : {X : Type 0} (xs : List X) (n : ℕ) (x : X) → length xs ≤ n → slice_set xs n x ≡ xs
@@ -110,36 +107,8 @@ pended_at most k cores xs c at is =
     let e : 0 + k ≡ k = omega arith in
     subst (λ (i : ℕ). floor_at (pended most 0 cores xs) i ≤ most) e (pended_from most 0 k cores xs c at is)
 
--- the least of a kind and of floors
-least_below : (best : ℕ) (xs : List ℕ) → least_each min best xs ≤ best
-least_below best [] = omega arith
-least_below best (x ∷ xs) = (let a = least_below (min best x) xs in omega (arith, a))
-
-least_front : (k own n best : ℕ) (xs : List ℕ) → k < least_each min best (take own xs) → n < own → n < length xs → suc k ≤ floor_at xs n
-least_front k own n best [] more before inside = absurd (omega (arith, inside))
-least_front k zero n best (x ∷ xs) more before inside = absurd (omega (arith, before))
-least_front k (suc own) zero best (x ∷ xs) more before inside = (let a = least_below (min best x) (take own xs) in omega (arith, a, more))
-least_front k (suc own) (suc n) best (x ∷ xs) more before inside = least_front k own n (min best x) xs more (omega (arith, before)) (omega (arith, inside))
-
-least_all : (k n best : ℕ) (xs : List ℕ) → k ≤ least_each min best xs → n < length xs → k ≤ floor_at xs n
-least_all k n best [] enough inside = absurd (omega (arith, inside))
-least_all k zero best (x ∷ xs) enough inside = (let a = least_below (min best x) xs in omega (arith, a, enough))
-least_all k (suc n) best (x ∷ xs) enough inside = least_all k n (min best x) xs enough (omega (arith, inside))
-
-least_rest : (k own n best : ℕ) (xs : List ℕ) → k ≤ least_each min best (drop own xs) → own ≤ n → n < length xs → k ≤ floor_at xs n
-least_rest k own n best [] enough behind inside = absurd (omega (arith, inside))
-least_rest k zero n best (x ∷ xs) enough behind inside = least_all k n best (x ∷ xs) enough inside
-least_rest k (suc own) zero best (x ∷ xs) enough behind inside = absurd (omega (arith, behind))
-least_rest k (suc own) (suc n) best (x ∷ xs) enough behind inside = least_rest k own n best xs enough (omega (arith, behind)) (omega (arith, inside))
-
-pub behind_by_least : (kind own before behind : ℕ) (xs rest : List ℕ) → length xs ≡ 64 → rest ≡ drop own xs → before ≡ least_each min 13 (take own xs) → behind ≡ least_each min 13 rest → kind < before → kind ≤ behind → AreBehind kind own 0 xs
-behind_by_least kind own before behind xs rest count is_rest is_before is_behind more enough = λ n from inside. elim (dec_lt n own) [
-  | yes low ↦ (
-      let is : least_kind kind own n ≡ suc kind = grind (arith, nat_tests, low) in
-      let a = least_front kind own n 13 xs (subst (λ (least : ℕ). kind < least) is_before more) low (omega (arith, inside, count)) in
-      omega (arith, is, a))
-  | no high ↦ (
-      let is : least_kind kind own n ≡ kind = grind (arith, nat_tests, high) in
-      let a = least_rest kind own n 13 xs (subst (λ (least : ℕ). kind ≤ least) (is_behind ∙ ap (least_each min 13) is_rest) enough) (omega (arith, high)) (omega (arith, inside, count)) in
-      omega (arith, is, a))
-]
+-- where each is as high as is asked
+pub behind_if_asked : (kind own : ℕ) (xs : List ℕ) → length xs ≡ 64 → AreAsked kind own 0 xs → AreBehind kind own 0 xs
+behind_if_asked kind own xs count asked = λ n from inside.
+    let e : 0 + n ≡ n = omega arith in
+    subst (λ (i : ℕ). least_kind kind own i ≤ floor_at xs n) e (asked n (omega (arith, inside, count)))

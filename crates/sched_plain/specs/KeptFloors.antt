@@ -1,6 +1,6 @@
 -- What is known of the order of the events that may come at the present moment: for each core and each domain, before which kind of event none
 -- of it may come. g is the number of a core's processors.
-use Rattle.std.specs.Prelude.{ℕ, suc, ◌≡◌, ◌≤◌, ◌<◌, ◌/◌, ◌⊎◌, true, false, List, [], ◌∷◌, Option, Some, None, slice_index_or, slice_set, min, nat_lt, if◌then◌else◌}
+use Rattle.std.specs.Prelude.{ℕ, suc, ◌≡◌, ◌≤◌, ◌<◌, ◌+◌, ◌/◌, ◌⊎◌, true, false, List, [], ◌∷◌, Option, Some, None, length, slice_index_or, slice_set, min, nat_lt, if◌then◌else◌}
 use Rattle.sched_base.specs.declared.UnitId.{UnitId}
 use Rattle.sched_base.specs.declared.VcpuId.{VcpuId}
 use Rattle.sched_model.specs.declared.action.Action.{Action}
@@ -53,6 +53,10 @@ least_kind kind own n = (if nat_lt n own then suc kind else kind)
 -- from a number on the floors have these kinds at least
 abbrev pub AreBehind : ℕ → ℕ → ℕ → List ℕ → Type 0
 AreBehind kind own from floors = (n : ℕ) → from ≤ n → n < 64 → least_kind kind own n ≤ floor_at floors n
+
+-- the same of these floors, of which the first has the number n
+abbrev pub AreAsked : ℕ → ℕ → ℕ → List ℕ → Type 0
+AreAsked kind own n floors = (k : ℕ) → k < length floors → least_kind kind own (n + k) ≤ floor_at floors k
 
 -- the number of the event's core or domain, and 64 where it is none of a core, or of a domain
 abbrev pub core_number : ℕ → Action → ℕ

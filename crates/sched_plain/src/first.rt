@@ -1,13 +1,12 @@
 //! Whether an event that may come is the first of the whole machine: by what is known of each core and each domain, of which only those are judged
 //! anew of which too little is known.
 
-ghost use Rattle.std.specs.Prelude.{◌≡◌, ℕ, ◌+◌, ◌<◌, ◌≤◌, true, false, Some, min};
+ghost use Rattle.std.specs.Prelude.{◌≡◌, ℕ, ◌+◌, ◌<◌, ◌≤◌, true, false, Some, length};
 ghost use Rattle.sched_model.specs.Places.{at_place};
 ghost use Rattle.sched_model.specs.declared.state.FreeCore.{FreeCore as FreeCoreRecord};
 ghost use Rattle.sched_model.specs.Machine.{first_enabled_action, is_action_enabled, is_free_core_ready};
 ghost use Rattle.pool_laws.specs.Order.{kind_place};
-ghost use Rattle.plain_pool.specs.Ready.{least_each};
-ghost use Rattle.sched_plain.specs.KeptFloors.{AreBehind, IsCoreFloorAmong, IsDomainFloorAmong, IsFirstAtHome, IsToolQuiet, SameBefore, core_number, domain_number, floor_at, least_kind};
+ghost use Rattle.sched_plain.specs.KeptFloors.{AreAsked, AreBehind, IsCoreFloorAmong, IsDomainFloorAmong, IsFirstAtHome, IsToolQuiet, SameBefore, core_number, domain_number, floor_at, least_kind};
 ghost use Rattle.sched_plain.specs.Outlooks.{AreLater, IsCoreAwaited, IsDomainAwaited, IsSeen, IsSeenIf, IsStill};
 ghost use Rattle.pool_records.specs.Fits.{PoolFits};
 ghost use Rattle.sched_plain.specs.PoolFloors.{IsCoreFloor, IsDomainFloor};
@@ -213,13 +212,23 @@ fn domains_behind(
         && domains_behind(outlook, machine, state, kind, own, d + 1)
 }
 
-/// The least of a kind and of these.
-fn least_floor(best: u8, floors: &[u8]) -> u8
-    ensures { result ≡ least_each min best floors.now }
+/// Whether something was too low before, or one of these floors is lower than what is asked at its number. The first of them has the number n. All of
+/// them are gone through, many in a step.
+fn is_one_low(kind: u8, own: u8, n: u8, before: bool, floors: &[u8]) -> bool
+    requires kind { kind < 13 }
+    requires few { n + length floors.now ≤ 64 }
+    ensures before { result ≡ false → before ≡ false }
+    ensures behind { result ≡ false → AreAsked kind own n floors.now }
 {
     match floors {
-        [] => best,
-        [x, rest @ ..] => least_floor(best.min(*x), rest),
+        [] => before,
+        [x, rest @ ..] => is_one_low(
+            kind,
+            own,
+            n + 1,
+            before | (*x < asked_kind(kind, own, n)),
+            rest,
+        ),
     }
 }
 
@@ -228,12 +237,7 @@ fn are_behind(kind: u8, own: u8, floors: &[u8; 64]) -> bool
     requires { kind < 13 }
     ensures { result ≡ true → AreBehind kind own 0 floors.now }
 {
-    if own > 64 {
-        return false;
-    }
-    let before = least_floor(13, &floors[..own as usize]);
-    let behind = least_floor(13, &floors[own as usize..]);
-    kind < before && kind <= behind
+    !is_one_low(kind, own, 0, false, floors)
 }
 
 /// Whether the core with this number has no event that comes before one of this kind and core.
