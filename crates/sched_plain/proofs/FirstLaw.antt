@@ -31,8 +31,11 @@ use Rattle.pool_laws.proofs.ActionOrder.{later_kind}
 use Rattle.sched_plain.specs.PoolFloors.{IsCoreFloor, IsDomainFloor, IsFirstSibling, IsOfCore, IsOfDomain}
 use Rattle.sched_plain.specs.declared.floors.Floors.{Floors}
 use Rattle.sched_plain.specs.KeptFloors.{AreBehind, AreKept, IsCoreFloorAmong, IsDomainFloorAmong, IsFirstAtHome, IsToolQuiet, core_number, domain_number, floor_at, floor_of, least_kind}
+use Rattle.sched_plain.specs.Outlooks.{AreLater, IsCoreAwaited, IsDomainAwaited}
 use Rattle.sched_plain.specs.ReachedStates.{Stands}
+use Rattle.sched_plain.specs.declared.floors.Waits.{Waits}
 use Rattle.sched_plain.proofs.Bridges.{stands-machine, stands-pool}
+use Rattle.sched_plain.proofs.SeenLaw.{core_awaited, domain_awaited}
 
 -- two events of which the core or the domain of the second has what is asked of its number
 order : (a b : Action) (own j : ℕ) → least_kind (kind_place a) own j ≤ kind_place b → (own < j → kind_place a ≡ kind_place b → subject_place a < subject_place b) → (j ≡ own → kind_place a ≡ kind_place b → IsNotAfter a b) → IsNotAfter a b
@@ -174,48 +177,64 @@ module _ (m : Machine) (s : State) (stands : Stands m s) where
   g = m.config.granularity
 
   -- the pool in which an event may come is its home
-  pub home_is : (i : ℕ) (pool : Pool) (action : Action) → at_place s.pools i ≡ Some pool → enabled_in g s.now pool action ≡ true → home_pool_of_action g s action ≡ Some i
-  home_is i pool action at on =
-      let comes : ComesInPool m s s.now i action = record { pool = pool; at = at; enabled = on } in
-      subst (λ (from : Reached). ComesInPool m from.state from.state.now i action → home_pool_of_action g from.state action ≡ Some i) stands.reached.leads
-      (λ c. ((pool_is_home m stands.checked stands.reached.entries stands.reached.run i _ action).0 c).home) comes
+  pub home_is : (t i : ℕ) (pool : Pool) (action : Action) → at_place s.pools i ≡ Some pool → enabled_in g t pool action ≡ true → home_pool_of_action g s action ≡ Some i
+  home_is t i pool action at on =
+      let comes : ComesInPool m s t i action = record { pool = pool; at = at; enabled = on } in
+      subst (λ (from : Reached). ComesInPool m from.state t i action → home_pool_of_action g from.state action ≡ Some i) stands.reached.leads
+      (λ c. ((pool_is_home m stands.checked stands.reached.entries stands.reached.run i t action).0 c).home) comes
 
   -- a core that no pool has, one whose home is empty, and one that is judged in its home
-  core_home : (r i : ℕ) (pool : Pool) (action : Action) → at_place s.pools i ≡ Some pool → IsOfCore g r action → enabled_in g s.now pool action ≡ true → home_pool_of_core s r ≡ Some i
-  core_home r i pool action at own on = sym (home_core g r s action own) ∙ home_is i pool action at on
+  core_home : (t r i : ℕ) (pool : Pool) (action : Action) → at_place s.pools i ≡ Some pool → IsOfCore g r action → enabled_in g t pool action ≡ true → home_pool_of_core s r ≡ Some i
+  core_home t r i pool action at own on = sym (home_core g r s action own) ∙ home_is t i pool action at on
 
   pub core_nowhere : (r floor : ℕ) → home_pool_of_core s r ≡ None → IsCoreFloorAmong g s.now s.pools r floor
-  core_nowhere r floor none = λ i pool at action own on. absurd (let home = core_home r i pool action at own on in cc)
+  core_nowhere r floor none = λ i pool at action own on. absurd (let home = core_home s.now r i pool action at own on in cc)
 
   pub core_empty : (r k floor : ℕ) → home_pool_of_core s r ≡ Some k → at_place s.pools k ≡ None → IsCoreFloorAmong g s.now s.pools r floor
   core_empty r k floor there none = λ i pool at action own on. absurd (
-      let same : i ≡ k = some_same (sym (core_home r i pool action at own on) ∙ there) in
+      let same : i ≡ k = some_same (sym (core_home s.now r i pool action at own on) ∙ there) in
       let here : at_place s.pools k ≡ Some pool = subst (λ (j : ℕ). at_place s.pools j ≡ Some pool) same at in
       cc)
 
+  pub core_waits : (r k : ℕ) (found : Pool) (old new : Waits) → home_pool_of_core s r ≡ Some k → at_place s.pools k ≡ Some found → IsCoreAwaited g found r old new → AreLater g s.pools old → AreLater g s.pools new
+  core_waits r k found old new there has awaited later =
+      subst (AreLater g s.pools) (sym awaited.set) (core_awaited g s.now r s.pools old later awaited.wait (λ t i pool at action own on.
+      let same : i ≡ k = some_same (sym (core_home t r i pool action at own on) ∙ there) in
+      let here : at_place s.pools k ≡ Some pool = subst (λ (j : ℕ). at_place s.pools j ≡ Some pool) same at in
+      let is : pool ≡ found = some_same (sym here ∙ has) in
+      awaited.right t action own (subst (λ (x : Pool). enabled_in g t x action ≡ true) is on)))
+
   pub core_judged : (r k floor : ℕ) (found : Pool) → home_pool_of_core s r ≡ Some k → at_place s.pools k ≡ Some found → IsCoreFloor g s.now found r floor → IsCoreFloorAmong g s.now s.pools r floor
   core_judged r k floor found there has judged = λ i pool at action own on.
-      let same : i ≡ k = some_same (sym (core_home r i pool action at own on) ∙ there) in
+      let same : i ≡ k = some_same (sym (core_home s.now r i pool action at own on) ∙ there) in
       let here : at_place s.pools k ≡ Some pool = subst (λ (j : ℕ). at_place s.pools j ≡ Some pool) same at in
       let is : pool ≡ found = some_same (sym here ∙ has) in
       judged action own (subst (λ (x : Pool). enabled_in g s.now x action ≡ true) is on)
 
   -- a domain that no pool has, one whose home is empty, and one that is judged in its home
-  domain_home : (r i : ℕ) (pool : Pool) (action : Action) → at_place s.pools i ≡ Some pool → IsOfDomain r action → enabled_in g s.now pool action ≡ true → home_pool_of_domain s r ≡ Some i
-  domain_home r i pool action at own on = sym (home_domain g r s action own) ∙ home_is i pool action at on
+  domain_home : (t r i : ℕ) (pool : Pool) (action : Action) → at_place s.pools i ≡ Some pool → IsOfDomain r action → enabled_in g t pool action ≡ true → home_pool_of_domain s r ≡ Some i
+  domain_home t r i pool action at own on = sym (home_domain g r s action own) ∙ home_is t i pool action at on
 
   pub domain_nowhere : (r floor : ℕ) → home_pool_of_domain s r ≡ None → IsDomainFloorAmong g s.now s.pools r floor
-  domain_nowhere r floor none = λ i pool at action own on. absurd (let home = domain_home r i pool action at own on in cc)
+  domain_nowhere r floor none = λ i pool at action own on. absurd (let home = domain_home s.now r i pool action at own on in cc)
 
   pub domain_empty : (r k floor : ℕ) → home_pool_of_domain s r ≡ Some k → at_place s.pools k ≡ None → IsDomainFloorAmong g s.now s.pools r floor
   domain_empty r k floor there none = λ i pool at action own on. absurd (
-      let same : i ≡ k = some_same (sym (domain_home r i pool action at own on) ∙ there) in
+      let same : i ≡ k = some_same (sym (domain_home s.now r i pool action at own on) ∙ there) in
       let here : at_place s.pools k ≡ Some pool = subst (λ (j : ℕ). at_place s.pools j ≡ Some pool) same at in
       cc)
 
+  pub domain_waits : (r k : ℕ) (found : Pool) (old new : Waits) → home_pool_of_domain s r ≡ Some k → at_place s.pools k ≡ Some found → IsDomainAwaited g found r old new → AreLater g s.pools old → AreLater g s.pools new
+  domain_waits r k found old new there has awaited later =
+      subst (AreLater g s.pools) (sym awaited.set) (domain_awaited g s.now r s.pools old later awaited.wait (λ t i pool at action own on.
+      let same : i ≡ k = some_same (sym (domain_home t r i pool action at own on) ∙ there) in
+      let here : at_place s.pools k ≡ Some pool = subst (λ (j : ℕ). at_place s.pools j ≡ Some pool) same at in
+      let is : pool ≡ found = some_same (sym here ∙ has) in
+      awaited.right t action own (subst (λ (x : Pool). enabled_in g t x action ≡ true) is on)))
+
   pub domain_judged : (r k floor : ℕ) (found : Pool) → home_pool_of_domain s r ≡ Some k → at_place s.pools k ≡ Some found → IsDomainFloor g s.now found r floor → IsDomainFloorAmong g s.now s.pools r floor
   domain_judged r k floor found there has judged = λ i pool at action own on.
-      let same : i ≡ k = some_same (sym (domain_home r i pool action at own on) ∙ there) in
+      let same : i ≡ k = some_same (sym (domain_home s.now r i pool action at own on) ∙ there) in
       let here : at_place s.pools k ≡ Some pool = subst (λ (j : ℕ). at_place s.pools j ≡ Some pool) same at in
       let is : pool ≡ found = some_same (sym here ∙ has) in
       judged action own (subst (λ (x : Pool). enabled_in g s.now x action ≡ true) is on)
@@ -247,7 +266,7 @@ module _ (m : Machine) (s : State) (stands : Stands m s) where
 
     of_core : (i : ℕ) (pool : Pool) (b : Action) → at_place s.pools i ≡ Some pool → enabled_in g s.now pool b ≡ true → IsOfCore g (core_number g b) b → IsNotAfter a b
     of_core i pool b at on own =
-        let home : home_pool_of_action g s b ≡ Some i = home_is i pool b at on in
+        let home : home_pool_of_action g s b ≡ Some i = home_is s.now i pool b at on in
         let j : ℕ = core_number g b in
         let of_its : home_pool_of_core s j ≡ Some i = sym (home_core g j s b own) ∙ home in
         let inside : j < 64 = core_inside j i of_its in
@@ -272,7 +291,7 @@ module _ (m : Machine) (s : State) (stands : Stands m s) where
 
     of_domain : (i : ℕ) (pool : Pool) (b : Action) → at_place s.pools i ≡ Some pool → enabled_in g s.now pool b ≡ true → IsOfDomain (domain_number b) b → IsNotAfter a b
     of_domain i pool b at on own =
-        let home : home_pool_of_action g s b ≡ Some i = home_is i pool b at on in
+        let home : home_pool_of_action g s b ≡ Some i = home_is s.now i pool b at on in
         let j : ℕ = domain_number b in
         let of_its : home_pool_of_domain s j ≡ Some i = sym (home_domain g j s b own) ∙ home in
         let inside : j < 64 = domain_inside j i of_its in

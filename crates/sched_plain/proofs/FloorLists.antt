@@ -3,7 +3,7 @@ use Rattle.std.proofs.Common.{◌≡◌, ◌≢◌, ◌≤◌, ◌<◌, ◌+◌,
 use Rattle.std.specs.Prelude.{Option, Some, None, slice_set, replicate}
 use Rattle.sched_model.specs.declared.state.Resource.{Resource}
 use Rattle.sched_model.specs.Places.{at_place}
-use Rattle.sched_plain.specs.KeptFloors.{floor_at, forgotten, lowered, pended}
+use Rattle.sched_plain.specs.KeptFloors.{AreAsked, AreBehind, floor_at, forgotten, least_kind, lowered, pended}
 
 -- past the end nothing is set
 pub set_past : {X : Type 0} (xs : List X) (n : ℕ) (x : X) → length xs ≤ n → slice_set xs n x ≡ xs
@@ -58,48 +58,57 @@ pub forgotten_none : (o : Option ℕ) (n : ℕ) (xs : List ℕ) → o ≡ Some n
 forgotten_none None n xs is = absurd (cc)
 forgotten_none (Some k) n xs is = (let e : k ≡ n = cc in subst (λ (i : ℕ). floor_at (slice_set xs k 0) i ≤ 0) e (set_here xs k 0))
 
--- where pending cores may let their processors arrive
-lowered_lower : (r : ℕ) (xs : List ℕ) (j : ℕ) → floor_at (lowered r xs) j ≤ floor_at xs j
-lowered_lower r xs j = set_lower xs r j (min (floor_at xs r) 9) (omega arith)
+-- where no more is known of pending cores
+lowered_lower : (most r : ℕ) (xs : List ℕ) (j : ℕ) → floor_at (lowered most r xs) j ≤ floor_at xs j
+lowered_lower most r xs j = set_lower xs r j (min (floor_at xs r) most) (omega arith)
 
-lowered_here : (r : ℕ) (xs : List ℕ) → floor_at (lowered r xs) r ≤ 9
-lowered_here r xs = (let a = set_here xs r (min (floor_at xs r) 9) in omega (arith, a))
+lowered_here : (most r : ℕ) (xs : List ℕ) → floor_at (lowered most r xs) r ≤ most
+lowered_here most r xs = (let a = set_here xs r (min (floor_at xs r) most) in omega (arith, a))
 
-if_lowered : (b : Bool) (r : ℕ) (xs : List ℕ) (j : ℕ) → floor_at (cond b (lowered r xs) xs) j ≤ floor_at xs j
-if_lowered true r xs j = lowered_lower r xs j
-if_lowered false r xs j = omega arith
+pub lowered_none : (r : ℕ) (xs : List ℕ) → slice_set xs r 0 ≡ lowered 0 r xs
+lowered_none r xs = (let e : 0 ≡ min (floor_at xs r) 0 = omega arith in ap (slice_set xs r) e)
 
-pub pended_lower : (r : ℕ) (cores : List (Option Resource)) (xs : List ℕ) (j : ℕ) → floor_at (pended r cores xs) j ≤ floor_at xs j
-pended_lower r [] xs j = omega arith
-pended_lower r (None ∷ cores) xs j = pended_lower (suc r) cores xs j
-pended_lower r (Some c ∷ cores) xs j =
-    let a = pended_lower (suc r) cores (cond c.pending (lowered r xs) xs) j in
-    let b = if_lowered c.pending r xs j in
+if_lowered : (most : ℕ) (b : Bool) (r : ℕ) (xs : List ℕ) (j : ℕ) → floor_at (cond b (lowered most r xs) xs) j ≤ floor_at xs j
+if_lowered most true r xs j = lowered_lower most r xs j
+if_lowered most false r xs j = omega arith
+
+pub pended_lower : (most r : ℕ) (cores : List (Option Resource)) (xs : List ℕ) (j : ℕ) → floor_at (pended most r cores xs) j ≤ floor_at xs j
+pended_lower most r [] xs j = omega arith
+pended_lower most r (None ∷ cores) xs j = pended_lower most (suc r) cores xs j
+pended_lower most r (Some c ∷ cores) xs j =
+    let a = pended_lower most (suc r) cores (cond c.pending (lowered most r xs) xs) j in
+    let b = if_lowered most c.pending r xs j in
     omega (arith, a, b)
 
-pended_from : (r k : ℕ) (cores : List (Option Resource)) (xs : List ℕ) (c : Resource) → at_place cores k ≡ Some c → c.pending ≡ true → floor_at (pended r cores xs) (r + k) ≤ 9
-pended_from r k [] xs c at is = absurd (none k at)
+pended_from : (most r k : ℕ) (cores : List (Option Resource)) (xs : List ℕ) (c : Resource) → at_place cores k ≡ Some c → c.pending ≡ true → floor_at (pended most r cores xs) (r + k) ≤ most
+pended_from most r k [] xs c at is = absurd (none k at)
   where
     none : (i : ℕ) → at_place [] i ≡ Some c → ⊥
     none zero e = cc
     none (suc i) e = cc
-pended_from r zero (None ∷ cores) xs c at is = absurd (cc)
-pended_from r (suc k) (None ∷ cores) xs c at is =
+pended_from most r zero (None ∷ cores) xs c at is = absurd (cc)
+pended_from most r (suc k) (None ∷ cores) xs c at is =
     let e : suc r + k ≡ r + suc k = omega arith in
-    subst (λ (i : ℕ). floor_at (pended (suc r) cores xs) i ≤ 9) e (pended_from (suc r) k cores xs c at is)
-pended_from r zero (Some d ∷ cores) xs c at is =
+    subst (λ (i : ℕ). floor_at (pended most (suc r) cores xs) i ≤ most) e (pended_from most (suc r) k cores xs c at is)
+pended_from most r zero (Some d ∷ cores) xs c at is =
     let same : c ≡ d = cc in
     let pends : d.pending ≡ true = subst (λ (x : Resource). x.pending ≡ true) same is in
     let number : r + 0 ≡ r = omega arith in
-    let a = pended_lower (suc r) cores (cond d.pending (lowered r xs) xs) (r + 0) in
-    let b : floor_at (cond d.pending (lowered r xs) xs) (r + 0) ≤ 9 =
-    subst (λ (x : Bool). floor_at (cond x (lowered r xs) xs) (r + 0) ≤ 9) (sym pends) (subst (λ (i : ℕ). floor_at (lowered r xs) i ≤ 9) (sym number) (lowered_here r xs)) in
+    let a = pended_lower most (suc r) cores (cond d.pending (lowered most r xs) xs) (r + 0) in
+    let b : floor_at (cond d.pending (lowered most r xs) xs) (r + 0) ≤ most =
+    subst (λ (x : Bool). floor_at (cond x (lowered most r xs) xs) (r + 0) ≤ most) (sym pends) (subst (λ (i : ℕ). floor_at (lowered most r xs) i ≤ most) (sym number) (lowered_here most r xs)) in
     omega (arith, a, b)
-pended_from r (suc k) (Some d ∷ cores) xs c at is =
+pended_from most r (suc k) (Some d ∷ cores) xs c at is =
     let e : suc r + k ≡ r + suc k = omega arith in
-    subst (λ (i : ℕ). floor_at (pended (suc r) cores (cond d.pending (lowered r xs) xs)) i ≤ 9) e (pended_from (suc r) k cores (cond d.pending (lowered r xs) xs) c at is)
+    subst (λ (i : ℕ). floor_at (pended most (suc r) cores (cond d.pending (lowered most r xs) xs)) i ≤ most) e (pended_from most (suc r) k cores (cond d.pending (lowered most r xs) xs) c at is)
 
-pub pended_at : (k : ℕ) (cores : List (Option Resource)) (xs : List ℕ) (c : Resource) → at_place cores k ≡ Some c → c.pending ≡ true → floor_at (pended 0 cores xs) k ≤ 9
-pended_at k cores xs c at is =
+pub pended_at : (most k : ℕ) (cores : List (Option Resource)) (xs : List ℕ) (c : Resource) → at_place cores k ≡ Some c → c.pending ≡ true → floor_at (pended most 0 cores xs) k ≤ most
+pended_at most k cores xs c at is =
     let e : 0 + k ≡ k = omega arith in
-    subst (λ (i : ℕ). floor_at (pended 0 cores xs) i ≤ 9) e (pended_from 0 k cores xs c at is)
+    subst (λ (i : ℕ). floor_at (pended most 0 cores xs) i ≤ most) e (pended_from most 0 k cores xs c at is)
+
+-- where each is as high as is asked
+pub behind_if_asked : (kind own : ℕ) (xs : List ℕ) → length xs ≡ 64 → AreAsked kind own 0 xs → AreBehind kind own 0 xs
+behind_if_asked kind own xs count asked = λ n from inside.
+    let e : 0 + n ≡ n = omega arith in
+    subst (λ (i : ℕ). least_kind kind own i ≤ floor_at xs n) e (asked n (omega (arith, inside, count)))

@@ -1,6 +1,6 @@
 -- What is kept of the floors stays true over an event, a look, and what is judged anew.
 use Rattle.std.proofs.Common.{◌≡◌, ◌≤◌, ◌<◌, ◌/◌, ◌⊎◌, ◌∙◌, ℕ, true, List, length, sym, ap, subst, arith, inl, inr}
-use Rattle.std.specs.Prelude.{Option, Some, None, option_map, replicate, slice_set}
+use Rattle.std.specs.Prelude.{Option, Some, replicate, slice_set}
 use Rattle.std.proofs.Math.Decide.{ℕ_discrete}
 use Rattle.sched_model.specs.declared.action.Action.{Action}
 use Rattle.sched_model.specs.declared.action.Action.TheVariants.{Stall, Xl, Moved, DomMoved, Wake, Block, Slice, Repl, Refill, Arrive, Decide, Leave, Save}
@@ -15,24 +15,20 @@ use Rattle.sched_laws.proofs.Lists.{some_same}
 use Rattle.pool_laws.specs.Order.{kind_place}
 use Rattle.sched_plain.specs.declared.floors.Floors.{Floors}
 use Rattle.sched_plain.specs.Fits.{PoolFitsAt}
-use Rattle.sched_plain.specs.KeptFloors.{AreKept, AreKeptIf, IsCoreFloorAmong, IsDomainFloorAmong, IsForgotten, IsTouched, IsTouchedIf, floor_at, floor_of, pended_floors, touched, touched_core, touched_domain, touched_domains}
+use Rattle.sched_plain.specs.KeptFloors.{AreKept, IsCoreFloorAmong, IsDomainFloorAmong, IsTouched, floor_at, floor_of, pended, touched, touched_core, touched_domain}
 use Rattle.sched_plain.proofs.FloorLists.{forgotten_lower, none_known, pended_at, pended_lower, set_here, set_other}
 use Rattle.sched_plain.proofs.TouchedEvents.{event_lets}
 use Rattle.sched_plain.proofs.TouchedSteps.{look_step}
 
 -- less is known after an event
-domains_lower : (g : ℕ) (pool : Pool) (action : Action) (xs : List ℕ) (j : ℕ) → floor_at (touched_domains g pool action xs) j ≤ floor_at xs j
-domains_lower g pool (Decide r) xs j = (let a = none_known 64 j in omega (arith, a))
-domains_lower g pool action xs j = forgotten_lower (touched_domain g pool action) xs j
-
 module _ (g : ℕ) (pool : Pool) (action : Action) (floors : Floors) where
   cores_lower : (j : ℕ) → floor_at (touched g pool action floors).cores j ≤ floor_at floors.cores j
   cores_lower j = forgotten_lower (touched_core g pool action) floors.cores j
 
   owned_lower : (j : ℕ) → floor_at (touched g pool action floors).domains j ≤ floor_at floors.domains j
-  owned_lower j = domains_lower g pool action floors.domains j
+  owned_lower j = forgotten_lower (touched_domain g pool action) floors.domains j
 
-  touched_lower : (other : Action) → floor_of g (touched g pool action floors) other ≤ floor_of g floors other
+  pub touched_lower : (other : Action) → floor_of g (touched g pool action floors) other ≤ floor_of g floors other
   touched_lower Stall = omega arith
   touched_lower Xl = omega arith
   touched_lower (Moved r) = cores_lower r.0
@@ -48,72 +44,50 @@ module _ (g : ℕ) (pool : Pool) (action : Action) (floors : Floors) where
   touched_lower (Save r) = cores_lower r.0
 
 -- and after a look
-module _ (g : ℕ) (cores : List (Option Resource)) (floors : Floors) where
-  look_lower : (other : Action) → floor_of g (pended_floors cores floors) other ≤ floor_of g floors other
+module _ (g most : ℕ) (cores : List (Option Resource)) (floors : Floors) where
+  pub look_lower : (other : Action) → floor_of g (record floors { cores = pended most 0 cores floors.cores }) other ≤ floor_of g floors other
   look_lower Stall = omega arith
   look_lower Xl = omega arith
-  look_lower (Moved r) = pended_lower 0 cores floors.cores r.0
+  look_lower (Moved r) = pended_lower most 0 cores floors.cores r.0
   look_lower (DomMoved d) = omega arith
   look_lower (Wake v) = omega arith
-  look_lower (Block p) = pended_lower 0 cores floors.cores (p.0 / g)
-  look_lower (Slice r) = pended_lower 0 cores floors.cores r.0
+  look_lower (Block p) = pended_lower most 0 cores floors.cores (p.0 / g)
+  look_lower (Slice r) = pended_lower most 0 cores floors.cores r.0
   look_lower (Repl u) = omega arith
   look_lower (Refill d) = omega arith
-  look_lower (Arrive p) = pended_lower 0 cores floors.cores (p.0 / g)
-  look_lower (Decide r) = pended_lower 0 cores floors.cores r.0
-  look_lower (Leave p) = pended_lower 0 cores floors.cores (p.0 / g)
-  look_lower (Save r) = pended_lower 0 cores floors.cores r.0
+  look_lower (Arrive p) = pended_lower most 0 cores floors.cores (p.0 / g)
+  look_lower (Decide r) = pended_lower most 0 cores floors.cores r.0
+  look_lower (Leave p) = pended_lower most 0 cores floors.cores (p.0 / g)
+  look_lower (Save r) = pended_lower most 0 cores floors.cores r.0
 
-module _ (g t : ℕ) (pool : Pool) (action : Action) (some : 0 < g) (known : IsKnownPool g pool) (own : IsOfPool action) where
+module _ (g t : ℕ) (pool : Pool) (action : Action) (some : 0 < g) (known : IsKnownPool g pool) (own : IsOfPool action) (enabled : enabled_in g t pool action ≡ true) where
   abbrev next : Pool
   next = after_in g t pool action
 
   by_event : (floors after : Floors) → ((other : Action) → floor_of g after other ≤ floor_of g (touched g pool action floors) other)
       → (other : Action) → enabled_in g t next other ≡ true → (floor_of g after other ≤ kind_place other) ⊎ (enabled_in g t pool other ≡ true)
-  by_event floors after less other on = elim (event_lets g t t floors pool action some known own other on) [
+  by_event floors after less other on = elim (event_lets g t t floors pool action some known own enabled other on) [
     | inl hit ↦ inl (let a = less other in omega (arith, hit, a))
     | inr was ↦ inr was
   ]
 
   -- over an event after which the cores are not looked at
-  event_touched : (floors : Floors) → IsTouched g t pool next floors (touched g pool action floors)
+  pub event_touched : (floors : Floors) → IsTouched g t pool next floors (touched g pool action floors)
   event_touched floors = record { lower = touched_lower g pool action floors; each = by_event floors (touched g pool action floors) (λ other. omega arith) }
 
   -- and where they are
-  look_touched : (floors : Floors) → IsTouched g t pool (settled_pool t next) floors (pended_floors (settled_pool t next).resources (touched g pool action floors))
+  pub look_touched : (floors : Floors) → IsTouched g t pool (settled_pool t next) floors (record (touched g pool action floors) { cores = pended 9 0 (settled_pool t next).resources (touched g pool action floors).cores })
   look_touched floors =
       let cores : List (Option Resource) = (settled_pool t next).resources in
       let middle : Floors = touched g pool action floors in
-      let after : Floors = pended_floors cores middle in
+      let after : Floors = record middle { cores = pended 9 0 cores middle.cores } in
       record {
-        lower = λ other. (let a = look_lower g cores middle other in let b = touched_lower g pool action floors other in omega (arith, a, b));
-        each = λ other on. elim (look_step g t (λ b. floor_of g after b ≤ kind_place b) t next (λ p c at pends. pended_at (p / g) cores middle.cores c at pends) other on) [
+        lower = λ other. (let a = look_lower g 9 cores middle other in let b = touched_lower g pool action floors other in omega (arith, a, b));
+        each = λ other on. elim (look_step g t (λ b. floor_of g after b ≤ kind_place b) t next (λ p c at pends. pended_at 9 (p / g) cores middle.cores c at pends) other on) [
           | inl hit ↦ inl hit
-          | inr was ↦ by_event floors after (look_lower g cores middle) other was
+          | inr was ↦ by_event floors after (look_lower g 9 cores middle) other was
         ];
       }
-
-  pub event_touched_if : (o : Option Floors) → IsTouchedIf g t pool next o (option_map (touched g pool action) o)
-  event_touched_if None = tt
-  event_touched_if (Some floors) = event_touched floors
-
-  pub look_touched_if : (o : Option Floors) → IsTouchedIf g t pool (settled_pool t next) o (option_map (pended_floors (settled_pool t next).resources) (option_map (touched g pool action) o))
-  look_touched_if None = tt
-  look_touched_if (Some floors) = look_touched floors
-
-  -- the same of what the code has at hand
-  pub event_touched_is : (next2 : Pool) (o q : Option Floors) → next2 ≡ next → q ≡ option_map (touched g pool action) o → IsTouchedIf g t pool next2 o q
-  event_touched_is next2 o q is floors =
-      subst (λ (x : Option Floors). IsTouchedIf g t pool next2 o x) (sym floors) (subst (λ (x : Pool). IsTouchedIf g t pool x o (option_map (touched g pool action) o)) (sym is) (event_touched_if o))
-
-  pub look_touched_is : (middle next2 : Pool) (cores : List (Option Resource)) (o p q : Option Floors) → middle ≡ next → next2 ≡ settled_pool t middle → cores ≡ next2.resources → p ≡ option_map (touched g pool action) o → q ≡ option_map (pended_floors cores) p
-      → IsTouchedIf g t pool next2 o q
-  look_touched_is middle next2 cores o p q first then seen event look =
-      let left : Pool = settled_pool t next in
-      let is : next2 ≡ left = then ∙ ap (settled_pool t) first in
-      let all : q ≡ option_map (pended_floors left.resources) (option_map (touched g pool action) o) =
-      look ∙ ap (λ (cs : List (Option Resource)). option_map (pended_floors cs) p) (seen ∙ ap (λ (x : Pool). x.resources) is) ∙ ap (λ (x : Option Floors). option_map (pended_floors left.resources) x) event in
-      subst (λ (x : Option Floors). IsTouchedIf g t pool next2 o x) (sym all) (subst (λ (x : Pool). IsTouchedIf g t pool x o (option_map (pended_floors left.resources) (option_map (touched g pool action) o))) (sym is) (look_touched_if o))
 
 -- how many cores are looked at
 pub looked_cores : (t : ℕ) (pool middle left : Pool) (cores : List (Option Resource)) → middle ≡ pool → left ≡ settled_pool t middle → cores ≡ left.resources → PoolFitsAt t pool → length cores ≤ 64
@@ -125,7 +99,7 @@ looked_cores t pool middle left cores first then seen fits =
     omega (arith, count, same, few)
 
 -- the other pools are as before
-kept_over : (g t i : ℕ) (pools : List (Option Pool)) (pool left : Pool) (before after : Floors) → at_place pools i ≡ Some pool → AreKept g t pools before → IsTouched g t pool left before after → AreKept g t (slice_set pools i (Some left)) after
+pub kept_over : (g t i : ℕ) (pools : List (Option Pool)) (pool left : Pool) (before after : Floors) → at_place pools i ≡ Some pool → AreKept g t pools before → IsTouched g t pool left before after → AreKept g t (slice_set pools i (Some left)) after
 kept_over g t i pools pool left before after there kept touches = record {
   each = λ j p action at on. elim (ℕ_discrete j i) [
     | yes same ↦ (
@@ -139,13 +113,8 @@ kept_over g t i pools pool left before after there kept touches = record {
   ];
 }
 
-pub kept_over_if : (g t i : ℕ) (pools : List (Option Pool)) (pool left : Pool) (before after : Option Floors) → at_place pools i ≡ Some pool → AreKeptIf g t pools before → IsTouchedIf g t pool left before after → AreKeptIf g t (slice_set pools i (Some left)) after
-kept_over_if g t i pools pool left before None there kept touches = tt
-kept_over_if g t i pools pool left None (Some after) there kept touches = absurd touches
-kept_over_if g t i pools pool left (Some before) (Some after) there kept touches = kept_over g t i pools pool left before after there kept touches
-
 -- where nothing is known
-nothing_of : (g : ℕ) (floors : Floors) → floors.cores ≡ replicate 64 0 → floors.domains ≡ replicate 64 0 → (action : Action) → floor_of g floors action ≤ 0
+pub nothing_of : (g : ℕ) (floors : Floors) → floors.cores ≡ replicate 64 0 → floors.domains ≡ replicate 64 0 → (action : Action) → floor_of g floors action ≤ 0
 nothing_of g floors cores domains = by
   where
     core : (j : ℕ) → floor_at floors.cores j ≤ 0
@@ -172,12 +141,8 @@ nothing_of g floors cores domains = by
 pub nothing_kept : (g t : ℕ) (pools : List (Option Pool)) (floors : Floors) → floors.cores ≡ replicate 64 0 → floors.domains ≡ replicate 64 0 → AreKept g t pools floors
 nothing_kept g t pools floors cores domains = record { each = λ i pool action at on. (let a = nothing_of g floors cores domains action in omega (arith, a)) }
 
-pub forgotten_kept : (g t : ℕ) (pools : List (Option Pool)) (o : Option Floors) → IsForgotten o → AreKeptIf g t pools o
-forgotten_kept g t pools None is = tt
-forgotten_kept g t pools (Some floors) is = nothing_kept g t pools floors is.0 is.1
-
 -- where a core or a domain is judged anew
-anew : (xs : List ℕ) (n found j k : ℕ) → (j ≡ n → found ≤ k) → floor_at xs j ≤ k → floor_at (slice_set xs n found) j ≤ k
+pub anew : (xs : List ℕ) (n found j k : ℕ) → (j ≡ n → found ≤ k) → floor_at xs j ≤ k → floor_at (slice_set xs n found) j ≤ k
 anew xs n found j k here was = elim (ℕ_discrete j n) [
   | yes is ↦ (let a : floor_at (slice_set xs n found) j ≤ found = subst (λ (i : ℕ). floor_at (slice_set xs n found) i ≤ found) (sym is) (set_here xs n found) in let b = here is in omega (arith, a, b))
   | no other ↦ (let a = set_other xs n j found other in omega (arith, a, was))

@@ -16,6 +16,9 @@ pub mod FloorBounds
 pub mod FloorLists
 pub mod AlikeCores
 pub mod TouchedSteps
+pub mod Decided
 pub mod TouchedEvents
 pub mod KeptLaw
+pub mod WaitBounds
+pub mod SeenLaw
 pub mod FirstLaw

@@ -1,6 +1,6 @@
 -- Which events an event of a pool may let come: those of the core and of the domain that it touches.
 use Rattle.std.proofs.Common.{◌≡◌, ◌≢◌, ◌⊎◌, ◌≤◌, ◌<◌, ◌+◌, ◌*◌, ◌/◌, ◌%◌, ℕ, Bool, true, false, not, List, refl, sym, ap, subst, ◌∙◌, arith, inl, inr}
-use Rattle.std.specs.Prelude.{Option, Some, None, ◌&&◌, ◌||◌, is_some, option_map, replicate, slice_get}
+use Rattle.std.specs.Prelude.{Option, Some, None, ◌&&◌, ◌||◌, is_some, option_map, slice_get}
 use Rattle.std.specs.List.{list_any}
 use Rattle.std.proofs.Math.Decide.{ℕ_discrete}
 use Rattle.std.proofs.lemmas.Bool.{ne_eqb, not-true}
@@ -44,7 +44,8 @@ use Rattle.sched_plain.specs.PoolFloors.{IsOfCore, IsOfDomain}
 use Rattle.sched_plain.specs.declared.floors.Floors.{Floors}
 use Rattle.sched_plain.specs.KeptFloors.{floor_of, forgotten, touched, touched_domain}
 use Rattle.sched_plain.proofs.AlikeCores.{UpAsBefore, first_same, none_less}
-use Rattle.sched_plain.proofs.FloorLists.{forgotten_none, none_known}
+use Rattle.sched_plain.proofs.Decided.{decide_moves, decide_refills, decide_renews}
+use Rattle.sched_plain.proofs.FloorLists.{forgotten_none}
 use Rattle.sched_plain.proofs.TouchedSteps.{Comes, both, KeepsOns, Lets, changed_step, core_step, decided_step, lets_both, lets_same, processor_step, queue_step, records_step, vcpu_step}
 
 -- the deadlines of other units, and the refills of other domains
@@ -305,37 +306,30 @@ module _ (g : ℕ) (floors : Floors) where
   domain_hit o d cores is (Refill e) own = forgotten_none o e.0 floors.domains (is ∙ ap Some (sym own))
   domain_hit o d cores is action own = absurd own
 
-  all_hit : (d : ℕ) (cores : List ℕ) (action : Action) → IsOfDomain d action → Known cores (replicate 64 0) action
-  all_hit d cores (DomMoved e) own = (let a = none_known 64 e.0 in omega (arith, a))
-  all_hit d cores (Wake v) own = (let a = none_known 64 v.dom.0 in omega (arith, a))
-  all_hit d cores (Repl u) own = (let a = none_known 64 u.dom.0 in omega (arith, a))
-  all_hit d cores (Refill e) own = (let a = none_known 64 e.0 in omega (arith, a))
-  all_hit d cores action own = absurd own
-
 -- each event lets come none but those of what it touches
-pub event_lets : (g t now : ℕ) (floors : Floors) (pool : Pool) (action : Action) → 0 < g → IsKnownPool g pool → IsOfPool action → Lets g t (λ other. floor_of g (touched g pool action floors) other ≤ 0) pool (after_in g now pool action)
-event_lets g t now floors pool Stall some known own = absurd own
-event_lets g t now floors pool Xl some known own = absurd own
-event_lets g t now floors pool (Moved r) some known own = absurd own
-event_lets g t now floors pool (DomMoved d) some known own = absurd own
-event_lets g t now floors pool (Wake v) some known own = wakes g t now some pool known _ v (λ r is. core_hit g floors (unit_core pool (vcpu_unit g v)) r _ is) (domain_hit g floors (Some v.dom.0) v.dom.0 _ refl)
-event_lets g t now floors pool (Block p) some known own =
+pub event_lets : (g t now : ℕ) (floors : Floors) (pool : Pool) (action : Action) → 0 < g → IsKnownPool g pool → IsOfPool action → enabled_in g now pool action ≡ true → Lets g t (λ other. floor_of g (touched g pool action floors) other ≤ 0) pool (after_in g now pool action)
+event_lets g t now floors pool Stall some known own enabled = absurd own
+event_lets g t now floors pool Xl some known own enabled = absurd own
+event_lets g t now floors pool (Moved r) some known own enabled = absurd own
+event_lets g t now floors pool (DomMoved d) some known own enabled = absurd own
+event_lets g t now floors pool (Wake v) some known own enabled = wakes g t now some pool known _ v (λ r is. core_hit g floors (unit_core pool (vcpu_unit g v)) r _ is) (domain_hit g floors (Some v.dom.0) v.dom.0 _ refl)
+event_lets g t now floors pool (Block p) some known own enabled =
     by_option (Lets g t (λ other. floor_of g (touched g pool (Block p) floors) other ≤ 0) pool) (running_guest g pool p.0) _ _ (λ none. lets_same g t _ pool)
     (λ v is. blocks g t now some pool known _ p.0 v (core_hit g floors (Some (p.0 / g)) (p.0 / g) _ refl) (domain_hit g floors (touched_domain g pool (Block p)) v.dom.0 (forgotten (Some (p.0 / g)) floors.cores) (ap (λ (o : Option VcpuId). elim o as (λ _. Option ℕ) [ None ↦ None | Some w ↦ Some w.dom.0 ]) is) (Wake v) refl))
-event_lets g t now floors pool (Slice r) some known own = slices g t now some pool known _ r.0 (core_hit g floors (Some r.0) r.0 _ refl)
-event_lets g t now floors pool (Repl u) some known own = renews g t now some pool known _ u (λ r is. core_hit g floors (unit_core pool u) r _ is) (domain_hit g floors (Some u.dom.0) u.dom.0 (touched g pool (Repl u) floors).cores refl (Repl u) refl)
-event_lets g t now floors pool (Refill d) some known own = refills g t now some pool known _ d.0 (domain_hit g floors (Some d.0) d.0 _ refl)
-event_lets g t now floors pool (Arrive p) some known own = arrives g t now some pool known _ p.0 (core_hit g floors (Some (p.0 / g)) (p.0 / g) _ refl)
-event_lets g t now floors pool (Decide r) some known own =
+event_lets g t now floors pool (Slice r) some known own enabled = slices g t now some pool known _ r.0 (core_hit g floors (Some r.0) r.0 _ refl)
+event_lets g t now floors pool (Repl u) some known own enabled = renews g t now some pool known _ u (λ r is. core_hit g floors (unit_core pool u) r _ is) (domain_hit g floors (Some u.dom.0) u.dom.0 (touched g pool (Repl u) floors).cores refl (Repl u) refl)
+event_lets g t now floors pool (Refill d) some known own enabled = refills g t now some pool known _ d.0 (domain_hit g floors (Some d.0) d.0 _ refl)
+event_lets g t now floors pool (Arrive p) some known own enabled = arrives g t now some pool known _ p.0 (core_hit g floors (Some (p.0 / g)) (p.0 / g) _ refl)
+event_lets g t now floors pool (Decide r) some known own enabled =
     by_option (Lets g t (λ other. floor_of g (touched g pool (Decide r) floors) other ≤ 0) pool) (at_place pool.resources r.0) _ _ (λ none. lets_same g t _ pool)
     (λ c at.
     let after : Pool = pools.after_decide g now r.0 c pool in
-    decided_step g t (λ other. floor_of g (touched g pool (Decide r) floors) other ≤ 0) r.0 (decided_core now (decision_of (core_ask g now pool r.0 c) pool.scheduler) c) after.scheduler pool (core_hit g floors (Some r.0) r.0 (replicate 64 0) refl)
-    (λ d. all_hit g floors d (forgotten (Some r.0) floors.cores)))
-event_lets g t now floors pool (Leave p) some known own =
+    decided_step g t (λ other. floor_of g (touched g pool (Decide r) floors) other ≤ 0) r.0 (decided_core now (decision_of (core_ask g now pool r.0 c) pool.scheduler) c) after.scheduler pool (core_hit g floors (Some r.0) r.0 floors.domains refl)
+    (decide_moves g t now r.0 c pool at known enabled) (decide_renews g t now r.0 c pool at known enabled) (decide_refills g t now r.0 c pool at known enabled))
+event_lets g t now floors pool (Leave p) some known own enabled =
     by_option (Lets g t (λ other. floor_of g (touched g pool (Leave p) floors) other ≤ 0) pool) (at_place pool.resources (p.0 / g)) _ _ (λ none. lets_same g t _ pool)
     (λ c at. leaves g t now some pool known _ p.0 c at (core_hit g floors (Some (p.0 / g)) (p.0 / g) _ refl))
-event_lets g t now floors pool (Save r) some known own =
+event_lets g t now floors pool (Save r) some known own enabled =
     by_option (Lets g t (λ other. floor_of g (touched g pool (Save r) floors) other ≤ 0) pool) (at_place pool.resources r.0) _ _ (λ none. lets_same g t _ pool)
     (λ c at. by_option (Lets g t (λ other. floor_of g (touched g pool (Save r) floors) other ≤ 0) pool) c.saving _ _ (λ none. lets_same g t _ pool)
     (λ u is.

@@ -29,7 +29,7 @@ use Rattle.sched_model.proofs.PlaceLemmas.{at_place-change_at_other}
 use Rattle.sched_laws.proofs.Choices.{same_unit_same}
 use Rattle.sched_laws.proofs.Events.{LikePlaces, like_change_at, like_change_each, like_map}
 use Rattle.sched_laws.proofs.Lists.{slice_get-change_item_other, test_at-change_at}
-use Rattle.sched_plain.specs.PoolFloors.{IsOfCore, IsOfDomain}
+use Rattle.sched_plain.specs.PoolFloors.{IsOfCore}
 use Rattle.sched_plain.proofs.AlikeCores.{UpAsBefore, first_same, lowest_same, none_less}
 
 -- both hold
@@ -119,10 +119,13 @@ module _ (g t : ℕ) where
       by (Leave p) on = at (Leave p) (p.0 / g) (hits (Leave p)) on
       by (Save q) on = at (Save q) q.0 (hits (Save q)) on
 
-  -- one core and the scheduler, where each event of a domain is a hit
-  pub decided_step : (Hit : Action → Type 0) (r : ℕ) (x : Resource) (scheduler : Scheduler) (pool : Pool) → ((action : Action) → IsOfCore g r action → Hit action) → ((d : ℕ) (action : Action) → IsOfDomain d action → Hit action)
+  -- one core and the scheduler, where no event of a domain comes of it
+  pub decided_step : (Hit : Action → Type 0) (r : ℕ) (x : Resource) (scheduler : Scheduler) (pool : Pool) → ((action : Action) → IsOfCore g r action → Hit action)
+      → ((d : DomId) → Comes (record pool { scheduler = scheduler; resources = put_at r x pool.resources }) (DomMoved d) → Comes pool (DomMoved d))
+      → ((u : UnitId) → Comes (record pool { scheduler = scheduler; resources = put_at r x pool.resources }) (Repl u) → Comes pool (Repl u))
+      → ((d : DomId) → Comes (record pool { scheduler = scheduler; resources = put_at r x pool.resources }) (Refill d) → Comes pool (Refill d))
       → Lets Hit pool (record pool { scheduler = scheduler; resources = put_at r x pool.resources })
-  decided_step Hit r x scheduler pool hits owns = by
+  decided_step Hit r x scheduler pool hits moves renews refills = by
     where
       at : (action : Action) (j : ℕ) → (j ≡ r → Hit action) → core_sees pool.domains action (at_place (put_at r x pool.resources) j) ≡ true → Hit action ⊎ (core_sees pool.domains action (at_place pool.resources j) ≡ true)
       at action j hit on = elim (ℕ_discrete j r) [
@@ -134,12 +137,12 @@ module _ (g t : ℕ) where
       by Stall on = inr on
       by Xl on = inr on
       by (Moved q) on = at (Moved q) q.0 (hits (Moved q)) on
-      by (DomMoved d) on = inl (owns d.0 (DomMoved d) refl)
-      by (Wake v) on = inl (owns v.dom.0 (Wake v) refl)
+      by (DomMoved d) on = inr (moves d on)
+      by (Wake v) on = inr on
       by (Block p) on = at (Block p) (p.0 / g) (hits (Block p)) on
       by (Slice q) on = at (Slice q) q.0 (hits (Slice q)) on
-      by (Repl u) on = inl (owns u.dom.0 (Repl u) refl)
-      by (Refill d) on = inl (owns d.0 (Refill d) refl)
+      by (Repl u) on = inr (renews u on)
+      by (Refill d) on = inr (refills d on)
       by (Arrive p) on = at (Arrive p) (p.0 / g) (hits (Arrive p)) on
       by (Decide q) on = at (Decide q) q.0 (hits (Decide q)) on
       by (Leave p) on = at (Leave p) (p.0 / g) (hits (Leave p)) on

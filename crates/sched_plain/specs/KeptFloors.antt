@@ -1,6 +1,6 @@
 -- What is known of the order of the events that may come at the present moment: for each core and each domain, before which kind of event none
 -- of it may come. g is the number of a core's processors.
-use Rattle.std.specs.Prelude.{ℕ, suc, ◌≡◌, ◌≤◌, ◌<◌, ◌/◌, ◌⊎◌, true, false, List, [], ◌∷◌, Option, Some, None, slice_index_or, slice_set, replicate, min, nat_lt, if◌then◌else◌}
+use Rattle.std.specs.Prelude.{ℕ, suc, ◌≡◌, ◌≤◌, ◌<◌, ◌+◌, ◌/◌, ◌⊎◌, true, false, List, [], ◌∷◌, Option, Some, None, length, slice_index_or, slice_set, min, nat_lt, if◌then◌else◌}
 use Rattle.sched_base.specs.declared.UnitId.{UnitId}
 use Rattle.sched_base.specs.declared.VcpuId.{VcpuId}
 use Rattle.sched_model.specs.declared.action.Action.{Action}
@@ -41,20 +41,10 @@ floor_of g floors _ = 0
 pub record AreKept (g t : ℕ) (pools : List (Option Pool)) (floors : Floors) : Type 0 where
   pub each : (i : ℕ) (pool : Pool) (action : Action) → at_place pools i ≡ Some pool → enabled_in g t pool action ≡ true → floor_of g floors action ≤ kind_place action
 
--- the same, where anything is kept
-abbrev pub AreKeptIf : ℕ → ℕ → List (Option Pool) → Option Floors → Type 0
-AreKeptIf g t pools None = Unit {0}
-AreKeptIf g t pools (Some floors) = AreKept g t pools floors
-
 -- where less is known than before, and of each event that may come in the next pool, but not in the old one, nothing but its kind's place at most
 pub record IsTouched (g t : ℕ) (old next : Pool) (before after : Floors) : Type 0 where
   pub lower : (action : Action) → floor_of g after action ≤ floor_of g before action
   pub each : (action : Action) → enabled_in g t next action ≡ true → (floor_of g after action ≤ kind_place action) ⊎ (enabled_in g t old action ≡ true)
-
-abbrev pub IsTouchedIf : ℕ → ℕ → Pool → Pool → Option Floors → Option Floors → Type 0
-IsTouchedIf g t old next before None = Unit {0}
-IsTouchedIf g t old next None (Some after) = ⊥
-IsTouchedIf g t old next (Some before) (Some after) = IsTouched g t old next before after
 
 -- the kind that is at least asked for at a number, where an event of this kind and number is to be the first: a later one at lesser numbers
 abbrev pub least_kind : ℕ → ℕ → ℕ → ℕ
@@ -63,6 +53,10 @@ least_kind kind own n = (if nat_lt n own then suc kind else kind)
 -- from a number on the floors have these kinds at least
 abbrev pub AreBehind : ℕ → ℕ → ℕ → List ℕ → Type 0
 AreBehind kind own from floors = (n : ℕ) → from ≤ n → n < 64 → least_kind kind own n ≤ floor_at floors n
+
+-- the same of these floors, of which the first has the number n
+abbrev pub AreAsked : ℕ → ℕ → ℕ → List ℕ → Type 0
+AreAsked kind own n floors = (k : ℕ) → k < length floors → least_kind kind own (n + k) ≤ floor_at floors k
 
 -- the number of the event's core or domain, and 64 where it is none of a core, or of a domain
 abbrev pub core_number : ℕ → Action → ℕ
@@ -82,12 +76,7 @@ domain_number (Repl u) = u.dom.0
 domain_number (Refill d) = d.0
 domain_number _ = 64
 
--- nothing is known any more, where anything was kept
-abbrev pub IsForgotten : Option Floors → Type 0
-IsForgotten None = Unit {0}
-IsForgotten (Some floors) = (floors.cores ≡ replicate 64 0) × (floors.domains ≡ replicate 64 0)
-
--- the core and the domain whose events an event of the pool may let come: its own, and what it changes beside
+-- the core and the domain whose events an event of the pool may let come: its own, and what it changes beside; a decision lets none of a domain come
 abbrev pub touched_core : ℕ → Pool → Action → Option ℕ
 touched_core g pool (Wake v) = unit_core pool (vcpu_unit g v)
 touched_core g pool (Block p) = Some (p.0 / g)
@@ -120,30 +109,21 @@ abbrev pub forgotten : Option ℕ → List ℕ → List ℕ
 forgotten None floors = floors
 forgotten (Some n) floors = slice_set floors n 0
 
--- the same of the domains; a decision changes the scheduler's records, and nothing is known of any domain
-abbrev pub touched_domains : ℕ → Pool → Action → List ℕ → List ℕ
-touched_domains g pool (Decide r) floors = replicate 64 0
-touched_domains g pool action floors = forgotten (touched_domain g pool action) floors
-
 -- what is known after the event of the pool, before its cores are looked at
 abbrev pub touched : ℕ → Pool → Action → Floors → Floors
 touched g pool action floors = record {
   cores = forgotten (touched_core g pool action) floors.cores;
-  domains = touched_domains g pool action floors.domains;
+  domains = forgotten (touched_domain g pool action) floors.domains;
 }
 
--- the processors of each of these cores that is pending, of which the first has the number r, may arrive
-abbrev pub lowered : ℕ → List ℕ → List ℕ
-lowered r floors = slice_set floors r (min (floor_at floors r) 9)
+-- of each of these cores that is pending, of which the first has the number r, no more is known than this
+abbrev pub lowered : ℕ → ℕ → List ℕ → List ℕ
+lowered most r floors = slice_set floors r (min (floor_at floors r) most)
 
-abbrev pub pended : ℕ → List (Option Resource) → List ℕ → List ℕ
-pended r [] floors = floors
-pended r (None ∷ cores) floors = pended (suc r) cores floors
-pended r (Some c ∷ cores) floors = pended (suc r) cores (if c.pending then lowered r floors else floors)
-
--- the same of what is kept
-abbrev pub pended_floors : List (Option Resource) → Floors → Floors
-pended_floors cores floors = record floors { cores = pended 0 cores floors.cores }
+abbrev pub pended : ℕ → ℕ → List (Option Resource) → List ℕ → List ℕ
+pended most r [] floors = floors
+pended most r (None ∷ cores) floors = pended most (suc r) cores floors
+pended most r (Some c ∷ cores) floors = pended most (suc r) cores (if c.pending then lowered most r floors else floors)
 
 -- no event of the core that may come in one of these pools is of an earlier kind, and none of the domain
 abbrev pub IsCoreFloorAmong : ℕ → ℕ → List (Option Pool) → ℕ → ℕ → Type 0

@@ -8,3 +8,5 @@ pub mod Stalls
 pub mod SettledPools
 pub mod PoolFloors
 pub mod KeptFloors
+pub mod Waits
+pub mod Outlooks

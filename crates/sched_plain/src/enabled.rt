@@ -16,7 +16,7 @@ use sched_model::places::item_at;
 use sched_model::state::{FreeCore, State};
 
 /// Whether the next stall has come.
-fn stall_due(machine: &Machine, state: &State, t: Moment) -> bool
+pub(crate) fn stall_due(machine: &Machine, state: &State, t: Moment) -> bool
     ensures { result ≡ has_stall_come machine.now state.entry.now t.0 }
 {
     match machine
@@ -31,7 +31,7 @@ fn stall_due(machine: &Machine, state: &State, t: Moment) -> bool
 }
 
 /// Whether the next command has come.
-fn command_due(machine: &Machine, state: &State, t: Moment) -> bool
+pub(crate) fn command_due(machine: &Machine, state: &State, t: Moment) -> bool
     ensures { result ≡ has_command_come machine.now state.entry.now t.0 }
 {
     match machine

@@ -1,51 +1,111 @@
 //! Whether an event that may come is the first of the whole machine: by what is known of each core and each domain, of which only those are judged
 //! anew of which too little is known.
 
-ghost use Rattle.std.specs.Prelude.{◌≡◌, ℕ, ◌+◌, ◌<◌, ◌≤◌, true, false, Some};
+ghost use Rattle.std.specs.Prelude.{◌≡◌, ℕ, ◌+◌, ◌<◌, ◌≤◌, true, false, Some, length};
 ghost use Rattle.sched_model.specs.Places.{at_place};
 ghost use Rattle.sched_model.specs.declared.state.FreeCore.{FreeCore as FreeCoreRecord};
 ghost use Rattle.sched_model.specs.Machine.{first_enabled_action, is_action_enabled, is_free_core_ready};
 ghost use Rattle.pool_laws.specs.Order.{kind_place};
-ghost use Rattle.sched_plain.specs.KeptFloors.{AreBehind, AreKept, AreKeptIf, IsCoreFloorAmong, IsDomainFloorAmong, IsFirstAtHome, IsToolQuiet, SameBefore, core_number, domain_number, floor_at, least_kind};
+ghost use Rattle.sched_plain.specs.KeptFloors.{AreAsked, AreBehind, IsCoreFloorAmong, IsDomainFloorAmong, IsFirstAtHome, IsToolQuiet, SameBefore, core_number, domain_number, floor_at, least_kind};
+ghost use Rattle.sched_plain.specs.Outlooks.{AreLater, IsCoreAwaited, IsDomainAwaited, IsSeen, IsSeenIf, IsStill};
+ghost use Rattle.pool_records.specs.Fits.{PoolFits};
+ghost use Rattle.sched_plain.specs.PoolFloors.{IsCoreFloor, IsDomainFloor};
 ghost use Rattle.sched_plain.specs.ReachedStates.{Stands};
 
-use crate::enabled::{free_ready, is_enabled};
-use crate::floors::{Floors, nothing_known};
+use crate::enabled::{command_due, free_ready, is_enabled, stall_due};
+use crate::floors::{Outlook, Waits, nothing_known};
 use crate::homes::{home_of, home_of_core, home_of_domain, pool_at};
 use crate::pool_floors::{core_floor, domain_floor, is_first_sibling};
 use crate::scan::first_enabled;
+use crate::waits::{core_wait, domain_wait};
 use sched_base::{DomId, Moment, ResId};
 use sched_model::action::Action;
 use sched_model::machine::Machine;
-use sched_model::state::{FreeCore, State};
+use sched_model::state::{FreeCore, Pool, State};
 
-/// The earliest kind of the core's events that may come now in a pool.
-fn core_floor_now(machine: &Machine, state: &State, r: ResId) -> u8
-    requires stands { Stands machine.now state.now }
-    requires core { r.0 < 64 }
-    ensures { IsCoreFloorAmong machine.now.config.granularity state.entry.now.now state.entry.now.pools r.0 result }
+/// The earliest kind of the core's events that may come at t in the pool, and what it waits for from now on.
+fn judge_core(waits: &mut Waits, granularity: u8, t: Moment, pool: &Pool, r: ResId) -> u8
+    requires some { 0 < granularity }
+    requires few { granularity ≤ 4 }
+    requires inside { r.0 < 64 }
+    requires fits { PoolFits pool.now }
+    ensures waits { IsCoreAwaited granularity pool.now r.0 waits.old waits.new }
+    ensures floor { IsCoreFloor granularity t.0 pool.now r.0 result }
 {
-    let g = machine.config.granularity;
-    match home_of_core(state, r) {
+    let wait = core_wait(pool, r);
+    waits.cores[r.0 as usize] = wait;
+    if t.0 < wait {
+        13
+    } else {
+        core_floor(granularity, t, pool, r)
+    }
+}
+
+/// The earliest kind of the core's events that may come now in a pool. It is judged only where its wait is over.
+fn core_floor_now(waits: &mut Waits, machine: &Machine, state: &State, r: u8) -> u8
+    requires stands { Stands machine.now state.now }
+    requires waits { AreLater machine.now.config.granularity state.now.pools waits.old }
+    requires inside { r < 64 }
+    ensures waits { AreLater machine.now.config.granularity state.entry.now.pools waits.new }
+    ensures floor { IsCoreFloorAmong machine.now.config.granularity state.entry.now.now state.entry.now.pools r result }
+{
+    if state.now < waits.cores[r as usize] {
+        return 13;
+    }
+    match home_of_core(state, ResId(r)) {
         None => 13,
         Some(i) => match pool_at(state, i) {
             None => 13,
-            Some(pool) => core_floor(g, Moment(state.now), pool, r),
+            Some(pool) => judge_core(
+                waits,
+                machine.config.granularity,
+                Moment(state.now),
+                pool,
+                ResId(r),
+            ),
         },
     }
 }
 
-/// The earliest kind of the domain's events that may come now in a pool.
-fn domain_floor_now(machine: &Machine, state: &State, d: DomId) -> u8
-    requires { Stands machine.now state.now }
-    ensures { IsDomainFloorAmong machine.now.config.granularity state.entry.now.now state.entry.now.pools d.0 result }
+/// The earliest kind of the domain's events that may come at t in the pool, and what it waits for from now on.
+fn judge_domain(waits: &mut Waits, granularity: u8, t: Moment, pool: &Pool, d: DomId) -> u8
+    requires some { 0 < granularity }
+    requires inside { d.0 < 64 }
+    requires fits { PoolFits pool.now }
+    ensures waits { IsDomainAwaited granularity pool.now d.0 waits.old waits.new }
+    ensures floor { IsDomainFloor granularity t.0 pool.now d.0 result }
 {
-    let g = machine.config.granularity;
-    match home_of_domain(state, d) {
+    let wait = domain_wait(t, pool, d);
+    waits.domains[d.0 as usize] = wait;
+    if t.0 < wait {
+        13
+    } else {
+        domain_floor(granularity, t, pool, d)
+    }
+}
+
+/// The earliest kind of the domain's events that may come now in a pool. It is judged only where its wait is over.
+fn domain_floor_now(waits: &mut Waits, machine: &Machine, state: &State, d: u8) -> u8
+    requires stands { Stands machine.now state.now }
+    requires waits { AreLater machine.now.config.granularity state.now.pools waits.old }
+    requires inside { d < 64 }
+    ensures waits { AreLater machine.now.config.granularity state.entry.now.pools waits.new }
+    ensures floor { IsDomainFloorAmong machine.now.config.granularity state.entry.now.now state.entry.now.pools d result }
+{
+    if state.now < waits.domains[d as usize] {
+        return 13;
+    }
+    match home_of_domain(state, DomId(d)) {
         None => 13,
         Some(i) => match pool_at(state, i) {
             None => 13,
-            Some(pool) => domain_floor(g, Moment(state.now), pool, d),
+            Some(pool) => judge_domain(
+                waits,
+                machine.config.granularity,
+                Moment(state.now),
+                pool,
+                DomId(d),
+            ),
         },
     }
 }
@@ -59,26 +119,26 @@ fn asked_kind(kind: u8, own: u8, n: u8) -> u8
 }
 
 /// Whether none of the core's events that may come now is of an earlier kind than this one. A core of which too little is known is judged anew.
-fn is_core_behind(floors: &mut Floors, machine: &Machine, state: &State, asked: u8, r: u8) -> bool
+fn is_core_behind(outlook: &mut Outlook, machine: &Machine, state: &State, asked: u8, r: u8) -> bool
     requires stands { Stands machine.now state.now }
-    requires kept { AreKept machine.now.config.granularity state.now.now state.now.pools floors.old }
+    requires seen { IsSeen machine.now state.now outlook.old }
     requires inside { r < 64 }
-    ensures kept { AreKept machine.now.config.granularity state.entry.now.now state.entry.now.pools floors.new }
-    ensures others { floors.new.domains ≡ floors.old.domains }
-    ensures before { SameBefore r floors.old.cores floors.new.cores }
-    ensures enough { result ≡ true → asked ≤ floor_at floors.new.cores r }
+    ensures seen { IsSeen machine.now state.entry.now outlook.new }
+    ensures others { outlook.new.floors.domains ≡ outlook.old.floors.domains }
+    ensures before { SameBefore r outlook.old.floors.cores outlook.new.floors.cores }
+    ensures enough { result ≡ true → asked ≤ floor_at outlook.new.floors.cores r }
 {
-    if asked <= floors.cores[r as usize] {
+    if asked <= outlook.floors.cores[r as usize] {
         return true;
     }
-    let found = core_floor_now(machine, state, ResId(r));
-    floors.cores[r as usize] = found;
+    let found = core_floor_now(&mut outlook.waits, machine, state, r);
+    outlook.floors.cores[r as usize] = found;
     asked <= found
 }
 
 /// Whether no core from this number on has an event that comes before one of this kind and core.
 fn cores_behind(
-    floors: &mut Floors,
+    outlook: &mut Outlook,
     machine: &Machine,
     state: &State,
     kind: u8,
@@ -86,43 +146,49 @@ fn cores_behind(
     r: u8,
 ) -> bool
     requires stands { Stands machine.now state.now }
-    requires kept { AreKept machine.now.config.granularity state.now.now state.now.pools floors.old }
+    requires seen { IsSeen machine.now state.now outlook.old }
     requires kind { kind < 13 }
     requires inside { r ≤ 64 }
-    ensures kept { AreKept machine.now.config.granularity state.entry.now.now state.entry.now.pools floors.new }
-    ensures others { floors.new.domains ≡ floors.old.domains }
-    ensures before { SameBefore r floors.old.cores floors.new.cores }
-    ensures behind { result ≡ true → AreBehind kind own r floors.new.cores }
+    ensures seen { IsSeen machine.now state.entry.now outlook.new }
+    ensures others { outlook.new.floors.domains ≡ outlook.old.floors.domains }
+    ensures before { SameBefore r outlook.old.floors.cores outlook.new.floors.cores }
+    ensures behind { result ≡ true → AreBehind kind own r outlook.new.floors.cores }
 {
     if r >= 64 {
         return true;
     }
     let asked = asked_kind(kind, own, r);
-    is_core_behind(floors, machine, state, asked, r)
-        && cores_behind(floors, machine, state, kind, own, r + 1)
+    is_core_behind(outlook, machine, state, asked, r)
+        && cores_behind(outlook, machine, state, kind, own, r + 1)
 }
 
 /// Whether none of the domain's events that may come now is of an earlier kind than this one. A domain of which too little is known is judged anew.
-fn is_domain_behind(floors: &mut Floors, machine: &Machine, state: &State, asked: u8, d: u8) -> bool
+fn is_domain_behind(
+    outlook: &mut Outlook,
+    machine: &Machine,
+    state: &State,
+    asked: u8,
+    d: u8,
+) -> bool
     requires stands { Stands machine.now state.now }
-    requires kept { AreKept machine.now.config.granularity state.now.now state.now.pools floors.old }
+    requires seen { IsSeen machine.now state.now outlook.old }
     requires inside { d < 64 }
-    ensures kept { AreKept machine.now.config.granularity state.entry.now.now state.entry.now.pools floors.new }
-    ensures others { floors.new.cores ≡ floors.old.cores }
-    ensures before { SameBefore d floors.old.domains floors.new.domains }
-    ensures enough { result ≡ true → asked ≤ floor_at floors.new.domains d }
+    ensures seen { IsSeen machine.now state.entry.now outlook.new }
+    ensures others { outlook.new.floors.cores ≡ outlook.old.floors.cores }
+    ensures before { SameBefore d outlook.old.floors.domains outlook.new.floors.domains }
+    ensures enough { result ≡ true → asked ≤ floor_at outlook.new.floors.domains d }
 {
-    if asked <= floors.domains[d as usize] {
+    if asked <= outlook.floors.domains[d as usize] {
         return true;
     }
-    let found = domain_floor_now(machine, state, DomId(d));
-    floors.domains[d as usize] = found;
+    let found = domain_floor_now(&mut outlook.waits, machine, state, d);
+    outlook.floors.domains[d as usize] = found;
     asked <= found
 }
 
 /// The same of the domains from this number on.
 fn domains_behind(
-    floors: &mut Floors,
+    outlook: &mut Outlook,
     machine: &Machine,
     state: &State,
     kind: u8,
@@ -130,20 +196,151 @@ fn domains_behind(
     d: u8,
 ) -> bool
     requires stands { Stands machine.now state.now }
-    requires kept { AreKept machine.now.config.granularity state.now.now state.now.pools floors.old }
+    requires seen { IsSeen machine.now state.now outlook.old }
     requires kind { kind < 13 }
     requires inside { d ≤ 64 }
-    ensures kept { AreKept machine.now.config.granularity state.entry.now.now state.entry.now.pools floors.new }
-    ensures others { floors.new.cores ≡ floors.old.cores }
-    ensures before { SameBefore d floors.old.domains floors.new.domains }
-    ensures behind { result ≡ true → AreBehind kind own d floors.new.domains }
+    ensures seen { IsSeen machine.now state.entry.now outlook.new }
+    ensures others { outlook.new.floors.cores ≡ outlook.old.floors.cores }
+    ensures before { SameBefore d outlook.old.floors.domains outlook.new.floors.domains }
+    ensures behind { result ≡ true → AreBehind kind own d outlook.new.floors.domains }
 {
     if d >= 64 {
         return true;
     }
     let asked = asked_kind(kind, own, d);
-    is_domain_behind(floors, machine, state, asked, d)
-        && domains_behind(floors, machine, state, kind, own, d + 1)
+    is_domain_behind(outlook, machine, state, asked, d)
+        && domains_behind(outlook, machine, state, kind, own, d + 1)
+}
+
+/// Whether something was too low before, or one of these floors is lower than what is asked at its number. The first of them has the number n. All of
+/// them are gone through, many in a step.
+fn is_one_low(kind: u8, own: u8, n: u8, before: bool, floors: &[u8]) -> bool
+    requires kind { kind < 13 }
+    requires few { n + length floors.now ≤ 64 }
+    ensures before { result ≡ false → before ≡ false }
+    ensures behind { result ≡ false → AreAsked kind own n floors.now }
+{
+    match floors {
+        [] => before,
+        [x, rest @ ..] => is_one_low(
+            kind,
+            own,
+            n + 1,
+            before | (*x < asked_kind(kind, own, n)),
+            rest,
+        ),
+    }
+}
+
+/// Whether none of the floors is lower than what is asked at its number.
+fn are_behind(kind: u8, own: u8, floors: &[u8; 64]) -> bool
+    requires { kind < 13 }
+    ensures { result ≡ true → AreBehind kind own 0 floors.now }
+{
+    !is_one_low(kind, own, 0, false, floors)
+}
+
+/// Whether the core with this number has no event that comes before one of this kind and core.
+fn is_numbered_core_behind(
+    outlook: &mut Outlook,
+    machine: &Machine,
+    state: &State,
+    kind: u8,
+    own: u8,
+    number: Option<usize>,
+) -> bool
+    requires stands { Stands machine.now state.now }
+    requires seen { IsSeen machine.now state.now outlook.old }
+    requires kind { kind < 13 }
+    ensures seen { IsSeen machine.now state.entry.now outlook.new }
+    ensures others { outlook.new.floors.domains ≡ outlook.old.floors.domains }
+{
+    match number {
+        None => true,
+        Some(n) => {
+            n >= 64
+                || is_core_behind(
+                    outlook,
+                    machine,
+                    state,
+                    asked_kind(kind, own, n as u8),
+                    n as u8,
+                )
+        }
+    }
+}
+
+/// Whether the domain with this number has no event that comes before one of this kind and domain.
+fn is_numbered_domain_behind(
+    outlook: &mut Outlook,
+    machine: &Machine,
+    state: &State,
+    kind: u8,
+    own: u8,
+    number: Option<usize>,
+) -> bool
+    requires stands { Stands machine.now state.now }
+    requires seen { IsSeen machine.now state.now outlook.old }
+    requires kind { kind < 13 }
+    ensures seen { IsSeen machine.now state.entry.now outlook.new }
+    ensures others { outlook.new.floors.cores ≡ outlook.old.floors.cores }
+{
+    match number {
+        None => true,
+        Some(n) => {
+            n >= 64
+                || is_domain_behind(
+                    outlook,
+                    machine,
+                    state,
+                    asked_kind(kind, own, n as u8),
+                    n as u8,
+                )
+        }
+    }
+}
+
+/// Whether no core has an event that comes before one of this kind and core. The core that was touched last is judged first, since mostly no more has to
+/// be; all are gone through only where the floors do not tell.
+fn all_cores_behind(
+    outlook: &mut Outlook,
+    machine: &Machine,
+    state: &State,
+    kind: u8,
+    own: u8,
+) -> bool
+    requires stands { Stands machine.now state.now }
+    requires seen { IsSeen machine.now state.now outlook.old }
+    requires kind { kind < 13 }
+    ensures seen { IsSeen machine.now state.entry.now outlook.new }
+    ensures others { outlook.new.floors.domains ≡ outlook.old.floors.domains }
+    ensures behind { result ≡ true → AreBehind kind own 0 outlook.new.floors.cores }
+{
+    let touched = outlook.core;
+    is_numbered_core_behind(outlook, machine, state, kind, own, touched)
+        && (are_behind(kind, own, &outlook.floors.cores)
+            || cores_behind(outlook, machine, state, kind, own, 0))
+}
+
+/// The same of the domains.
+fn all_domains_behind(
+    outlook: &mut Outlook,
+    machine: &Machine,
+    state: &State,
+    kind: u8,
+    own: u8,
+) -> bool
+    requires stands { Stands machine.now state.now }
+    requires seen { IsSeen machine.now state.now outlook.old }
+    requires kind { kind < 13 }
+    ensures seen { IsSeen machine.now state.entry.now outlook.new }
+    ensures others { outlook.new.floors.cores ≡ outlook.old.floors.cores }
+    ensures behind { result ≡ true → AreBehind kind own 0 outlook.new.floors.domains }
+{
+    let touched = outlook.domain;
+    is_numbered_domain_behind(outlook, machine, state, kind, own, touched)
+        && (are_behind(kind, own, &outlook.floors.domains)
+            || domains_behind(outlook, machine, state, kind, own, 0))
 }
 
 /// Whether one of these cores of no pool may move at t.
@@ -166,6 +363,37 @@ fn is_tool_due(machine: &Machine, state: &State) -> bool
     is_enabled(machine, state, t, Action::Stall)
         || is_enabled(machine, state, t, Action::Xl)
         || any_free_ready(t, state.free.as_slice())
+}
+
+/// Whether the next stall, the next command and the cores of no pool are not due yet.
+fn is_still(machine: &Machine, state: &State) -> bool
+    ensures { result ≡ true → IsStill machine.now state.entry.now }
+{
+    let t = Moment(state.now);
+    !stall_due(machine, state, t)
+        && !command_due(machine, state, t)
+        && !any_free_ready(t, state.free.as_slice())
+}
+
+/// Asks whether the tool is still, where that is not known, and keeps it where it is.
+fn ask_still(machine: &Machine, state: &State, outlook: &mut Outlook)
+    requires { IsSeen machine.now state.now outlook.old }
+    ensures { IsSeen machine.now state.entry.now outlook.new }
+{
+    if !outlook.is_still {
+        outlook.is_still = is_still(machine, state);
+    }
+}
+
+/// Whether the tool has nothing to do now, beside moves out of pools.
+fn is_tool_quiet(machine: &Machine, state: &State, outlook: &mut Outlook) -> bool
+    requires stands { Stands machine.now state.now }
+    requires seen { IsSeen machine.now state.now outlook.old }
+    ensures seen { IsSeen machine.now state.entry.now outlook.new }
+    ensures quiet { result ≡ true → IsToolQuiet machine.now state.entry.now }
+{
+    ask_still(machine, state, outlook);
+    outlook.is_still || !is_tool_due(machine, state)
 }
 
 /// The place of the event's kind in the order of kinds.
@@ -236,23 +464,23 @@ fn is_first_at_home(machine: &Machine, state: &State, action: Action) -> bool
 }
 
 /// Whether the event, which may come now, is the first that may, as far as what is kept tells.
-fn comes_first(machine: &Machine, state: &State, floors: &mut Floors, action: Action) -> bool
+fn comes_first(machine: &Machine, state: &State, outlook: &mut Outlook, action: Action) -> bool
     requires stands { Stands machine.now state.now }
-    requires kept { AreKept machine.now.config.granularity state.now.now state.now.pools floors.old }
+    requires seen { IsSeen machine.now state.now outlook.old }
     requires enabled { is_action_enabled machine.now state.now state.now.now action ≡ true }
-    ensures kept { AreKept machine.now.config.granularity state.entry.now.now state.entry.now.pools floors.new }
+    ensures seen { IsSeen machine.now state.entry.now outlook.new }
     ensures first { result ≡ true → first_enabled_action machine.now state.entry.now state.entry.now.now ≡ Some action }
 {
     let kind = place_of(action);
     let core = core_of(machine.config.granularity, action);
     let domain = domain_of(action);
-    if is_tool_due(machine, state) {
+    if !is_tool_quiet(machine, state, outlook) {
         return false;
     }
-    if !cores_behind(floors, machine, state, kind, core, 0) {
+    if !all_cores_behind(outlook, machine, state, kind, core) {
         return false;
     }
-    if !domains_behind(floors, machine, state, kind, domain, 0) {
+    if !all_domains_behind(outlook, machine, state, kind, domain) {
         return false;
     }
     is_first_at_home(machine, state, action)
@@ -262,19 +490,19 @@ fn comes_first(machine: &Machine, state: &State, floors: &mut Floors, action: Ac
 fn is_known_first(
     machine: &Machine,
     state: &mut State,
-    floors: &mut Option<Floors>,
+    outlook: &mut Option<Outlook>,
     action: Action,
 ) -> bool
     requires stands { Stands machine.now state.old }
-    requires kept { AreKeptIf machine.now.config.granularity state.old.now state.old.pools floors.old }
+    requires seen { IsSeenIf machine.now state.old outlook.old }
     requires enabled { is_action_enabled machine.now state.old state.old.now action ≡ true }
-    ensures kept { AreKeptIf machine.now.config.granularity state.new.now state.new.pools floors.new }
+    ensures seen { IsSeenIf machine.now state.new outlook.new }
     ensures state { state.new ≡ state.old }
     ensures first { result ≡ true → first_enabled_action machine.now state.old state.old.now ≡ Some action }
 {
-    match floors {
+    match outlook {
         None => {
-            *floors = Some(nothing_known());
+            *outlook = Some(nothing_known());
             false
         }
         Some(kept) => comes_first(machine, state, kept, action),
@@ -286,19 +514,17 @@ fn is_known_first(
 pub fn first_by_guess(
     machine: &Machine,
     state: &mut State,
-    floors: &mut Option<Floors>,
+    outlook: &mut Option<Outlook>,
     guess: Action,
 ) -> Option<Action>
     requires stands { Stands machine.now state.old }
-    requires kept { AreKeptIf machine.now.config.granularity state.old.now state.old.pools
-        floors.old }
+    requires seen { IsSeenIf machine.now state.old outlook.old }
     requires enabled { is_action_enabled machine.now state.old state.old.now guess ≡ true }
     ensures first { result ≡ first_enabled_action machine.now state.old state.old.now }
-    ensures kept { AreKeptIf machine.now.config.granularity state.new.now state.new.pools
-        floors.new }
+    ensures seen { IsSeenIf machine.now state.new outlook.new }
     ensures state { state.new ≡ state.old }
 {
-    if is_known_first(machine, state, floors, guess) {
+    if is_known_first(machine, state, outlook, guess) {
         Some(guess)
     } else {
         first_enabled(machine, state, Moment(state.now))

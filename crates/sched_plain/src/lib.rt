@@ -15,3 +15,4 @@ pub mod scan;
 pub mod settled;
 pub mod soonest;
 pub mod stall;
+pub mod waits;

@@ -9,13 +9,13 @@ ghost use Rattle.cpupool.specs.Tool.{KnowsMachine};
 ghost use Rattle.sched_plain.specs.CommandList.{HasSpares};
 ghost use Rattle.sched_plain.specs.Fits.{PoolFitsAt};
 ghost use Rattle.sched_plain.specs.ReachedStates.{Stands};
-ghost use Rattle.sched_plain.specs.KeptFloors.{AreKeptIf, IsTouchedIf};
+ghost use Rattle.sched_plain.specs.Outlooks.{IsSeenIf, IsSeenOverIf};
 ghost use Rattle.sched_plain.specs.SettledPools.{AreSettled, MayDecide};
 ghost use Rattle.pool_laws.specs.CoreLooks.{IsSettled};
 
 use crate::command::command;
 use crate::dom_moves::move_domain;
-use crate::floors::{Floors, forget_all, pend, touch};
+use crate::floors::{Outlook, forget_all, pend, touch};
 use crate::homes::home_of;
 use crate::moves::move_core;
 use crate::settled::{Settled, needs_look};
@@ -37,7 +37,7 @@ fn perform_in(
     t: Moment,
     action: Action,
     is_settled: bool,
-    floors: &mut Option<Floors>,
+    outlook: &mut Option<Outlook>,
     pool: &mut Pool,
 ) -> Event
     requires some { 0 < granularity }
@@ -51,14 +51,14 @@ fn perform_in(
     requires decides { MayDecide granularity pool.old }
     ensures event { result ≡ event_in granularity t.0 pool.old action }
     ensures pool { pool.new ≡ settled_pool t.0 (after_in granularity t.0 pool.old action) }
-    ensures floors { IsTouchedIf granularity t.0 pool.old pool.new floors.old floors.new }
+    ensures outlook { IsSeenOverIf granularity t.0 pool.old pool.new outlook.old outlook.new }
 {
-    touch(granularity, action, pool, floors);
+    touch(granularity, action, pool, outlook);
     let is_looked_at = needs_look(is_settled, action, pool);
     let event = happen(granularity, t, action, pool);
     if is_looked_at {
         settle(t, pool);
-        pend(pool.resources.as_slice(), floors);
+        pend(pool.resources.as_slice(), outlook);
     }
     event
 }
@@ -71,12 +71,11 @@ fn perform_at(
     place: usize,
     state: &mut State,
     settled: &mut Settled,
-    floors: &mut Option<Floors>,
+    outlook: &mut Option<Outlook>,
 ) -> Event
     requires stands { Stands machine.now state.old }
     requires settled { AreSettled state.old.now state.old.pools settled.old }
-    requires floors { AreKeptIf machine.now.config.granularity state.old.now state.old.pools
-        floors.old }
+    requires outlook { IsSeenIf machine.now state.old outlook.old }
     requires now { t.0 ≡ state.old.now }
     requires own { IsOfPool action }
     requires enabled { is_action_enabled machine.now state.old state.old.now action ≡ true }
@@ -85,8 +84,7 @@ fn perform_at(
     ensures event { result ≡ event_of machine.now state.old state.old.now action }
     ensures state { state.new ≡ after machine.now state.old state.old.now action }
     ensures settled { AreSettled state.new.now state.new.pools settled.new }
-    ensures floors { AreKeptIf machine.now.config.granularity state.new.now state.new.pools
-        floors.new }
+    ensures outlook { IsSeenIf machine.now state.new outlook.new }
 {
     if place >= state.pools.len() {
         unreachable!();
@@ -99,7 +97,7 @@ fn perform_at(
                 t,
                 action,
                 settled.has(place),
-                floors,
+                outlook,
                 pool,
             );
             settled.mark(place);
@@ -113,25 +111,23 @@ fn perform_at_home(
     machine: &Machine,
     state: &mut State,
     settled: &mut Settled,
-    floors: &mut Option<Floors>,
+    outlook: &mut Option<Outlook>,
     action: Action,
 ) -> Event
     requires stands { Stands machine.now state.old }
     requires settled { AreSettled state.old.now state.old.pools settled.old }
-    requires floors { AreKeptIf machine.now.config.granularity state.old.now state.old.pools
-        floors.old }
+    requires outlook { IsSeenIf machine.now state.old outlook.old }
     requires own { IsOfPool action }
     requires enabled { is_action_enabled machine.now state.old state.old.now action ≡ true }
     ensures event { result ≡ event_of machine.now state.old state.old.now action }
     ensures state { state.new ≡ after machine.now state.old state.old.now action }
     ensures settled { AreSettled state.new.now state.new.pools settled.new }
-    ensures floors { AreKeptIf machine.now.config.granularity state.new.now state.new.pools
-        floors.new }
+    ensures outlook { IsSeenIf machine.now state.new outlook.new }
 {
     let t = state.now;
     match home_of(machine.config.granularity, state, action) {
         None => unreachable!(),
-        Some(i) => perform_at(machine, Moment(t), action, i, state, settled, floors),
+        Some(i) => perform_at(machine, Moment(t), action, i, state, settled, outlook),
     }
 }
 
@@ -142,7 +138,7 @@ pub fn perform(
     tool: &mut ToolState,
     spares: &mut Row<Option<Pool>>,
     settled: &mut Settled,
-    floors: &mut Option<Floors>,
+    outlook: &mut Option<Outlook>,
     action: Action,
 ) -> Event
     requires stands { Stands machine.now state.old }
@@ -150,37 +146,35 @@ pub fn perform(
     requires tool { KnowsMachine machine.now tool.old }
     requires spares { HasSpares machine.now state.old.next_command spares.old }
     requires settled { AreSettled state.old.now state.old.pools settled.old }
-    requires floors { AreKeptIf machine.now.config.granularity state.old.now state.old.pools
-        floors.old }
+    requires outlook { IsSeenIf machine.now state.old outlook.old }
     ensures event { result ≡ event_of machine.now state.old state.old.now action }
     ensures state { state.new ≡ after machine.now state.old state.old.now action }
     ensures tool { KnowsMachine machine.now tool.new }
     ensures spares { HasSpares machine.now state.new.next_command spares.new }
     ensures settled { AreSettled state.new.now state.new.pools settled.new }
-    ensures floors { AreKeptIf machine.now.config.granularity state.new.now state.new.pools
-        floors.new }
+    ensures outlook { IsSeenIf machine.now state.new outlook.new }
 {
     match action {
         Action::Stall => {
             settled.clear();
-            forget_all(floors);
+            forget_all(outlook);
             stall(machine, state)
         }
         Action::Xl => {
             settled.clear();
-            forget_all(floors);
+            forget_all(outlook);
             command(machine, state, tool, spares)
         }
         Action::Moved(r) => {
             settled.clear();
-            forget_all(floors);
+            forget_all(outlook);
             move_core(machine, r, state)
         }
         Action::DomMoved(d) => {
             settled.clear();
-            forget_all(floors);
+            forget_all(outlook);
             move_domain(machine, d, state)
         }
-        _ => perform_at_home(machine, state, settled, floors, action),
+        _ => perform_at_home(machine, state, settled, outlook, action),
     }
 }

@@ -8,7 +8,7 @@ ghost use Rattle.sched_model.specs.Opening.{opening};
 
 use crate::enabled::is_enabled;
 use crate::first::first_by_guess;
-use crate::floors::{Floors, forget_all};
+use crate::floors::{Outlook, pass};
 use crate::perform::perform;
 use crate::scan::first_enabled;
 use crate::settled::Settled;
@@ -36,7 +36,7 @@ pub struct Plain {
     tool: ToolState,
     spares: Row<Option<Pool>>,
     settled: Settled,
-    floors: Option<Floors>,
+    outlook: Option<Outlook>,
 }
 
 impl Model for Plain {
@@ -47,7 +47,7 @@ impl Model for Plain {
     ghost use Rattle.cpupool.specs.Tool.{KnowsMachine};
     ghost use Rattle.sched_plain.specs.CommandList.{HasSpares};
     ghost use Rattle.sched_plain.specs.ReachedStates.{Stands};
-    ghost use Rattle.sched_plain.specs.KeptFloors.{AreKeptIf};
+    ghost use Rattle.sched_plain.specs.Outlooks.{IsSeenIf};
     ghost use Rattle.sched_plain.specs.SettledPools.{AreSettled};
 
     ghost view = { λ p. record { machine = p.machine; state = p.state } };
@@ -55,7 +55,7 @@ impl Model for Plain {
     ghost invariant = { λ p. Stands p.machine p.state × KnowsMachine p.machine p.tool
         × HasSpares p.machine p.state.next_command p.spares
         × AreSettled p.state.now p.state.pools p.settled
-        × AreKeptIf p.machine.config.granularity p.state.now p.state.pools p.floors };
+        × IsSeenIf p.machine p.state p.outlook };
 }
 
 /// The state of a machine at its opening, and what its tool knows then.
@@ -116,7 +116,7 @@ impl Plain {
                 tool,
                 spares,
                 settled: Settled::none(),
-                floors: None,
+                outlook: None,
             }),
             Err(full) => {
                 drop(machine);
@@ -156,7 +156,7 @@ impl Plain {
             ≡ first_enabled_action self.old.machine self.old.state self.old.state.now }
         ensures unchanged { self.new ≡ self.old }
     {
-        first_by_guess(&self.machine, &mut self.state, &mut self.floors, guess)
+        first_by_guess(&self.machine, &mut self.state, &mut self.outlook, guess)
     }
 
     /// The processor of the workload's next stall, or none where all have come.
@@ -192,7 +192,7 @@ impl Plain {
             &mut self.tool,
             &mut self.spares,
             &mut self.settled,
-            &mut self.floors,
+            &mut self.outlook,
             action,
         )
     }
@@ -214,6 +214,6 @@ impl Plain {
     {
         self.state.now = next.0;
         self.settled.clear();
-        forget_all(&mut self.floors);
+        pass(&mut self.outlook);
     }
 }

@@ -1,21 +1,33 @@
-use Rattle.std.proofs.Common.{◌∙◌, sym, ap}
+use Rattle.std.proofs.Common.{◌∙◌, sym, ap, arith}
 use Rattle.std.specs.Option.{option_copied}
-use Rattle.sched_plain.proofs.Bridges.{stands-pool, stands-state}
-use Rattle.sched_plain.proofs.FirstLaw.{domain_empty, domain_judged, domain_nowhere}
+use Rattle.sched_plain.proofs.Bridges.{stands-machine, stands-pool, stands-state}
+use Rattle.sched_plain.proofs.FirstLaw.{domain_empty, domain_judged, domain_nowhere, domain_waits}
+use Rattle.sched_plain.proofs.SeenLaw.{domain_not_yet}
 use Rattle.sched_plain.proofs.first.domain_floor_now.Goals as goal
 
+pub returns-then-state-waits-clause-floor : goal.returns-then-state-waits-clause-floor
+returns-then-state-waits-clause-floor c = domain_not_yet c.args.machine.now.config.granularity c.args.state.now.now c.args.d c.args.state.now.pools c.args.waits.now c.requires.waits (omega arith)
+
 pub home_of_domain-requires : goal.home_of_domain-requires
-home_of_domain-requires c = (stands-state c.args.machine.now c.args.state.now c.requires).few_pools
+home_of_domain-requires c = (stands-state c.args.machine.now c.args.state.now c.requires.stands).few_pools
 
-pub domain_floor-requires-clause-fits : goal.domain_floor-requires-clause-fits
-domain_floor-requires-clause-fits c = (stands-pool c.args.machine.now c.args.state.now c.requires c.in-Some.i c.in-Some-pool_at.pool.now (sym c.pool_at.ensures ∙ ap option_copied c.in-Some-pool_at.is)).fits
+pub judge_domain-requires-clause-some : goal.judge_domain-requires-clause-some
+judge_domain-requires-clause-some c = (stands-machine c.args.machine.now c.args.state.now c.requires.stands).some_processor
 
-pub returns-in-None : goal.returns-in-None
-returns-in-None c = domain_nowhere c.args.machine.now c.args.state.now c.requires c.args.d.0 13 (sym c.home_of_domain.ensures ∙ c.in-None.is)
+pub judge_domain-requires-clause-fits : goal.judge_domain-requires-clause-fits
+judge_domain-requires-clause-fits c = (stands-pool c.args.machine.now c.args.state.now c.requires.stands c.in-Some.i c.in-Some-pool_at.pool.now (sym c.pool_at.ensures ∙ ap option_copied c.in-Some-pool_at.is)).fits
 
-pub returns-in-None-pool_at : goal.returns-in-None-pool_at
-returns-in-None-pool_at c = domain_empty c.args.machine.now c.args.state.now c.requires c.args.d.0 c.in-Some.i 13 (sym c.home_of_domain.ensures ∙ c.in-Some.is) (sym c.pool_at.ensures ∙ ap option_copied c.in-None-pool_at.is)
+pub returns-in-None-clause-floor : goal.returns-in-None-clause-floor
+returns-in-None-clause-floor c = domain_nowhere c.args.machine.now c.args.state.now c.requires.stands c.args.d 13 (sym c.home_of_domain.ensures ∙ c.in-None.is)
 
-pub returns-in-Some-pool_at : goal.returns-in-Some-pool_at
-returns-in-Some-pool_at c =
-    domain_judged c.args.machine.now c.args.state.now c.requires c.args.d.0 c.in-Some.i c.domain_floor.result c.in-Some-pool_at.pool.now (sym c.home_of_domain.ensures ∙ c.in-Some.is) (sym c.pool_at.ensures ∙ ap option_copied c.in-Some-pool_at.is) c.domain_floor.ensures
+pub returns-in-None-pool_at-clause-floor : goal.returns-in-None-pool_at-clause-floor
+returns-in-None-pool_at-clause-floor c = domain_empty c.args.machine.now c.args.state.now c.requires.stands c.args.d c.in-Some.i 13 (sym c.home_of_domain.ensures ∙ c.in-Some.is) (sym c.pool_at.ensures ∙ ap option_copied c.in-None-pool_at.is)
+
+pub returns-in-Some-pool_at-clause-waits : goal.returns-in-Some-pool_at-clause-waits
+returns-in-Some-pool_at-clause-waits c =
+    domain_waits c.args.machine.now c.args.state.now c.requires.stands c.args.d c.in-Some.i c.in-Some-pool_at.pool.now c.args.waits.now c.judge_domain.new.waits (sym c.home_of_domain.ensures ∙ c.in-Some.is) (sym c.pool_at.ensures ∙ ap option_copied c.in-Some-pool_at.is)
+    c.judge_domain.ensures.waits c.requires.waits
+
+pub returns-in-Some-pool_at-clause-floor : goal.returns-in-Some-pool_at-clause-floor
+returns-in-Some-pool_at-clause-floor c =
+    domain_judged c.args.machine.now c.args.state.now c.requires.stands c.args.d c.in-Some.i c.judge_domain.result c.in-Some-pool_at.pool.now (sym c.home_of_domain.ensures ∙ c.in-Some.is) (sym c.pool_at.ensures ∙ ap option_copied c.in-Some-pool_at.is) c.judge_domain.ensures.floor

@@ -2,12 +2,12 @@ use Rattle.std.proofs.Common.{◌<◌, ◌∙◌, ℕ, Bool, List, length, sym, 
 use Rattle.std.specs.Prelude.{Some, slice_set}
 use Rattle.pool_records.proofs.FitsLemmas.{at_place-item, at_place-past}
 use Rattle.sched_model.specs.Pool.{after_in}
-use Rattle.sched_plain.specs.KeptFloors.{IsTouchedIf}
+use Rattle.sched_plain.specs.Outlooks.{IsSeenOverIf}
 use Rattle.sched_plain.specs.SettledPools.{AreSettled}
 use Rattle.sched_plain.proofs.Bridges.{stands-early, stands-machine, stands-state}
-use Rattle.sched_plain.proofs.KeptLaw.{kept_over_if}
 use Rattle.sched_plain.proofs.Performing.{pool-here, enabled-here, fits-here, fits-after, event-here, state-here}
 use Rattle.sched_plain.proofs.Ready.{may_decide}
+use Rattle.sched_plain.proofs.SeenLaw.{seen_over_if}
 use Rattle.sched_plain.proofs.Settling.{settled_here, settled_then}
 use Rattle.sched_plain.proofs.perform.perform_at.Goals as goal
 
@@ -84,10 +84,9 @@ perform_in-event-requires-clause-decides c =
     may_decide c.args.machine.now c.args.state.now c.requires.stands c.args.place c.in-Some.pool
     (at_place-item c.args.state.now.pools c.args.place c.item_mut.result.now (omega arith) c.item_mut.ensures.value ∙ c.in-Some.is)
 
-pub returns-clause-floors : goal.returns-clause-floors
-returns-clause-floors c =
+pub returns-clause-outlook : goal.returns-clause-outlook
+returns-clause-outlook c =
     let s = c.args.state.now in
-    let g = c.args.machine.now.config.granularity in
-    kept_over_if g s.now c.args.place s.pools c.in-Some.pool c.perform_in-event.new.pool c.args.floors.now c.perform_in-event.new.floors
-    (at_place-item s.pools c.args.place c.item_mut.result.now (omega arith) c.item_mut.ensures.value ∙ c.in-Some.is) c.requires.floors
-    (subst (λ (n : ℕ). IsTouchedIf g n c.in-Some.pool c.perform_in-event.new.pool c.args.floors.now c.perform_in-event.new.floors) c.requires.now c.perform_in-event.ensures.floors)
+    seen_over_if c.args.machine.now s c.args.place c.in-Some.pool c.perform_in-event.new.pool c.args.outlook.now c.perform_in-event.new.outlook
+    (at_place-item s.pools c.args.place c.item_mut.result.now (omega arith) c.item_mut.ensures.value ∙ c.in-Some.is) c.requires.outlook
+    (subst (λ (n : ℕ). IsSeenOverIf c.args.machine.now.config.granularity n c.in-Some.pool c.perform_in-event.new.pool c.args.outlook.now c.perform_in-event.new.outlook) c.requires.now c.perform_in-event.ensures.outlook)

@@ -15,7 +15,7 @@ invariant_of-self c =
       c.self.invariant.1,
       subst (λ (s : State). HasSpares m s.next_command c.self.inside.spares) same c.self.invariant.2,
       subst (λ (s : State). AreSettled s.now s.pools c.self.inside.settled) same c.self.invariant.3,
-      c.first_by_guess.ensures.kept,
+      c.first_by_guess.ensures.seen,
     )
 
 pub returns-clause-first : goal.returns-clause-first

@@ -2,7 +2,7 @@ use Rattle.std.proofs.Common.{◌≡◌, subst, sym}
 use Rattle.std.specs.Prelude.{Some, None}
 use Rattle.sched_model.specs.Machine.{first_enabled_action, next_in_horizon}
 use Rattle.sched_model.specs.Standing.{Standing}
-use Rattle.sched_plain.proofs.KeptLaw.{forgotten_kept}
+use Rattle.sched_plain.proofs.SeenLaw.{seen_then}
 use Rattle.sched_plain.proofs.Reaching.{stands-next}
 use Rattle.sched_plain.proofs.Settling.{none_settled}
 use Rattle.sched_plain.proofs.plain.Plain.pass_to.Goals as goal
@@ -17,5 +17,5 @@ invariant_of-self c =
       c.self.invariant.1,
       c.self.invariant.2,
       none_settled c.args.next.0 s.pools _ c.clear.ensures,
-      forgotten_kept m.config.granularity c.args.next.0 s.pools _ c.forget_all.ensures,
+      seen_then m s c.args.next.0 c.self.inside.outlook _ c.pass.ensures c.self.invariant.4,
     )

@@ -7,4 +7,4 @@ pub invariant_of-self : goal.invariant_of-self
 invariant_of-self c =
     let m = c.self.inside.machine in
     let s = c.self.inside.state in
-    (subst (Stands m) (sym c.perform.ensures.state) (stands-after m s c.args.action c.self.invariant.0 (rw (← c.self.view_is) at c.requires)), c.perform.ensures.tool, c.perform.ensures.spares, c.perform.ensures.settled, c.perform.ensures.floors)
+    (subst (Stands m) (sym c.perform.ensures.state) (stands-after m s c.args.action c.self.invariant.0 (rw (← c.self.view_is) at c.requires)), c.perform.ensures.tool, c.perform.ensures.spares, c.perform.ensures.settled, c.perform.ensures.outlook)
