@@ -161,6 +161,7 @@ impl Engine {
     }
 
     /// Does the event of an action that may come now, which is one of this pool.
+    #[inline(always)]
     pub(crate) fn perform_in_pool(&mut self, place: u8, action: Action) -> Event
         requires enabled { is_action_enabled self.old.machine self.old.state self.old.state.now
             action ≡ true }

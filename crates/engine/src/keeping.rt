@@ -69,5 +69,7 @@ pub(crate) fn read_one(
 {
     let first = first_of(&slots[place], t);
     firsts[place] = first;
-    nexts[place] = next_of(&slots[place], first);
+    if first.is_none() {
+        nexts[place] = next_of(&slots[place], first);
+    }
 }

@@ -1,8 +1,7 @@
 -- The earliest of some actions, one by one.
-use Rattle.std.proofs.Common.{◌≡◌, ◌≤◌, ◌<◌, ℕ, zero, suc, Bool, true, false, List, [], ◌∷◌, length, take, drop, get_or, ◌-◌, ap, sym, ◌∙◌, refl, arith, subst, cond}
+use Rattle.std.proofs.Common.{◌≡◌, ◌≤◌, ◌<◌, ℕ, zero, suc, Bool, true, false, List, ◌∷◌, length, drop, get_or, ◌-◌, ap, sym, ◌∙◌, refl, arith, subst, cond}
 use Rattle.std.specs.Prelude.{Option, Some, None, IfNone, nat_le}
 use Rattle.std.specs.Option.{ForSome}
-use Rattle.std.proofs.lemmas.List.{take_rest}
 use Rattle.std.proofs.Math.Seq.{drop-cons}
 use Rattle.std.proofs.lemmas.Bool.Decides.{nat_tests}
 use Rattle.sched_model.specs.declared.action.Action.{Action}
@@ -13,11 +12,6 @@ use Rattle.pool_laws.proofs.ActionOrder.{not_after_itself}
 use Rattle.composition_laws.specs.WholeFirst.{ComesEarliest, IsEarliest}
 use Rattle.composition_laws.proofs.WholeLemmas.{not_after_both}
 use Rattle.machine_parts.specs.Ranks.{IsSmall, rank_of, earlier_action}
-
--- a list that is not empty is its first and the rest
-pub first-and-rest : {X : Type 0} (xs : List X) (d : X) → 1 ≤ length xs → get_or xs 0 d ∷ take (length xs - 1) (drop 1 xs) ≡ xs
-first-and-rest [] d some = absurd (omega (arith, some))
-first-and-rest {X} (x ∷ xs) d some = ap (λ (rest : List X). x ∷ rest) (take_rest (x ∷ xs) 1)
 
 -- the items from a place on are the one before them and the rest
 pub one_before : {X : Type 0} (xs : List X) (i : ℕ) (d x : X) → 0 < i → i ≤ length xs → get_or xs (i - 1) d ≡ x → x ∷ drop i xs ≡ drop (i - 1) xs

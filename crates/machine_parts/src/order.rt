@@ -72,8 +72,8 @@ pub fn earliest(firsts: &[Option<Action>]) -> Option<Action>
     found
 }
 
-/// The place of the earliest of the actions, and that action. `None` where there are none.
-pub fn earliest_place(firsts: &[Option<Action>]) -> Option<(usize, Action)>
+/// The place of the action of the least rank, and that action. `None` where there are none.
+fn earliest_by_rank(firsts: &[Option<Action>]) -> Option<(usize, Action)>
     ensures none { IfNone result (IsEarliest firsts.now None) }
     ensures earliest { IfSome result (λ found. ComesEarliest firsts.now found.1) }
     ensures place { IfSome result (λ found. at_place firsts.now found.0 ≡ Some found.1) }
@@ -94,12 +94,28 @@ pub fn earliest_place(firsts: &[Option<Action>]) -> Option<(usize, Action)>
     found
 }
 
+/// The place of the earliest of the actions, and that action. `None` where there are none. Of one place alone no rank is made.
+pub fn earliest_place(firsts: &[Option<Action>]) -> Option<(usize, Action)>
+    ensures none { IfNone result (IsEarliest firsts.now None) }
+    ensures earliest { IfSome result (λ found. ComesEarliest firsts.now found.1) }
+    ensures place { IfSome result (λ found. at_place firsts.now found.0 ≡ Some found.1) }
+{
+    match firsts {
+        [None] => None,
+        [Some(action)] => Some((0, *action)),
+        _ => earliest_by_rank(firsts),
+    }
+}
+
 /// The least of the moments. `None` where there are none.
 pub fn soonest(moments: &[Option<Moment>]) -> Option<Moment>
     ensures { IsSoonest moments.now result }
 {
-    match moments {
-        [] => None,
-        [at, rest @ ..] => earlier(*at, soonest(rest)),
+    let mut least = None;
+    let mut i = moments.len();
+    while i > 0 {
+        i -= 1;
+        least = earlier(moments[i], least);
     }
+    least
 }

@@ -22,3 +22,4 @@ pub mod Telling
 pub mod ByActor
 pub mod Setting
 pub mod Spared
+pub mod NextTimers

@@ -225,6 +225,12 @@ module _ (g t : ℕ) (pool : Pool) where
   pub no_timer_due : AreOn pool → ((x : Timer) → has_moment_come t (armed_at pool.scheduler x) ≡ false) → IsFirstIn 7 9 g t pool None
   no_timer_due on none = no_timer (λ x. timer_may on x ∙ ap (λ (b : Bool). b && has_moment_come t (lowest_stall_end pool)) (none x))
 
+  -- nor does one while the lowest processor is stalled
+  pub no_timer_stalled : AreOn pool → has_moment_come t (lowest_stall_end pool) ≡ false → IsFirstIn 7 9 g t pool None
+  no_timer_stalled on stalled = no_timer (λ x.
+      let due = has_moment_come t (armed_at pool.scheduler x) in
+      timer_may on x ∙ ap (λ (b : Bool). due && b) stalled ∙ elim due as (λ (b : Bool). (b && false) ≡ false) [ true ↦ refl | false ↦ refl ])
+
   pub first_timer : AreOn pool → (x : Timer) → has_moment_come t (armed_at pool.scheduler x) ≡ true → has_moment_come t (lowest_stall_end pool) ≡ true
       → ((other : Timer) → has_moment_come t (armed_at pool.scheduler other) ≡ true → IsTimerNotAfter x other) → IsFirstIn 7 9 g t pool (Some (timer_action x))
   first_timer on (timer.Repl u) due up first = widened is_any g t pool 7 8 9 (Repl u) (omega arith) (one_at is_any g t pool 7 (Repl u) refl refl (timer_may on (timer.Repl u) ∙ and_from _ _ due up) (λ i n own may.

@@ -36,12 +36,9 @@ pub(crate) fn first_timer<P: Policy>(cores: &CoreState, policy: &P, t: Moment) -
         AreOn (pool_of guests cores.now (P.seen policy.now)) →
         IsFirstIn 7 9 g t.0 (pool_of guests cores.now (P.seen policy.now)) result }
 {
-    if !has_come(t, cores.lowest_end()) {
-        return None;
-    }
     match policy.timer_due(t) {
         None => None,
-        Some((at, timer)) => if at.0 <= t.0 {
+        Some((at, timer)) => if at.0 <= t.0 && has_come(t, cores.lowest_end()) {
             Some(action_of(timer))
         } else {
             None

@@ -14,6 +14,7 @@ mod events;
 mod params;
 pub mod pool;
 mod settling;
+mod timed;
 pub mod units;
 mod waking;
 

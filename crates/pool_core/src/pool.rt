@@ -29,6 +29,7 @@ use crate::due::{first_enabled, next_moment};
 use crate::events::act;
 use crate::params::{facts, part_of, set_params};
 use crate::settling::{Mark, settle};
+use crate::timed::Timed;
 use crate::units::set_units;
 use core_state::CoreState;
 use pool_records::cores::has_come;
@@ -51,7 +52,7 @@ use unit_state::{DomPart, Guests};
 pub struct PoolState<P: Policy> {
     guests: Guests,
     cores: CoreState,
-    policy: P,
+    policy: Timed<P>,
     mark: Mark,
     in_use: bool,
 }
@@ -64,14 +65,14 @@ impl<P: Policy> Model for PoolState<P> {
     ghost use Rattle.pool_core.specs.PoolState.{IsAtRest};
 
     ghost view = { λ a. record {
-      pool = pool_of a.guests a.cores (P.seen a.policy);
+      pool = pool_of a.guests a.cores a.policy;
       granularity = a.guests.granularity;
       spare = a.guests.spare;
       latest = a.mark.latest.0;
       in_use = a.in_use;
     } };
 
-    ghost invariant = { λ a. IsAtRest a.mark a.guests a.cores (P.seen a.policy) };
+    ghost invariant = { λ a. IsAtRest a.mark a.guests a.cores a.policy };
 }
 
 impl<P: Policy> PoolState<P> {
@@ -126,7 +127,7 @@ impl<P: Policy> PoolState<P> {
         Ok(PoolState {
             guests,
             cores,
-            policy,
+            policy: Timed::of(policy),
             mark: Mark::unsettled(Moment(0)),
             in_use: false,
         })
@@ -318,6 +319,7 @@ impl<P: Policy> PoolState<P> {
 
     /// The end of every call that changes the pool: the cores are looked at, at the greatest moment given. Where the pool is settled, but
     /// for the unit that came to wait, that unit alone is compared, and nothing where none came.
+    #[inline(always)]
     fn look(&mut self, settled: bool, came: Option<UnitId>)
         requires { settled ≡ true → IsSettled self.old.latest (pool_but came self.old.pool) }
         ensures { self.new ≡ seen_at self.old.latest (settled_pool self.old.latest self.old.pool)

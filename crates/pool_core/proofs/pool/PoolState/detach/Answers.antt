@@ -13,7 +13,7 @@ use Rattle.pool_core.proofs.pool.PoolState.detach.Goals as goal
 
 pub invariant_of-self : goal.invariant_of-self
 invariant_of-self g c = unsettled_at c.args.t c.unsettled-self-inside.ensures (
-    let s = g.P.Policy.seen c.self.inside.policy in
+    let s = c.self.inside.policy in
     let pool : Pool = pool_of c.self.inside.guests c.self.inside.cores s in
     let k = c.self.inside.guests.granularity in
     let now : IsNow (record { pool = pool; granularity = k; spare = c.self.inside.guests.spare; latest = c.self.inside.mark.latest.0; in_use = c.self.inside.in_use }) c.args.t.0 = subst (λ (x : Seen). IsNow x c.args.t.0) (sym c.self.view_is) c.requires.now in

@@ -17,7 +17,7 @@ use Rattle.pool_core.proofs.Comers.{some_units}
 
 pub invariant_of-self : goal.invariant_of-self
 invariant_of-self g c = unsettled_at c.args.t c.unsettled-self-inside.ensures (
-    let s = g.P.Policy.seen c.self.inside.policy in
+    let s = c.self.inside.policy in
     let guests : GuestsSeen = c.self.inside.guests in
     let pool : Pool = pool_of guests c.self.inside.cores s in
     let k = guests.granularity in
@@ -29,7 +29,7 @@ invariant_of-self g c = unsettled_at c.args.t c.unsettled-self-inside.ensures (
     let params : AreDomParams (records_kind s.scheduler.records) c.args.params.now = subst (λ (x : Seen). AreDomParams (records_kind x.pool.scheduler.records) c.args.params.now) (sym c.self.view_is) c.requires.params in
     let linked = c.self.invariant.kept.linked in
     let next : Pool = pool_with_domain k c.args.t.0 d domain c.args.params.now pool in
-    let is : pool_of c.join.new.guests c.self.inside.cores (g.P.Policy.seen c.join.new.policy) ≡ next = c.join.ensures.pool in
+    let is : pool_of c.join.new.guests c.self.inside.cores (c.join.new.policy) ≡ next = c.join.ensures.pool in
     let same : c.join.new.guests.granularity ≡ k = ap (λ (x : GuestsSeen). x.granularity) c.join.ensures.guests in
     let spare : c.join.new.guests.spare ≡ guests.spare - domain_unit_count c.args.part.granularity domain = ap (λ (x : GuestsSeen). x.spare) c.join.ensures.guests in
     let latest : c.join.new.guests.latest ≡ guests.latest = ap (λ (x : GuestsSeen). x.latest) c.join.ensures.guests in
@@ -42,7 +42,7 @@ invariant_of-self g c = unsettled_at c.args.t c.unsettled-self-inside.ensures (
         scheduler_latest = (let l = c.join.ensures.latest in omega (arith, l));
         early = now.early;
         spare = (let a = linked.spare in let b = c.join.ensures.spare in omega (arith, spare, a, b));
-        works = subst (λ (i : ℕ). AreWorks i c.self.inside.cores.works (pool_of c.join.new.guests c.self.inside.cores (g.P.Policy.seen c.join.new.policy))) (sym same) (subst (AreWorks k c.self.inside.cores.works) (sym is) works);
+        works = subst (λ (i : ℕ). AreWorks i c.self.inside.cores.works (pool_of c.join.new.guests c.self.inside.cores (c.join.new.policy))) (sym same) (subst (AreWorks k c.self.inside.cores.works) (sym is) works);
       };
-      pool = subst (λ (i : ℕ). Holds i c.args.t.0 (pool_of c.join.new.guests c.self.inside.cores (g.P.Policy.seen c.join.new.policy))) (sym same) (subst (Holds k c.args.t.0) (sym is) holds);
+      pool = subst (λ (i : ℕ). Holds i c.args.t.0 (pool_of c.join.new.guests c.self.inside.cores (c.join.new.policy))) (sym same) (subst (Holds k c.args.t.0) (sym is) holds);
     })

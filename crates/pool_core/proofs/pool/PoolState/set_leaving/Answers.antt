@@ -11,7 +11,7 @@ use Rattle.pool_core.proofs.pool.PoolState.set_leaving.Goals as goal
 
 pub invariant_of-self : goal.invariant_of-self
 invariant_of-self g c = unsettled c.self.inside.mark (
-    let s = g.P.Policy.seen c.self.inside.policy in
+    let s = c.self.inside.policy in
     let pool : Pool = pool_of c.self.inside.guests c.self.inside.cores s in
     let k = c.self.inside.guests.granularity in
     cores_kept c.self.inside.mark.latest.0 c.self.inside.mark.latest.0 c.self.inside.guests c.self.inside.cores c.set_leaving.new.self s c.self.inside.cores.works (change_at c.args.r.0 leaving_core c.self.inside.cores.resources)

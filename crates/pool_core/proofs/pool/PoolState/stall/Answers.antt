@@ -10,7 +10,7 @@ use Rattle.pool_core.proofs.pool.PoolState.stall.Goals as goal
 
 pub invariant_of-self : goal.invariant_of-self
 invariant_of-self g c = unsettled c.self.inside.mark (
-    let s = g.P.Policy.seen c.self.inside.policy in
+    let s = c.self.inside.policy in
     let pool : Pool = pool_of c.self.inside.guests c.self.inside.cores s in
     let k = c.self.inside.guests.granularity in
     let cores : CoresSeen = c.self.inside.cores in

@@ -3,7 +3,7 @@ use Rattle.std.specs.Prelude.{Option, Some, None}
 use Rattle.std.proofs.Math.Seq.{drop-length}
 use Rattle.sched_model.specs.declared.action.Action.{Action}
 use Rattle.machine_parts.proofs.Ranking.{IsLeastFrom, least_none, least_passes, least_stays, least_taken}
-use Rattle.machine_parts.proofs.order.earliest_place.Goals as goal
+use Rattle.machine_parts.proofs.order.earliest_by_rank.Goals as goal
 
 pub loop-i-init : goal.loop-i-init
 loop-i-init c = record { inside = omega arith; found = (λ i. ap (λ (rest : List (Option Action)). get_or rest i None) (drop-length c.args.firsts.now), refl) }

@@ -1,6 +1,6 @@
 use Rattle.std.proofs.Common.{◌≤◌, length}
 use Rattle.machine_parts.proofs.Ranking.{IsLeastFrom}
-use Rattle.machine_parts.proofs.order.earliest_place.Given as goal
+use Rattle.machine_parts.proofs.order.earliest_by_rank.Given as goal
 
 -- of those from the place on the earliest was found
 abbrev pub invariant-loop-i : goal.invariant-loop-i
