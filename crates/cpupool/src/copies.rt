@@ -5,8 +5,7 @@ ghost use Rattle.std.specs.Prelude.{◌≡◌, IfOk};
 use sched_base::{Name, NoMemory};
 use sched_model::command::{ArincEntry, ArincList, Command, Which};
 use sched_model::row::Row;
-use sched_model::short::{Short, same_items};
-use sched_model::work::{CommandLine, Commands, Stalls, Work};
+use sched_model::work::{CommandLine, Commands, Work};
 use std::alloc::Global;
 
 /// The pool or domain that is named, once more.
@@ -30,18 +29,29 @@ fn same_given(which: &Option<Which>) -> Option<Which>
 }
 
 /// The entries of a frame once more.
-fn same_entries(entries: &ArincList) -> ArincList
-    ensures { result ≡ entries.now }
+fn same_entries(alloc: Global, entries: &ArincList) -> Result<ArincList, NoMemory>
+    ensures { IfOk result (λ all. all ≡ entries.now) }
 {
-    let mut all = Short::new();
+    let mut all = Vec::new(alloc);
     for e in entries.as_slice() {
         all.push(ArincEntry {
             dom: same_which(&e.dom),
             unit: e.unit,
             run: e.run,
-        });
+        })?;
     }
-    all
+    Ok(Row::from_vec(all))
+}
+
+/// The list once more, where each item is copied.
+fn same_row<T: Copy + Drop>(alloc: Global, row: &Row<T>) -> Result<Row<T>, NoMemory>
+    ensures { IfOk result (λ all. all ≡ row.now) }
+{
+    let mut all = Vec::new(alloc);
+    for item in row.as_slice() {
+        all.push(*item)?;
+    }
+    Ok(Row::from_vec(all))
 }
 
 /// The name once more.
@@ -58,20 +68,24 @@ fn same_value<T: Copy>(value: &T) -> T
     *value
 }
 
-/// A command once more: of each form the fields, and what gives each field once more.
+/// A command once more: of each form the fields, and what gives each field once more; behind a semicolon the list, whose
+/// items take memory.
 macro_rules! same_form {
-    ($command:expr, $($form:ident($($field:ident: $same:ident),+)),+ $(,)?) => {
+    ($alloc:expr, $command:expr, $($form:ident($($field:ident: $same:ident),+ $(; $list:ident: $listed:ident)?)),+ $(,)?) => {
         match $command {
-            $(Command::$form { $($field),+ } => Command::$form { $($field: $same($field)),+ },)+
+            $(Command::$form { $($field),+ $(, $list)? } => Command::$form {
+                $($field: $same($field)),+ $(, $list: $listed($alloc, $list)?)?
+            },)+
         }
     };
 }
 
 /// The command once more.
-fn same_command(command: &Command) -> Command
-    ensures { result ≡ command.now }
+fn same_command(alloc: Global, command: &Command) -> Result<Command, NoMemory>
+    ensures { IfOk result (λ all. all ≡ command.now) }
 {
-    same_form!(
+    Ok(same_form!(
+        alloc,
         command,
         PoolList(pool: same_given),
         PoolCreate(name: same_name, sched: same_value),
@@ -85,23 +99,23 @@ fn same_command(command: &Command) -> Command
         RtdsDom(dom: same_which, vcpu: same_value, period: same_value, budget: same_value, extra: same_value),
         Pause(dom: same_which),
         Unpause(dom: same_which),
-        ArincSet(pool: same_which, major: same_value, entries: same_entries),
-        Pin(dom: same_which, vcpu: same_value, cpus: same_items),
-    )
+        ArincSet(pool: same_which, major: same_value; entries: same_entries),
+        Pin(dom: same_which, vcpu: same_value; cpus: same_row),
+    ))
 }
 
 /// The line with a command once more.
-fn same_line(line: &CommandLine) -> CommandLine
-    ensures { result ≡ line.now }
+fn same_line(alloc: Global, line: &CommandLine) -> Result<CommandLine, NoMemory>
+    ensures { IfOk result (λ all. all ≡ line.now) }
 {
     let command = match &line.command {
-        Ok(c) => Ok(same_command(c)),
+        Ok(c) => Ok(same_command(alloc, c)?),
         Err(fault) => Err(*fault),
     };
-    CommandLine {
+    Ok(CommandLine {
         at: line.at,
         command,
-    }
+    })
 }
 
 /// The lines with commands once more.
@@ -110,18 +124,7 @@ fn same_commands(alloc: Global, lines: &Commands) -> Result<Commands, NoMemory>
 {
     let mut all = Vec::new(alloc);
     for line in lines.as_slice() {
-        all.push(same_line(line))?;
-    }
-    Ok(Row::from_vec(all))
-}
-
-/// The lines with stalls once more.
-fn same_stalls(alloc: Global, lines: &Stalls) -> Result<Stalls, NoMemory>
-    ensures { IfOk result (λ all. all ≡ lines.now) }
-{
-    let mut all = Vec::new(alloc);
-    for line in lines.as_slice() {
-        all.push(*line)?;
+        all.push(same_line(alloc, line)?)?;
     }
     Ok(Row::from_vec(all))
 }
@@ -131,7 +134,7 @@ pub(crate) fn same_work(alloc: Global, work: &Work) -> Result<Work, NoMemory>
     ensures { IfOk result (λ all. all ≡ work.now) }
 {
     Ok(Work {
-        stalls: same_stalls(alloc, &work.stalls)?,
+        stalls: same_row(alloc, &work.stalls)?,
         commands: same_commands(alloc, &work.commands)?,
     })
 }

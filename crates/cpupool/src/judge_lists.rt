@@ -167,7 +167,8 @@ impl ToolState {
         major: u64,
         entries: &ArincList,
     ) -> Result<Plan, Refusal>
-        requires { All IsCheckedEntry entries.now }
+        requires few { length entries.now ≤ 64 }
+        requires checked { All IsCheckedEntry entries.now }
         ensures { result ≡ seen_arinc_set self.now which.now major entries.now }
     {
         let Some(named) = self.named_pool(which) else {

@@ -1,7 +1,7 @@
 //! The commands that steer the pools and their schedulers.
 
 use crate::config::SchedKind;
-use crate::short::Short;
+use crate::row::Row;
 use sched_base::Name;
 
 /// A pool or a domain, as a command names it.
@@ -30,11 +30,11 @@ pub struct ArincEntry {
     pub run: u64,
 }
 
-/// The entries of the frame that a command sets, in order: 1 to 64.
-pub type ArincList = Short<ArincEntry, 64>;
+/// The entries of the frame that a command sets, in order: 1 to 64. They lie on the heap, so that a command takes little room.
+pub type ArincList = Row<ArincEntry>;
 
-/// The processors that a command names, as ranges from a first to a last. An empty list stands for all.
-pub type CpuList = Short<(u64, u64), 64>;
+/// The processors that a command names, as ranges from a first to a last: at most 64, on the heap. An empty list stands for all.
+pub type CpuList = Row<(u64, u64)>;
 
 /// A command that has a reading. Periods and budgets are in microseconds.
 #[derive(Drop)]

@@ -47,13 +47,6 @@ impl<T, const N: usize> Short<T, N> {
         self.items.is_empty()
     }
 
-    /// Whether no further item has room.
-    pub fn is_full(&self) -> bool
-        ensures { result ≡ (length self.now == N) }
-    {
-        self.items.is_full()
-    }
-
     /// The item at this place, for writing, where there is one.
     pub fn get_mut(&mut self, place: usize) -> Option<&mut T>
         ensures* writes_back { sem 𝓛 (short_lends_get T.row N.row self.entry place result) }

@@ -49,9 +49,9 @@ pub fn read_work(alloc: Global, bytes: &[u8], config: &Config) -> Result<Work, W
     let mut rest = bytes;
     loop {
         match cut(rest, b'\n') {
-            (line, None) => return reading.finish(config, line),
+            (line, None) => return reading.finish(alloc, config, line),
             (line, Some(behind)) => {
-                reading.take(config, without_return(line))?;
+                reading.take(alloc, config, without_return(line))?;
                 rest = behind;
             }
         }

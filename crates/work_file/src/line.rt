@@ -5,10 +5,11 @@ ghost use Rattle.xl_words.specs.Parts.{words};
 ghost use Rattle.work_file.specs.Line.{is_silent_line, number_within, stall_of, command_of, said_at, line_of, IsCheckedLine};
 
 use crate::fault::WorkCause;
-use sched_base::{Moment, ProcId, Span};
+use sched_base::{Moment, NoMemory, ProcId, Span};
 use sched_model::config::Config;
 use sched_model::machine::MOST_SPAN;
 use sched_model::work::{CommandLine, StallLine};
+use std::alloc::Global;
 use xl_words::{next_word, read_command, read_number};
 
 /// What one line says.
@@ -67,49 +68,66 @@ fn stall_behind(config: &Config, at: u64, rest: &[u8]) -> Result<Line, WorkCause
 }
 
 /// A command, from the words behind `xl`.
-fn command_behind(config: &Config, at: u64, rest: &[u8]) -> Result<Line, WorkCause>
+fn command_behind(
+    alloc: Global,
+    config: &Config,
+    at: u64,
+    rest: &[u8],
+) -> Result<Result<Line, WorkCause>, NoMemory>
     requires { at ≤ 10 ^ 13 }
-    ensures value { result ≡ command_of at (words rest.now) }
-    ensures checked { IfOk result (IsCheckedLine config.now) }
+    ensures value { IfOk result (λ said. said ≡ command_of at (words rest.now)) }
+    ensures checked { IfOk result (λ said. IfOk said (IsCheckedLine config.now)) }
 {
     if next_word(rest).is_none() {
-        return Err(WorkCause::Word);
+        return Ok(Err(WorkCause::Word));
     }
-    Ok(Line::Command(CommandLine {
+    let command = read_command(alloc, rest)?;
+    Ok(Ok(Line::Command(CommandLine {
         at: Moment(at),
-        command: read_command(rest),
-    }))
+        command,
+    })))
 }
 
 /// What stands behind the moment.
-fn said_behind(config: &Config, at: u64, rest: &[u8]) -> Result<Line, WorkCause>
+fn said_behind(
+    alloc: Global,
+    config: &Config,
+    at: u64,
+    rest: &[u8],
+) -> Result<Result<Line, WorkCause>, NoMemory>
     requires { at ≤ 10 ^ 13 }
-    ensures value { result ≡ said_at config.now at (words rest.now) }
-    ensures checked { IfOk result (IsCheckedLine config.now) }
+    ensures value { IfOk result (λ said. said ≡ said_at config.now at (words rest.now)) }
+    ensures checked { IfOk result (λ said. IfOk said (IsCheckedLine config.now)) }
 {
     let Some((kind, rest)) = next_word(rest) else {
-        return Err(WorkCause::Word);
+        return Ok(Err(WorkCause::Word));
     };
     if kind == b"stall".as_slice() {
-        stall_behind(config, at, rest)
+        Ok(stall_behind(config, at, rest))
     } else if kind == b"xl".as_slice() {
-        command_behind(config, at, rest)
+        command_behind(alloc, config, at, rest)
     } else {
-        Err(WorkCause::Word)
+        Ok(Err(WorkCause::Word))
     }
 }
 
-/// What the line says, or the first of its faults.
-pub(crate) fn read_line(config: &Config, line: &[u8]) -> Result<Line, WorkCause>
-    ensures value { result ≡ line_of config.now line.now }
-    ensures checked { IfOk result (IsCheckedLine config.now) }
+/// What the line says, or the first of its faults. The list of a command takes memory.
+pub(crate) fn read_line(
+    alloc: Global,
+    config: &Config,
+    line: &[u8],
+) -> Result<Result<Line, WorkCause>, NoMemory>
+    ensures value { IfOk result (λ said. said ≡ line_of config.now line.now) }
+    ensures checked { IfOk result (λ said. IfOk said (IsCheckedLine config.now)) }
 {
     if is_silent(line) {
-        return Ok(Line::Silent);
+        return Ok(Ok(Line::Silent));
     }
     let Some((word, rest)) = next_word(line) else {
-        return Err(WorkCause::Number);
+        return Ok(Err(WorkCause::Number));
     };
-    let at = number_in(0, MOST_SPAN, word)?;
-    said_behind(config, at, rest)
+    match number_in(0, MOST_SPAN, word) {
+        Ok(at) => said_behind(alloc, config, at, rest),
+        Err(cause) => Ok(Err(cause)),
+    }
 }

@@ -1,7 +1,7 @@
 //! Texts that are made from a number: a domain file and a work file of any size.
 
 ghost use Rattle.std.specs.Prelude.{◌≡◌, ◌+◌, ◌-◌, ◌<◌, ◌≤◌, ◌^◌, ◌++◌, Bool, length, IfOk, OnOk};
-ghost use Rattle.work_file.specs.Load.{after_draw, drawn_value, script_text, after_script, guests_text, after_guests, is_rtds_home, params_text, name_text, home_text, domain_text, after_domain, domains_text, after_domains, next_number_text, numbers_text, top_text, second_pool_text, pools_text, stall_text, after_stalls, stalls_text, load_domains, load_work};
+ghost use Rattle.work_file.specs.Load.{after_draw, drawn_value, script_text, after_script, guests_text, after_guests, is_rtds_home, params_text, name_text, home_text, domains_text, after_domains, next_number_text, numbers_text, top_text, second_pool_text, pools_text, stall_text, after_stalls, stalls_text, load_domains, load_work};
 ghost use Rattle.sched_model.specs.CheckedMachine.{IsWithin};
 
 use sched_base::NoMemory;
@@ -122,30 +122,8 @@ fn put_home(out: &mut Vec<u8>, is_rt: bool) -> Result<(), NoMemory>
     }
 }
 
-/// Appends the table of a domain.
-#[tactic(auto, unfolding(crate::specs::Load::domain_text))]
-fn put_domain(
-    alloc: Global,
-    out: &mut Vec<u8>,
-    draws: &mut Draws,
-    processors: u8,
-    domain: u8,
-) -> Result<(), NoMemory>
-    requires { draws.old.state < 2 ^ 31 }
-    ensures text { OnOk result (out.new.items ≡ out.old.items
-        ++ domain_text processors domain draws.old.state) }
-    ensures state { OnOk result (draws.new.state ≡ after_domain draws.old.state) }
-    ensures small { draws.new.state < 2 ^ 31 }
-{
-    let in_rt = is_rt(processors, domain);
-    put_name(alloc, out, domain)?;
-    put_home(out, in_rt)?;
-    put_params(alloc, out, draws, in_rt)?;
-    put_guests(alloc, out, draws)
-}
-
 /// Appends the tables of the domains.
-#[tactic(auto, unfolding(crate::specs::Load::domains_text, crate::specs::Load::after_domains))]
+#[tactic(auto, unfolding(crate::specs::Load::domains_text, crate::specs::Load::domain_text, crate::specs::Load::after_domains))]
 fn put_domains(
     alloc: Global,
     out: &mut Vec<u8>,
@@ -160,7 +138,11 @@ fn put_domains(
     ensures small { draws.new.state < 2 ^ 31 }
 {
     for i in 0..domains {
-        put_domain(alloc, out, draws, processors, i)?;
+        let in_rt = is_rt(processors, i);
+        put_name(alloc, out, i)?;
+        put_home(out, in_rt)?;
+        put_params(alloc, out, draws, in_rt)?;
+        put_guests(alloc, out, draws)?;
     }
     Ok(())
 }

@@ -11,6 +11,7 @@ use crate::line::{Line, read_line};
 use sched_base::Moment;
 use sched_model::config::Config;
 use sched_model::work::{CommandLine, Commands, StallLine, Stalls, Work};
+use std::alloc::Global;
 
 /// The most lines of a kind.
 const MOST_LINES: usize = 4096;
@@ -99,7 +100,12 @@ impl Reading {
     }
 
     /// Reads one line more.
-    pub(crate) fn take(&mut self, config: &Config, line: &[u8]) -> Result<(), WorkFault>
+    pub(crate) fn take(
+        &mut self,
+        alloc: Global,
+        config: &Config,
+        line: &[u8],
+    ) -> Result<(), WorkFault>
         requires { IsCheckedReading config.now self.old }
         ensures ok { OnOk result ((lines : List (List ℕ)) →
             work_from config.now self.old (line.now ∷ lines)
@@ -108,7 +114,10 @@ impl Reading {
         ensures fault { IfErr result (λ fault. (lines : List (List ℕ)) →
             IsFault fault (work_from config.now self.old (line.now ∷ lines))) }
     {
-        match read_line(config, line) {
+        let Ok(said) = read_line(alloc, config, line) else {
+            return Err(WorkFault::NoMemory);
+        };
+        match said {
             Err(cause) => Err(WorkFault::Bad {
                 line: self.line,
                 cause,
@@ -123,14 +132,19 @@ impl Reading {
     }
 
     /// Reads the last line, which no newline ends, and gives the work.
-    pub(crate) fn finish(mut self, config: &Config, line: &[u8]) -> Result<Work, WorkFault>
+    pub(crate) fn finish(
+        mut self,
+        alloc: Global,
+        config: &Config,
+        line: &[u8],
+    ) -> Result<Work, WorkFault>
         requires { IsCheckedReading config.now self }
         ensures work { IfOk result (λ work. work_from config.now self (line.now ∷ []) ≡ Ok work) }
         ensures fault { IfErr result (λ fault.
             IsFault fault (work_from config.now self (line.now ∷ []))) }
         ensures checked { IfOk result (IsCheckedWork config.now) }
     {
-        match self.take(config, line) {
+        match self.take(alloc, config, line) {
             Err(fault) => Err(fault),
             Ok(()) => {
                 let Reading {

@@ -10,7 +10,19 @@ use crate::lists::{read_cpus, read_entries};
 use crate::options::{Credit2OfDomain, Credit2OfPool, NewPool, RtdsOfDomain, read_options};
 use crate::parts::next_word;
 use crate::values::read_vcpu;
+use sched_base::NoMemory;
 use sched_model::command::{Command, Syntax};
+use std::alloc::Global;
+
+/// What stands at a place, or the answer that nothing that may stand there does.
+macro_rules! found {
+    ($read:expr) => {
+        match $read {
+            Ok(found) => found,
+            Err(fault) => return Ok(Err(fault)),
+        }
+    };
+}
 
 /// `cpupool-list [POOL]`
 #[tactic(auto, unfolding(crate::specs::Grammar::pool_list))]
@@ -221,45 +233,45 @@ pub(crate) fn sched_rtds(rest: &[u8]) -> Result<Command, Syntax>
 
 /// `arinc-set POOL MAJOR DOM:UNIT:RUN,..`
 #[tactic(auto, unfolding(crate::specs::Grammar::arinc_set))]
-pub(crate) fn arinc_set(rest: &[u8]) -> Result<Command, Syntax>
-    ensures value { result ≡ grammar.arinc_set (words rest.now) }
-    ensures checked { IfOk result IsCheckedCommand }
+pub(crate) fn arinc_set(alloc: Global, rest: &[u8]) -> Result<Result<Command, Syntax>, NoMemory>
+    ensures value { IfOk result (λ answer. answer ≡ grammar.arinc_set (words rest.now)) }
+    ensures checked { IfOk result (λ answer. IfOk answer IsCheckedCommand) }
 {
-    let (pool, rest) = which_at(1, rest)?;
-    let (major, rest) = number_at(2, rest)?;
+    let (pool, rest) = found!(which_at(1, rest));
+    let (major, rest) = found!(number_at(2, rest));
     let Some((word, rest)) = next_word(rest) else {
-        return Err(Syntax { place: 3 });
+        return Ok(Err(Syntax { place: 3 }));
     };
-    let Some(entries) = read_entries(word) else {
-        return Err(Syntax { place: 3 });
+    let Some(entries) = read_entries(alloc, word)? else {
+        return Ok(Err(Syntax { place: 3 }));
     };
-    end_at(4, rest)?;
-    Ok(Command::ArincSet {
+    found!(end_at(4, rest));
+    Ok(Ok(Command::ArincSet {
         pool,
         major,
         entries,
-    })
+    }))
 }
 
 /// `vcpu-pin DOM VCPU CPUS`
 #[tactic(auto, unfolding(crate::specs::Grammar::vcpu_pin))]
-pub(crate) fn vcpu_pin(rest: &[u8]) -> Result<Command, Syntax>
-    ensures value { result ≡ grammar.vcpu_pin (words rest.now) }
-    ensures checked { IfOk result IsCheckedCommand }
+pub(crate) fn vcpu_pin(alloc: Global, rest: &[u8]) -> Result<Result<Command, Syntax>, NoMemory>
+    ensures value { IfOk result (λ answer. answer ≡ grammar.vcpu_pin (words rest.now)) }
+    ensures checked { IfOk result (λ answer. IfOk answer IsCheckedCommand) }
 {
-    let (dom, rest) = which_at(1, rest)?;
+    let (dom, rest) = found!(which_at(1, rest));
     let Some((word, rest)) = next_word(rest) else {
-        return Err(Syntax { place: 2 });
+        return Ok(Err(Syntax { place: 2 }));
     };
     let Some(vcpu) = read_vcpu(word) else {
-        return Err(Syntax { place: 2 });
+        return Ok(Err(Syntax { place: 2 }));
     };
     let Some((word, rest)) = next_word(rest) else {
-        return Err(Syntax { place: 3 });
+        return Ok(Err(Syntax { place: 3 }));
     };
-    let Some(cpus) = read_cpus(word) else {
-        return Err(Syntax { place: 3 });
+    let Some(cpus) = read_cpus(alloc, word)? else {
+        return Ok(Err(Syntax { place: 3 }));
     };
-    end_at(4, rest)?;
-    Ok(Command::Pin { dom, vcpu, cpus })
+    found!(end_at(4, rest));
+    Ok(Ok(Command::Pin { dom, vcpu, cpus }))
 }

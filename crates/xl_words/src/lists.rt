@@ -1,6 +1,6 @@
 //! The words that are lists: the entries of a frame, and the processors of a pin.
 
-ghost use Rattle.std.specs.Prelude.{◌≡◌, ◌≤◌, ◌∷◌, length, IfSome};
+ghost use Rattle.std.specs.Prelude.{◌≡◌, ◌≤◌, ◌∷◌, length, IfSome, IfOk};
 ghost use Rattle.std.specs.List.{All};
 ghost use Rattle.sched_model.specs.CheckedMachine.{IsCheckedEntry, IsCheckedRange};
 ghost use Rattle.xl_words.specs.Parts.{parts};
@@ -8,7 +8,12 @@ ghost use Rattle.xl_words.specs.Values.{entry_of, range_of, range_from, entries_
 
 use crate::parts::cut;
 use crate::values::{read_number, read_which};
+use sched_base::NoMemory;
 use sched_model::command::{ArincEntry, ArincList, CpuList};
+use std::alloc::Global;
+
+/// The most entries or ranges of a list.
+const MOST_ITEMS: usize = 64;
 
 /// An entry of a frame: a domain, a unit and a run, joined by colons.
 #[tactic(auto, using(crate::proofs::ListLemmas::long_entry))]
@@ -60,54 +65,63 @@ fn read_ends(low: &[u8], more: &[u8]) -> Option<(u64, u64)>
 }
 
 /// The entries of a frame: 1 to 64, joined by commas.
-pub(crate) fn read_entries(word: &[u8]) -> Option<ArincList>
-    ensures value { result ≡ entries_of word.now }
-    ensures some { IfSome result (λ entries. 1 ≤ length entries) }
-    ensures checked { IfSome result (All IsCheckedEntry) }
+pub(crate) fn read_entries(alloc: Global, word: &[u8]) -> Result<Option<ArincList>, NoMemory>
+    ensures value { IfOk result (λ answer. answer ≡ entries_of word.now) }
+    ensures count { IfOk result (λ answer. IfSome answer (λ entries. (1 ≤ length entries)
+        × (length entries ≤ 64))) }
+    ensures checked { IfOk result (λ answer. IfSome answer (All IsCheckedEntry)) }
 {
-    let mut entries = ArincList::new();
+    let mut entries = ArincList::from_vec(Vec::new(alloc));
     let mut rest = word;
     loop {
         let (item, more) = cut(rest, b',');
-        if entries.is_full() {
-            return None;
+        if entries.len() == MOST_ITEMS {
+            return Ok(None);
         }
-        entries.push(read_entry(item)?);
+        let Some(entry) = read_entry(item) else {
+            return Ok(None);
+        };
+        entries.push(entry)?;
         match more {
-            None => return Some(entries),
+            None => return Ok(Some(entries)),
             Some(behind) => rest = behind,
         }
     }
 }
 
 /// The ranges of processors: 1 to 64, joined by commas.
-fn read_ranges(word: &[u8]) -> Option<CpuList>
-    ensures value { result ≡ list_of range_of word.now }
-    ensures checked { IfSome result (All IsCheckedRange) }
+fn read_ranges(alloc: Global, word: &[u8]) -> Result<Option<CpuList>, NoMemory>
+    ensures value { IfOk result (λ answer. answer ≡ list_of range_of word.now) }
+    ensures count { IfOk result (λ answer. IfSome answer (λ ranges. length ranges ≤ 64)) }
+    ensures checked { IfOk result (λ answer. IfSome answer (All IsCheckedRange)) }
 {
-    let mut ranges = CpuList::new();
+    let mut ranges = CpuList::from_vec(Vec::new(alloc));
     let mut rest = word;
     loop {
         let (item, more) = cut(rest, b',');
-        if ranges.is_full() {
-            return None;
+        if ranges.len() == MOST_ITEMS {
+            return Ok(None);
         }
-        ranges.push(read_range(item)?);
+        let Some(range) = read_range(item) else {
+            return Ok(None);
+        };
+        ranges.push(range)?;
         match more {
-            None => return Some(ranges),
+            None => return Ok(Some(ranges)),
             Some(behind) => rest = behind,
         }
     }
 }
 
 /// The processors of a pin: ranges, or none where it is `all` of them.
-pub(crate) fn read_cpus(word: &[u8]) -> Option<CpuList>
-    ensures value { result ≡ cpus_of word.now }
-    ensures checked { IfSome result (All IsCheckedRange) }
+pub(crate) fn read_cpus(alloc: Global, word: &[u8]) -> Result<Option<CpuList>, NoMemory>
+    ensures value { IfOk result (λ answer. answer ≡ cpus_of word.now) }
+    ensures count { IfOk result (λ answer. IfSome answer (λ ranges. length ranges ≤ 64)) }
+    ensures checked { IfOk result (λ answer. IfSome answer (All IsCheckedRange)) }
 {
     if word == b"all".as_slice() {
-        Some(CpuList::new())
+        Ok(Some(CpuList::from_vec(Vec::new(alloc))))
     } else {
-        read_ranges(word)
+        read_ranges(alloc, word)
     }
 }
