@@ -1,11 +1,10 @@
 -- What callers see of ARINC 653, with or without its memory.
 use Rattle.std.specs.Prelude.{ℕ, Option, Some, None}
-use Rattle.sched_base.specs.declared.UnitId.{UnitId}
 use Rattle.sched_model.specs.declared.state.ArincRecords.{ArincRecords}
 use Rattle.sched_model.specs.declared.state.Records.TheVariants.{ArincPool}
 use Rattle.scheduler_records.specs.Parts.{scheduler_of}
 use Rattle.sched_ops.specs.Seen.{Seen}
-use Rattle.pool_units.specs.Units.{Units, vacant_units, after_dequeue}
+use Rattle.pool_units.specs.Units.{Units, vacant_units}
 
 -- the units that are kept, or none and no place for one at first
 abbrev pub units_by : Option Units → Units
@@ -20,8 +19,3 @@ seen_by units records latest =
       spare = (units_by units).spare;
       latest = latest;
     }
-
--- the units, where the one that was chosen waits no more
-abbrev pub without_chosen : Option UnitId → Units → Units
-without_chosen None units = units
-without_chosen (Some u) units = after_dequeue u units

@@ -33,7 +33,8 @@ ghost use Rattle.sched_ops.specs.Conditions.{ArePoolParams};
 ghost use Rattle.sched_ops.specs.Affinity.{is_member_among};
 ghost use Rattle.sched_ops.specs.Seen.{Tells};
 ghost use Rattle.sched_model.specs.Places.{has_listed_unit};
-ghost use Rattle.arinc_frame.specs.ArincView.{units_by, without_chosen};
+ghost use Rattle.pool_units.specs.Units.{without_chosen};
+ghost use Rattle.arinc_frame.specs.ArincView.{units_by};
 ghost use Rattle.arinc_frame.specs.Frames.{IsPresent};
 ghost use Rattle.arinc_frame.specs.WaitingUnits.{eligible_window_unit, chosen_window_unit, allowed_unit, queued_window_unit, is_another_unit};
 

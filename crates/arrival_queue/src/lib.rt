@@ -15,7 +15,7 @@ use sched_base::{Cores, NoMemory, ResId, Steps, UnitId};
 use std::alloc::Global;
 use std::marker::Model;
 use std::sync::ledger::Ledger;
-use tables::{Tables, append, arrival_of, arrive, find, make_tables, put, take};
+use tables::{Tables, arrival_of, arrive, enter, find, make_tables, put, take};
 use unit_places::Masks;
 use unit_ring::Ring;
 pub use walks::{Allowed, has_domain};
@@ -76,7 +76,8 @@ impl ArrivalQueue {
         ensures cost { steps.new ≡ steps.old + 1 }
     {
         let arrival = arrive(&mut self.tables);
-        append(&mut self.tables, u, key, arrival, steps);
+        let n = self.tables.ring.push_back(1, u, steps);
+        enter(&mut self.tables, n, u, key, arrival);
     }
 
     /// Takes a unit of either list away. False where it is in neither, and then nothing changes.

@@ -3,7 +3,7 @@
 ghost use Rattle.std.specs.Prelude.{◌≡◌, ℕ, ◌+◌, ◌<◌, ◌≤◌, false, true, length, map, slice_set, slice_index_or, Some, None, IfOk};
 ghost use Rattle.std.specs.Option.{ForSome};
 ghost use Rattle.unit_places.specs.Places.{number_of, has_unit_place, unit_index};
-ghost use Rattle.unit_ring.specs.Lists.{item, no_unit, has_node, is_live, lists_without as ring_without, after_give, after_take, after_append, empty_lists, room_of};
+ghost use Rattle.unit_ring.specs.Lists.{item, no_unit, has_node, is_live, lists_without as ring_without, after_give, empty_lists, room_of};
 ghost use Rattle.arrival_queue.specs.Tables.{all_items, arrival_at, count_below, comes_before, first_node, has_number, node_of, PassesOn, put_ring, ring_with, Tabled};
 ghost use Rattle.arrival_queue.specs.WholeTables.{IsTables, seen_queues};
 
@@ -117,7 +117,7 @@ pub fn place_of<L: Ledger>(
 }
 
 /// Writes what the tables say of a node that has come into the ring.
-fn enter(tables: &mut Tables, node: Node, u: UnitId, key: Key, arrival: u64)
+pub fn enter(tables: &mut Tables, node: Node, u: UnitId, key: Key, arrival: u64)
     requires keys { node.0 < length tables.old.keys.items }
     requires arrivals { node.0 < length tables.old.arrivals.items }
     requires places { length tables.old.nodes.items ≡ 2048 }
@@ -180,35 +180,6 @@ pub fn put<L: Ledger>(
 {
     let at = place_of(tables, key, arrival, steps);
     let n = put_at(&mut tables.ring, at, u, steps);
-    enter(tables, n, u, key, arrival);
-    n
-}
-
-/// Puts a unit that is not here at the end of list 1.
-pub fn append<L: Ledger>(
-    tables: &mut Tables,
-    u: UnitId,
-    key: Key,
-    arrival: u64,
-    steps: &mut Steps<L>,
-) -> Node
-    requires tables { IsTables tables.old }
-    requires place { has_unit_place u ≡ true }
-    requires absent { has_number (number_of u) (all_items tables.old.ring) ≡ false }
-    requires room { 0 < tables.old.ring.spare }
-    requires arrived { arrival < tables.old.next }
-    ensures tables { IsTables tables.new }
-    ensures fresh { has_node result.0 (all_items tables.old.ring) ≡ false }
-    ensures number { result.0 < length tables.old.arrivals.items }
-    ensures ring { tables.new.ring ≡ after_take
-        (after_append tables.old.ring 1 (item result.0 u)) }
-    ensures keys { tables.new.keys.items ≡ slice_set tables.old.keys.items result.0 key }
-    ensures arrivals { tables.new.arrivals.items
-        ≡ slice_set tables.old.arrivals.items result.0 arrival }
-    ensures next { tables.new.next ≡ tables.old.next }
-    ensures cost { steps.new ≡ steps.old + 1 }
-{
-    let n = tables.ring.push_back(1, u, steps);
     enter(tables, n, u, key, arrival);
     n
 }

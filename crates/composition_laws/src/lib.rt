@@ -2,7 +2,6 @@
 //! action comes first, and when the next one may come. Each function does nothing, and its contract is the law.
 #![tactic(auto)]
 
-pub mod moves;
 pub mod names;
 pub mod order;
 pub mod steps;

@@ -16,6 +16,7 @@ ghost use Rattle.sched_model.specs.CheckedMachine.{IsChecked};
 ghost use Rattle.sched_model.specs.Runs.{IsRun};
 ghost use Rattle.sched_laws.specs.StateLaws.{state_after};
 ghost use Rattle.composition_laws.specs.ListedNames.{ListsNames};
+ghost use Rattle.composition_laws.specs.Moves.{HasOneMove};
 ghost use Rattle.composition_laws.specs.Plans.{Finds};
 ghost use Rattle.composition_laws.specs.ToolSteps.{ToolSteps};
 
@@ -31,6 +32,13 @@ pub fn law_tool_steps()
 pub fn law_listed()
     ensures { (m : Machine) → IsChecked m → (entries : List Entry) → IsRun m entries → (t : ℕ) →
         ListsNames m (state_after m entries) t }
+{}
+
+/// In every state of a run at most one thing is on its way: a core that leaves its pool, a domain that moves to another, or a core
+/// of no pool that is to join one. A move that may come is that thing's own, and after it nothing is on its way.
+pub fn law_one_move()
+    ensures { (m : Machine) → IsChecked m → (entries : List Entry) → IsRun m entries →
+        HasOneMove m (state_after m entries) }
 {}
 
 /// The plan of an accepted command finds in the state what its pools are asked for, in every state of a checked machine. Pools and

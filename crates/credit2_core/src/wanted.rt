@@ -24,27 +24,6 @@ use sched_model::units::is_there;
 use sched_ops::wanted_where;
 use scheduler_records::credit2_running::credit_of;
 
-/// The cores that are to decide anew at t, of those at these places, each asked by itself.
-fn wanted_by_core(
-    state: &Credit2State,
-    ready: &Ready,
-    cores: &[Option<Resource>],
-    t: Moment,
-    home: Cores,
-) -> Cores
-    requires sound { IsSound state.now }
-    requires now { IsNow (seen_in state.now) t.0 }
-    requires ready { IsReadyIn state.now ready.now }
-    requires few { length cores.now ≤ 64 }
-    requires asks { EachPlace (MayAsk t.0 (scheduler_in state.now)) cores.now }
-    ensures { (r : ℕ) → has_core_bit result.0 r
-        ≡ is_core_wanted t.0 home.0 (scheduler_in state.now) r (at_place cores.now r) }
-{
-    wanted_where(cores, |core, cur, since| {
-        better_waits(state, ready, cur, since, t, core, home)
-    })
-}
-
 /// What each core's own unit is compared with at a moment, where none was pinned: the greatest weight, the moment before which a unit
 /// started that has run for the rate limit, and the credit of the first unit of those that may run.
 #[derive(Clone, Copy)]
@@ -120,8 +99,8 @@ fn wanted_by_first(
     Cores(set)
 }
 
-/// The cores that are to decide anew at t, of those at these places. Where no unit waits of a domain that may run, and none was pinned,
-/// there is none.
+/// The cores that are to decide anew at t, of those at these places. Where none was pinned, no core is asked by itself, and where no unit
+/// waits of a domain that may run, there is none.
 pub fn wanted(
     state: &Credit2State,
     ready: &Ready,
@@ -139,7 +118,9 @@ pub fn wanted(
 {
     state.queue.law_order();
     if !state.unpinned {
-        return wanted_by_core(state, ready, cores, t, home);
+        return wanted_where(cores, |core, cur, since| {
+            better_waits(state, ready, cur, since, t, core, home)
+        });
     }
     match ready.first {
         None => Cores(0),

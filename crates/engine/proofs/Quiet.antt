@@ -1,6 +1,6 @@
 -- Where nothing may come in the machine, no pool has a first event, so the next moment of each is kept.
 use Rattle.std.proofs.Common.{◌≡◌, ◌∙◌, ℕ, true, false, List, refl, sym, ap, subst, arith}
-use Rattle.std.specs.Prelude.{Option, Some, None, IfNone, IfSome}
+use Rattle.std.specs.Prelude.{Option, Some, None, IfNone}
 use Rattle.sched_base.specs.declared.Moment.{Moment}
 use Rattle.sched_model.specs.declared.action.Action.{Action}
 use Rattle.sched_model.specs.declared.event.Entry.{Entry}
@@ -64,11 +64,7 @@ module _ (w : Told) (slots : List (Option Seen)) (tool : Tool) (parts : AreParts
     nothing = λ k is. subst (λ (o : Option Seen). IsNextOfPlace o (at_place nexts k)) is (kept k (quiet-firsts k));
   }
 
--- what is said of an answer says something else of it
+-- what is said where nothing was found says something else
 pub none-of : {X : Type 0} (found : Option X) (P Q : Type 0) → (P → Q) → IfNone found P → IfNone found Q
 none-of None P Q then is = then is
 none-of (Some x) P Q then is = tt
-
-pub some-of : {X : Type 0} (found : Option X) (P Q : X → Type 0) → ((x : X) → P x → Q x) → IfSome found P → IfSome found Q
-some-of None P Q then is = tt
-some-of (Some x) P Q then is = then x is

@@ -36,6 +36,12 @@ pub record HasBook (set : LockTable) (b : Chronicle) (s : Sitting) : Type 0 wher
   pub front : s.view.front ≡ b.history
   pub nobody : s.view.named ≡ 0
 
+-- so it has the hall's own book, and all that it knows is current
+pub record BeginsTurn (hall : LockTable) (b : Chronicle) (s : Sitting) : Type 0 where
+  pub has : HasBook hall b s
+  pub current : Current s.view
+  pub input : b.input ≡ hall.opened.input
+
 -- the seat has taken the book b, whose history goes on from what the seat had seen
 pub record SeesBook (b : Chronicle) (old new : Sitting) : Type 0 where
   pub table : new.table ≡ old.table

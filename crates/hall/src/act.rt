@@ -10,13 +10,12 @@ ghost use Rattle.sched_model.specs.Runs.{event_action};
 ghost use Rattle.journal_core.specs.Histories.{reached_by};
 ghost use Rattle.composition_laws.specs.Actors.{has_actor};
 ghost use Rattle.pool_laws.specs.Actors.{IsFirstBy};
-ghost use Rattle.lock_moves.specs.Plays.{Current};
 ghost use Rattle.lock_moves.specs.SeatSight.{find_lock};
 ghost use Rattle.lock_moves.specs.Sets.{HasName};
 ghost use Rattle.hall.specs.SeatKnowledge.{KnowsAll, KnowsPool};
 ghost use Rattle.hall.specs.Seats.{IsCountBefore, IsOf, IsSeatOf, SeatStays, Stays};
 ghost use Rattle.hall.specs.BookTurns.{DoneIn, HoldsOnly, IsNamed, Settles, SettlesFull};
-ghost use Rattle.hall.specs.Steps.{HasBook, KeepsOthers};
+ghost use Rattle.hall.specs.Steps.{BeginsTurn, KeepsOthers};
 ghost use Rattle.hall.specs.Turns.{ActsFull, IsDone, is_actor};
 ghost use Rattle.journal_core.specs.Parts.{tool_lock};
 ghost use Rattle.lock_moves.specs.Words.{book_lock};
@@ -29,7 +28,6 @@ use crate::seat::{HallSeat, arrived_after};
 use crate::turns::{Done, Full};
 use crate::value::PartState;
 use crate::whole::perform;
-use composition_laws::whole::law_actor;
 use journal_core::Book;
 use lock_moves::{Held, HeldBook, LockId, LockSeat, NameId, WordId};
 use machine_parts::{PoolSlot, Trail, tool_first};
@@ -229,9 +227,7 @@ impl Hall {
         found: Option<Action>,
         t: Moment,
     ) -> Result<(Done, u32), Full>
-        requires has { HasBook self.now book seat.old }
-        requires current { Current seat.old.view }
-        requires input { book.input ≡ self.now.opened.input }
+        requires begins { BeginsTurn self.now book seat.old }
         requires number { index < tool_lock }
         requires knows { KnowsPool index slot.old seat.old.view }
         requires some { IsSome slot.old }
@@ -292,9 +288,7 @@ impl Hall {
         book: HeldBook,
         all: &mut AllParts,
     ) -> Result<(Done, u32), Full>
-        requires has { HasBook self.now book seat.old }
-        requires current { Current seat.old.view }
-        requires input { book.input ≡ self.now.opened.input }
+        requires begins { BeginsTurn self.now book seat.old }
         requires knows { KnowsAll all.old seat.old.view }
         ensures knows { KnowsAll all.new seat.new.view }
         ensures book { find_lock book_lock seat.new.view.held ≡ None }
@@ -319,7 +313,7 @@ impl Hall {
         }
         let place = book.get().len();
         let decides = self.decides_before(book.get(), action);
-        let event = perform(&self.set, seat, book, all, self.granularity, action, t);
+        let event = perform(&self.set, self.granularity, seat, book, all, action, t);
         Ok((Done::Event { place, event }, decides))
     }
 }

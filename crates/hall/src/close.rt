@@ -2,14 +2,13 @@
 
 ghost use Rattle.std.specs.Prelude.{◌≡◌, ◌<◌, None, Some, IfOk, IfErr, length};
 ghost use Rattle.sched_model.specs.Machine.{first_enabled_action};
-ghost use Rattle.lock_moves.specs.Plays.{Current};
 ghost use Rattle.lock_moves.specs.SeatSight.{find_lock};
 ghost use Rattle.machine_parts.specs.Places.{GoesOn, state_of};
 ghost use Rattle.machine_parts.specs.Told.{told_of};
 ghost use Rattle.hall.specs.SeatKnowledge.{KnowsAll};
 ghost use Rattle.hall.specs.Seats.{IsOf, Stays};
 ghost use Rattle.hall.specs.BookTurns.{FullWhole, Turns};
-ghost use Rattle.hall.specs.Steps.{HasBook};
+ghost use Rattle.hall.specs.Steps.{BeginsTurn};
 ghost use Rattle.hall.specs.Turns.{IsTurn, TurnsFull};
 ghost use Rattle.lock_moves.specs.Words.{book_lock};
 
@@ -99,9 +98,7 @@ impl Hall {
         book: HeldBook,
         all: &mut AllParts,
     ) -> Result<(Turn, u32), Full>
-        requires has { HasBook self.now book seat.old }
-        requires current { Current seat.old.view }
-        requires input { book.input ≡ self.now.opened.input }
+        requires begins { BeginsTurn self.now book seat.old }
         requires knows { KnowsAll all.old seat.old.view }
         ensures knows { KnowsAll all.new seat.new.view }
         ensures book { find_lock book_lock seat.new.view.held ≡ None }
@@ -138,9 +135,7 @@ impl Hall {
         action: Action,
         t: Moment,
     ) -> (Turn, u32)
-        requires has { HasBook self.now book seat.old }
-        requires current { Current seat.old.view }
-        requires input { book.input ≡ self.now.opened.input }
+        requires begins { BeginsTurn self.now book seat.old }
         requires goes { GoesOn (told_of book) }
         requires room { length book.history < book.limit }
         requires now { t.0 ≡ seat.old.view.now }
@@ -153,15 +148,13 @@ impl Hall {
     {
         let place = book.get().len();
         let decides = self.decides_before(book.get(), action);
-        let event = perform(&self.set, seat, book, all, self.granularity, action, t);
+        let event = perform(&self.set, self.granularity, seat, book, all, action, t);
         (Turn::Stepped { place, event }, decides)
     }
 
     /// Ends the moment, or the run, where nothing may come now.
     fn close(&self, seat: &mut LockSeat, book: HeldBook, all: &AllParts, t: Moment) -> Turn
-        requires has { HasBook self.now book seat.old }
-        requires current { Current seat.old.view }
-        requires input { book.input ≡ self.now.opened.input }
+        requires begins { BeginsTurn self.now book seat.old }
         requires goes { GoesOn (told_of book) }
         requires room { length book.history < book.limit }
         requires now { t.0 ≡ seat.old.view.now }

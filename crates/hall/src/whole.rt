@@ -7,7 +7,6 @@ ghost use Rattle.sched_model.specs.declared.event.Event.TheVariants as events;
 ghost use Rattle.sched_model.specs.Machine.{first_enabled_action, is_action_enabled, next_in_horizon};
 ghost use Rattle.machine_parts.specs.Places.{GoesOn, state_of};
 ghost use Rattle.machine_parts.specs.Told.{told_of};
-ghost use Rattle.machine_parts.specs.Parts.{event_pool};
 ghost use Rattle.lock_moves.specs.Plays.{Current};
 ghost use Rattle.lock_moves.specs.Sets.{sitting_with};
 ghost use Rattle.lock_moves.specs.SeatSight.{Holds, find_lock};
@@ -113,52 +112,13 @@ fn hand_over(set: &LockSet<PartState>, seat: &mut LockSeat, moved: Option<NameMo
     }
 }
 
-/// Does an action of the tool that may come now, where no stall may come before a command, and adds its entry to the book, which goes back.
-fn act_as_tool(
-    set: &LockSet<PartState>,
-    seat: &mut LockSeat,
-    book: HeldBook,
-    all: &mut AllParts,
-    granularity: u8,
-    action: Action,
-    t: Moment,
-) -> Event
-    requires may { MayAct set.now book seat.old action t }
-    requires granularity { granularity ≡ book.input.config.granularity }
-    requires knows { KnowsAll all.old seat.old.view }
-    requires first { action ≡ actions.Xl →
-        is_action_enabled book.input (state_of (told_of book)) (state_of (told_of book)).now
-        actions.Stall ≡ false }
-    requires no_pool { event_pool book.input.config.granularity (state_of (told_of book))
-        action ≡ None }
-    ensures acted { HasActed book action t result seat.old seat.new }
-    ensures knows { KnowsAll all.new seat.new.view }
-    ensures book { find_lock book_lock seat.new.view.held ≡ None }
-{
-    let trail = Trail::of(book.get());
-    let moved = name_move(&all.tool.tool, &trail, action);
-    let kept = &mut *all.tool;
-    let event = act_of_tool(
-        all.slots.as_mut_slice(),
-        &mut kept.tool,
-        &mut kept.spares,
-        &trail,
-        granularity,
-        action,
-        t,
-    );
-    hand_over(set, seat, moved);
-    enter(set, seat, book, Entry { at: t, event });
-    event
-}
-
 /// Does an action that may come now, where no stall may come before a command, and adds its entry to the book, which goes back.
 pub(crate) fn perform(
     set: &LockSet<PartState>,
+    granularity: u8,
     seat: &mut LockSeat,
     book: HeldBook,
     all: &mut AllParts,
-    granularity: u8,
     action: Action,
     t: Moment,
 ) -> Event
@@ -182,7 +142,23 @@ pub(crate) fn perform(
             action,
             t,
         ),
-        None => act_as_tool(set, seat, book, all, granularity, action, t),
+        None => {
+            let trail = Trail::of(book.get());
+            let moved = name_move(&all.tool.tool, &trail, action);
+            let kept = &mut *all.tool;
+            let event = act_of_tool(
+                all.slots.as_mut_slice(),
+                &mut kept.tool,
+                &mut kept.spares,
+                &trail,
+                granularity,
+                action,
+                t,
+            );
+            hand_over(set, seat, moved);
+            enter(set, seat, book, Entry { at: t, event });
+            event
+        }
     }
 }
 

@@ -5,7 +5,7 @@ ghost use Rattle.sched_model.specs.CheckedMachine.{IsCheckedConfig, IsCheckedDom
 ghost use Rattle.sched_model.specs.Opening.{pool_with_pins};
 ghost use Rattle.sched_ops.specs.Conditions.{has_joined_domain};
 ghost use Rattle.sched_ops.specs.Seen.{units_of};
-ghost use Rattle.machine_opening.specs.OpeningPool.{IsOpening, IsStill, configured_pool, configured_if, after_joining, units_at_home, units_if_home, with_all, with_pool};
+ghost use Rattle.machine_opening.specs.OpeningPool.{IsOpening, IsStill, configured_pool, configured_if, units_at_home, units_if_home, with_all, with_pool};
 ghost use Rattle.sched_model.specs.Actions.{configured_units};
 
 use pool_core::pool::PoolState;
@@ -16,42 +16,6 @@ use sched_model::state::Domain;
 use sched_ops::Policy;
 use std::alloc::Global;
 use unit_state::DomPart;
-
-/// The domain d of the file comes in, all of whose vCPUs are awake.
-fn give<P: Policy>(
-    alloc: Global,
-    config: &Config,
-    home: &PoolConfig,
-    d: DomId,
-    joining: &DomConfig,
-    pool: &mut PoolState<P>,
-) -> Result<(), NoMemory>
-    requires checked { IsCheckedConfig config.now }
-    requires home { slice_get config.now.pools joining.now.home.0 ≡ Some home.now }
-    requires domain { IsCheckedDomain config.now joining.now }
-    requires place { d.0 < length config.now.domains }
-    requires opening { IsOpening config.now home.now d.0 pool.old }
-    requires room { configured_units config.now.granularity joining.now ≤ pool.old.spare }
-    ensures after { OnOk result (pool.new
-        ≡ after_joining config.now.granularity d.0 joining.now pool.old) }
-    ensures still { OnOk result (IsStill pool.new) }
-    ensures joined { OnOk result (has_joined_domain pool.new.pool.scheduler d.0 ≡ true) }
-    ensures units { OnOk result (units_of pool.new.pool.scheduler d.0
-        ≡ configured_units config.now.granularity joining.now) }
-{
-    let domain = Domain {
-        paused: false,
-        moving: None,
-        vcpus: fresh_vcpus(alloc, joining.guests.as_slice())?,
-    };
-    let part = DomPart {
-        d,
-        granularity: config.granularity,
-        domain,
-    };
-    pool.give_domain(part, &joining.params, Moment(0));
-    Ok(())
-}
 
 /// This unit of the domain may run on these cores alone.
 fn pin<P: Policy>(d: DomId, index: u8, cores: Cores, pool: &mut PoolState<P>)
@@ -89,7 +53,7 @@ fn pin_all<P: Policy>(d: DomId, first: u8, pins: &[Cores], pool: &mut PoolState<
     }
 }
 
-/// The domain d of the file comes in, with the sets of cores of its units.
+/// The domain d of the file comes in, all of whose vCPUs are awake, with the sets of cores of its units.
 fn join<P: Policy>(
     alloc: Global,
     config: &Config,
@@ -108,7 +72,17 @@ fn join<P: Policy>(
         pool.old) }
     ensures opening { OnOk result (IsOpening config.now home.now (d.0 + 1) pool.new) }
 {
-    give(alloc, config, home, d, joining, pool)?;
+    let domain = Domain {
+        paused: false,
+        moving: None,
+        vcpus: fresh_vcpus(alloc, joining.guests.as_slice())?,
+    };
+    let part = DomPart {
+        d,
+        granularity: config.granularity,
+        domain,
+    };
+    pool.give_domain(part, &joining.params, Moment(0));
     pin_all(d, 0, joining.pins.as_slice(), pool);
     Ok(())
 }

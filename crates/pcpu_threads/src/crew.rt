@@ -98,28 +98,6 @@ fn serve_open<R: Wait, G: Gate>(
     }
 }
 
-/// A thread that helps until the run is over.
-fn help<R: Wait, G: Gate>(
-    rt: &R,
-    hall: &Hall,
-    domains: u8,
-    gate: &G,
-    pulse: &Pulse,
-    own: u64,
-    seats: &mut [HallSeat],
-)
-    requires { IsRow hall.now domains seats.old }
-    ensures row { IsRow hall.now domains seats.new }
-    ensures acts { ActsForWorkers seats.old seats.new }
-{
-    for _ in rt.forever() {
-        if !pulse.wait_for_pool(rt) {
-            return;
-        }
-        serve_open(rt, hall, domains, gate, pulse, own, seats);
-    }
-}
-
 /// The workers' part of a moment by this thread alone: pool by pool.
 fn work_alone<R: Wait, G: Gate>(
     rt: &R,
@@ -237,24 +215,29 @@ fn lead<R: Wait, G: Gate>(
     pulse.end();
 }
 
-/// The part of the thread whose row begins at this place: the first one that comes leads, and the others help.
+/// The part of the thread that comes next, with this row: the first one leads, and the others help until the run is over.
 fn take_part<R: Wait, G: Gate>(
     rt: &R,
     hall: &Hall,
     domains: u8,
     gate: &G,
     pulse: &Pulse,
-    start: usize,
     seats: &mut [HallSeat],
 )
     requires { IsRow hall.now domains seats.old }
     ensures { IsRow hall.now domains seats.new }
 {
-    if pulse.comes_first() {
+    let number = pulse.came_before();
+    if number == 0 {
         lead(rt, hall, domains, gate, pulse, seats);
-    } else {
-        let number = start / seats.len();
-        help(rt, hall, domains, gate, pulse, 1u64 << (number % 16), seats);
+        return;
+    }
+    let own = 1u64 << (number % 16);
+    for _ in rt.forever() {
+        if !pulse.wait_for_pool(rt) {
+            return;
+        }
+        serve_open(rt, hall, domains, gate, pulse, own, seats);
     }
 }
 
@@ -327,9 +310,9 @@ fn run_rows<R: Threads + Wait + Sync, G: Gate + Sync>(
         rt,
         seats,
         wide,
-        &|start, row|
+        &|_start, row|
             requires { IsRow hall.now domains row.now }
             ensures { IsRow hall.entry.now domains row.exit.now }
-        { take_part(rt, hall, domains, gate, shared, start, row) },
+        { take_part(rt, hall, domains, gate, shared, row) },
     );
 }

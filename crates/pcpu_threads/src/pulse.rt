@@ -146,9 +146,9 @@ impl Pulse {
         }
     }
 
-    /// Whether nobody has come before. So there is one who leads also where no thread can be made, and the caller takes one row after the other.
-    pub(crate) fn comes_first(&self) -> bool {
-        self.came.word.fetch_add(1, Ordering::SeqCst) == 0
+    /// How many have come before. So there is one who leads also where no thread can be made, and the caller takes one row after the other.
+    pub(crate) fn came_before(&self) -> u64 {
+        self.came.word.fetch_add(1, Ordering::SeqCst)
     }
 
     /// The pools that have something to do wait for threads from now on, and those who sleep are woken.

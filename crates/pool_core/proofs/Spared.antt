@@ -19,7 +19,7 @@ use Rattle.sched_laws.proofs.Counts.{same_unit_refl}
 use Rattle.sched_laws.proofs.Lists.{some-test_at}
 use Rattle.sched_laws.specs.PoolFacts.{IsKnownPool}
 use Rattle.pool_laws.specs.CoreLooks.{IsSettled}
-use Rattle.settle_laws.specs.Frees.{may_free}
+use Rattle.settle_laws.specs.Frees.{is_decision_spared, may_free}
 use Rattle.settle_laws.specs.Kept.{KeptOnce}
 use Rattle.settle_laws.specs.Ready.{AreReadyBy}
 use Rattle.settle_laws.specs.Wanted.{is_queued_by, reads_moment}
@@ -35,7 +35,7 @@ use Rattle.core_state.specs.Seen.{Seen as CoresSeen}
 use Rattle.sched_ops.specs.Seen.{Seen as SchedulerSeen}
 use Rattle.sched_ops.specs.WantedCores.{is_core_wanted}
 use Rattle.pool_core.specs.declared.settling.Mark.{Mark}
-use Rattle.pool_core.specs.CoreLooks.{IsNoneWanted, is_decision_spared, is_still_settled, pool_but}
+use Rattle.pool_core.specs.CoreLooks.{IsNoneWanted, is_still_settled, pool_but}
 use Rattle.pool_core.specs.PoolState.{IsAtRest, IsKept}
 use Rattle.pool_core.specs.Wakes.{came_by_save, came_by_wake}
 use Rattle.pool_core.proofs.Asking.{saved_away}

@@ -1,5 +1,5 @@
 -- Cores changed one after another, those of a set made pending, and what is known of a look before it is taken.
-use Rattle.std.specs.Prelude.{ℕ, zero, suc, ◌≡◌, ◌&&◌, ◌||◌, ◌==◌, Bool, true, false, not, List, [], ◌∷◌, Option, Some, None, option_map, if◌then◌else◌}
+use Rattle.std.specs.Prelude.{ℕ, zero, suc, ◌≡◌, ◌&&◌, ◌||◌, ◌==◌, Bool, false, not, List, [], ◌∷◌, Option, Some, None, option_map, if◌then◌else◌}
 use Rattle.sched_base.specs.declared.UnitId.{UnitId}
 use Rattle.sched_model.specs.declared.state.Pool.{Pool}
 use Rattle.sched_model.specs.declared.state.Records.{Records}
@@ -9,7 +9,6 @@ use Rattle.sched_model.specs.Places.{at_place}
 use Rattle.sched_model.specs.Pool.{cores_from, pending_core}
 use Rattle.sched_model.specs.State.{has_core_bit}
 use Rattle.settle_laws.specs.Wanted.{reads_moment}
-use Rattle.settle_laws.specs.Frees.{may_free}
 use Rattle.sched_ops.specs.Seen.{scheduler_without_unit}
 use Rattle.sched_ops.specs.WantedCores.{is_core_wanted}
 use Rattle.pool_core.specs.declared.settling.Mark.{Mark}
@@ -39,7 +38,3 @@ pool_but came pool = record pool { scheduler = scheduler_but came pool.scheduler
 -- whether a pool of these records with this mark is settled at t
 abbrev pub is_still_settled : Mark → ℕ → Records → Bool
 is_still_settled mark t records = mark.settled && (mark.latest.0 == t || not (reads_moment records))
-
--- whether the decision of the core at the place r, if there is one, frees nothing
-abbrev pub is_decision_spared : List (Option Resource) → ℕ → Records → Bool
-is_decision_spared cores r records = elim (at_place cores r) [ None ↦ true | Some c ↦ not (may_free c.cur c.leaving records) ]

@@ -4,11 +4,11 @@ ghost use Rattle.std.specs.Prelude.{◌≡◌, true, false, None, Some};
 ghost use Rattle.sched_model.specs.declared.action.Action.TheVariants.{Decide, Repl};
 ghost use Rattle.sched_model.specs.State.{runnable_among};
 ghost use Rattle.sched_model.specs.Pool.{after_in, event_in};
+ghost use Rattle.settle_laws.specs.Frees.{is_decision_spared};
 ghost use Rattle.sched_ops.specs.Conditions.{IsNow};
 ghost use Rattle.sched_ops.specs.Timers.{is_due};
 ghost use Rattle.sched_ops.specs.declared.timer.Timer.TheVariants as timers;
 ghost use Rattle.unit_state.specs.Seen.{Seen as GuestsSeen};
-ghost use Rattle.pool_core.specs.CoreLooks.{is_decision_spared};
 ghost use Rattle.pool_core.specs.Events.{MayAct};
 ghost use Rattle.pool_core.specs.Seen.{pool_of};
 

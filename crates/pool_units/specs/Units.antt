@@ -1,5 +1,5 @@
 -- The units of a pool: those of the domains that joined, with their sets of cores, and those that wait.
-use Rattle.std.specs.Prelude.{ℕ, ◌+◌, ◌-◌, ◌≡◌, ◌≤◌, true, false, List, [], ◌∷◌, ◌++◌, Option, None, replicate}
+use Rattle.std.specs.Prelude.{ℕ, ◌+◌, ◌-◌, ◌≡◌, ◌≤◌, true, false, List, [], ◌∷◌, ◌++◌, Option, None, Some, replicate}
 use Rattle.sched_base.specs.declared.UnitId.{UnitId}
 use Rattle.sched_base.specs.declared.Cores.{Cores}
 use Rattle.sched_model.specs.Places.{put_at, clear_at, change_at, has_listed_unit, without_unit}
@@ -37,6 +37,11 @@ after_enqueue u units = record units { queue = units.queue ++ u ∷ [] }
 -- the unit waits no more
 abbrev pub after_dequeue : UnitId → Units → Units
 after_dequeue u units = record units { queue = without_unit u units.queue }
+
+-- the unit that was chosen, if one was, waits no more
+abbrev pub without_chosen : Option UnitId → Units → Units
+without_chosen None units = units
+without_chosen (Some u) units = after_dequeue u units
 
 -- one of the domain's units, or all of them, have another set of cores
 abbrev pub pinned_in : ℕ → Option ℕ → Cores → Units → Units

@@ -14,21 +14,18 @@
 //!
 //! *Ordering.* The unit that came to wait earlier goes first. No unit is better than a core's own. There are no timers.
 //!
-//! `Null` has a `NullState`, or none before the first `reserve`.
+//! `Null` has its two parts, or none before the first `reserve`.
 
-ghost use Rattle.std.specs.Prelude.{◌≡◌};
-ghost use Rattle.sched_model.specs.Policy.{records_kind};
-ghost use Rattle.sched_model.specs.declared.config.SchedKind.TheVariants as kinds;
-ghost use Rattle.sched_null.specs.NullView.{seen_by};
-
-use crate::state::NullState;
+use crate::kept::Kept;
+use crate::state::{NullParts, choose, is_wanted, wanted_for};
+use pool_units::PoolUnits;
 use sched_base::{Cores, DomId, Moment, NoMemory, UnitId};
 use sched_model::ask::Ask;
 use sched_model::config::{DomParams, ParamChange, PoolParams};
 use sched_model::event::Event;
 use sched_model::facts::Stored;
 use sched_model::state::Resource;
-use sched_ops::{Choice, Places, Policy, Timer};
+use sched_ops::{Choice, Places, Policy, Timer, wanted_where};
 use std::alloc::Global;
 use std::marker::Model;
 use std::mem;
@@ -39,8 +36,8 @@ use std::mem;
 /// many units may still join, and the greatest moment given.
 #[derive(Drop)]
 pub struct Null {
-    state: Option<NullState>,
-    early: u64,
+    parts: Option<NullParts>,
+    latest: u64,
 }
 
 impl Model for Null {
@@ -50,18 +47,7 @@ impl Model for Null {
 
     ghost use Rattle.sched_null.specs.NullView.{seen_by};
 
-    ghost view = { λ a. seen_by a.state a.early };
-}
-
-/// The greatest moment that was given, in nanoseconds.
-fn latest_of(state: &Option<NullState>, early: u64) -> u64
-    ensures latest { result ≡ (seen_by state.now early).latest }
-    ensures kind { records_kind (seen_by state.now early).scheduler.records ≡ kinds.Null }
-{
-    match state {
-        None => early,
-        Some(state) => state.latest(),
-    }
+    ghost view = { λ a. seen_by a.parts a.latest };
 }
 
 impl Null {
@@ -74,8 +60,8 @@ impl Null {
         ensures { result ≡ bare_seen kinds.Null }
     {
         Null {
-            state: None,
-            early: 0,
+            parts: None,
+            latest: 0,
         }
     }
 }
@@ -84,126 +70,121 @@ impl Policy for Null {
     ghost seen = { λ s. s };
 
     fn reserve(&mut self, alloc: Global, places: Places, units: usize) -> Result<(), NoMemory> {
-        let latest = latest_of(&self.state, self.early);
-        let state = NullState::room(alloc, places, units, latest)?;
-        drop(mem::replace(&mut self.state, Some(state)));
+        let units = PoolUnits::room(alloc, places.domains, units)?;
+        let kept = Kept::room(alloc, places.cores)?;
+        drop(mem::replace(&mut self.parts, Some(NullParts { units, kept })));
         Ok(())
     }
 
     fn restart(&mut self, params: &PoolParams) {
-        match &mut self.state {
-            None => {}
-            Some(state) => state.restart(params),
+        if let Some(parts) = &mut self.parts {
+            parts.units.keeps();
+            parts.kept.clear();
         }
     }
 
     fn join(&mut self, d: DomId, units: u8, params: &DomParams, t: Moment) {
-        match &mut self.state {
-            None => {}
-            Some(state) => state.join(d, units, params, t),
+        if let Some(parts) = &mut self.parts {
+            parts.units.join(d, units);
         }
+        self.latest = t.0;
     }
 
     fn part(&mut self, d: DomId) {
-        match &mut self.state {
-            None => {}
-            Some(state) => state.part(d),
+        if let Some(parts) = &mut self.parts {
+            parts.units.part(d);
+            parts.kept.part(d);
         }
     }
 
     fn enqueue(&mut self, u: UnitId) {
-        match &mut self.state {
-            None => {}
-            Some(state) => state.enqueue(u),
+        if let Some(parts) = &mut self.parts {
+            parts.units.enqueue(u);
         }
     }
 
     fn dequeue(&mut self, u: UnitId) {
-        match &mut self.state {
-            None => {}
-            Some(state) => state.dequeue(u),
+        if let Some(parts) = &mut self.parts {
+            parts.units.dequeue(u);
         }
     }
 
     fn choose(&mut self, ask: &Ask) -> Choice {
-        if let Some(state) = &mut self.state {
-            return state.choose(ask);
-        }
-        self.early = ask.at.0;
-        Choice {
-            unit: None,
-            due: None,
-            reset: 0,
+        self.latest = ask.at.0;
+        match &mut self.parts {
+            None => Choice {
+                unit: None,
+                due: None,
+                reset: 0,
+            },
+            Some(parts) => choose(parts, ask),
         }
     }
 
     fn wanted(&self, cores: &[Option<Resource>], t: Moment, home: Cores) -> Cores {
-        match &self.state {
+        match &self.parts {
             None => Cores(0),
-            Some(state) => state.wanted(cores, t, home),
+            Some(parts) => {
+                let waits = !parts.units.waiting().is_empty();
+                wanted_where(cores, |core, cur, _since| {
+                    is_wanted(&parts.units, &parts.kept, waits, cur, core, home)
+                })
+            }
         }
     }
 
     fn wanted_for(&self, u: UnitId, cores: &[Option<Resource>], t: Moment, home: Cores) -> Cores {
-        match &self.state {
+        match &self.parts {
             None => Cores(0),
-            Some(state) => state.wanted_for(u, cores, t, home),
+            Some(parts) => wanted_for(&parts.units, &parts.kept, u, cores, t, home),
         }
     }
 
+    /// No: nothing is charged, and nothing comes with time.
     fn asks_moment(&self) -> bool {
-        match &self.state {
-            None => false,
-            Some(state) => state.asks_moment(),
-        }
+        let _ = &self.parts;
+        false
     }
 
+    /// A core that leaves gives its unit free, which may have another one then.
     fn frees(&self, cur: Option<UnitId>, leaving: bool) -> bool {
-        match &self.state {
-            None => leaving,
-            Some(state) => state.frees(cur, leaving),
-        }
+        let _ = &self.parts;
+        leaving
     }
 
     fn timer_due(&self, t: Moment) -> Option<(Moment, Timer)> {
-        match &self.state {
-            None => None,
-            Some(state) => state.timer_due(t),
-        }
+        let _ = &self.parts;
+        None
     }
 
     fn timer(&mut self, which: Timer, t: Moment) -> Event {
-        match &mut self.state {
-            None => unreachable!(),
-            Some(state) => state.timer(which, t),
-        }
+        let _ = &self.parts;
+        unreachable!()
     }
 
     fn set_params(&mut self, change: &ParamChange, t: Moment) {
-        match &mut self.state {
-            None => {}
-            Some(state) => state.set_params(change, t),
+        if let ParamChange::Pin { dom, unit, cores } = change {
+            if let Some(parts) = &mut self.parts {
+                parts.units.pin(*dom, *unit, *cores);
+            }
         }
+        self.latest = t.0;
     }
 
     fn stored(&self, u: UnitId) -> Stored {
-        match &self.state {
-            None => Stored::Null,
-            Some(state) => state.stored(u),
-        }
+        let _ = &self.parts;
+        Stored::Null
     }
 
     fn rate(&self) -> u32 {
-        match &self.state {
-            None => 0,
-            Some(state) => state.rate(),
-        }
+        let _ = &self.parts;
+        0
     }
 
     fn keeps(&self) {
-        match &self.state {
-            None => {}
-            Some(state) => state.keeps(),
+        if let Some(parts) = &self.parts {
+            parts.units.keeps();
+            parts.kept.keeps();
         }
     }
 }

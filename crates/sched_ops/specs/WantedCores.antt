@@ -6,7 +6,7 @@ use Rattle.sched_base.specs.declared.Moment.{Moment}
 use Rattle.sched_base.specs.declared.UnitId.{UnitId}
 use Rattle.sched_model.specs.declared.state.Resource.{Resource}
 use Rattle.sched_model.specs.declared.state.Scheduler.{Scheduler}
-use Rattle.sched_model.specs.Policy.{has_better_waiting}
+use Rattle.settle_laws.specs.Wanted.{is_wanted}
 use Rattle.sched_ops.specs.Conditions.{IsOwnOf}
 
 -- the core may ask its scheduler at t: its unit is one of the scheduler's that is on, since a moment that has come
@@ -17,7 +17,7 @@ pub record MayAsk (t : ℕ) (scheduler : Scheduler) (c : Resource) : Type 0 wher
 -- whether the core becomes pending
 abbrev pub is_core_wanted : ℕ → ℕ → Scheduler → ℕ → Option Resource → Bool
 is_core_wanted t home scheduler r None = false
-is_core_wanted t home scheduler r (Some c) = not c.leaving && not c.pending && has_better_waiting c.cur c.since.0 t r home scheduler
+is_core_wanted t home scheduler r (Some c) = is_wanted t home scheduler r c
 
 -- a core is asked where it is neither leaving nor pending
 abbrev pub is_asked : Resource → Bool

@@ -15,12 +15,12 @@ use Rattle.sched_laws.proofs.EachPlace.{at_place-put_at, at_place-put_at_other, 
 use Rattle.sched_laws.proofs.Lists.{some_same}
 use Rattle.pool_laws.specs.CoreLooks.{IsSettled}
 use Rattle.pool_laws.proofs.Settled.{settled_again}
-use Rattle.settle_laws.specs.Frees.{may_free}
+use Rattle.settle_laws.specs.Frees.{is_decision_spared, may_free}
 use Rattle.settle_laws.proofs.Decides.{decides}
 use Rattle.settle_laws.proofs.Freeing.{frees_nothing}
 use Rattle.settle_laws.proofs.Tests.{not_true}
 use Rattle.settle_laws.proofs.Spared.{spared_arrive, spared_leave, spared_block, spared_slice}
-use Rattle.sched_plain.specs.SettledPools.{AreSettled, MayDecide, is_decision_spared, is_spared}
+use Rattle.sched_plain.specs.SettledPools.{AreSettled, MayDecide, is_spared}
 
 no_mark : (n i : ℕ) → slice_index_or (replicate n false) i false ≡ false
 no_mark zero i = refl
@@ -36,7 +36,7 @@ none_settled t pools marks none = record {
 }
 
 -- a decision after which nothing is to be looked at
-spared_decide : (g t : ℕ) (r : ResId) (pool : Pool) → MayDecide g pool → IsSettled t pool → is_decision_spared r.0 pool ≡ true → IsSettled t (after_in g t pool (Decide r))
+spared_decide : (g t : ℕ) (r : ResId) (pool : Pool) → MayDecide g pool → IsSettled t pool → is_decision_spared pool.resources r.0 pool.scheduler.records ≡ true → IsSettled t (after_in g t pool (Decide r))
 spared_decide g t r pool may before is = by_place (at_place pool.resources r.0) refl is
   where
     by_place : (o : Option Resource) → at_place pool.resources r.0 ≡ o → elim o as (λ _. Bool) [ None ↦ true | Some c ↦ not (may_free c.cur c.leaving pool.scheduler.records) ] ≡ true → IsSettled t (after_in g t pool (Decide r))

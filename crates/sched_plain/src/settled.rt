@@ -1,8 +1,8 @@
 //! Which pools were settled at the present moment, so that settling them again would change nothing.
 
 ghost use Rattle.std.specs.Prelude.{◌≡◌, ◌&&◌, not};
-ghost use Rattle.settle_laws.specs.Frees.{may_free};
-ghost use Rattle.sched_plain.specs.SettledPools.{is_decision_spared, is_spared};
+ghost use Rattle.settle_laws.specs.Frees.{is_decision_spared, may_free};
+ghost use Rattle.sched_plain.specs.SettledPools.{is_spared};
 
 use sched_base::ResId;
 use sched_model::action::Action;
@@ -78,7 +78,8 @@ fn decision_may_free(records: &Records, core: &Resource) -> bool
 
 /// Whether the decision of the core with this number frees nothing.
 fn frees_nothing(r: ResId, pool: &Pool) -> bool
-    ensures { result ≡ is_decision_spared r.0 pool.now }
+    ensures { result ≡ is_decision_spared pool.now.resources r.0
+        pool.now.scheduler.records }
 {
     match item_at(pool.resources.as_slice(), r.0 as usize) {
         None => true,

@@ -1,5 +1,6 @@
 -- What stands in front of an event in its line stays there.
 use Rattle.std.proofs.Common.{◌≡◌, ◌≤◌, ◌+◌, ℕ, List, [], ◌∷◌, ◌++◌, true, false, Some, None, refl, ap, ◌∙◌, length, take, append_assoc, length-append, arith}
+use Rattle.std.proofs.Math.Seq.{take-append_seam}
 use Rattle.std.specs.Prelude.{Ok, Err, codes, decimal}
 use Rattle.sched_model.specs.declared.event.Event.{Event}
 use Rattle.sched_model.specs.declared.event.Event.TheVariants as event
@@ -61,10 +62,6 @@ event_behind front (event.Save r u false) = simp append_assoc
 event_behind front (event.End next) = simp append_assoc
 event_behind front event.Finish = refl
 
-take_front : (front more : List ℕ) → take (length front) (front ++ more) ≡ front
-take_front [] more = refl
-take_front (x ∷ front) more = ap (λ (rest : List ℕ). x ∷ rest) (take_front front more)
-
 module _ (at : ℕ) (e : Event) (front : ℕ) (line : List ℕ) (count : front ≡ length (decimal at)) (is : line ≡ with_event (decimal at) e ++ 10 ∷ []) where
   abbrev rest : List ℕ
   rest = with_event [] e ++ 10 ∷ []
@@ -74,7 +71,7 @@ module _ (at : ℕ) (e : Event) (front : ℕ) (line : List ℕ) (count : front �
 
   -- the digits in front stay where an event and a newline are written behind them
   pub front_stays : take front line ≡ decimal at
-  front_stays = ap (λ (k : ℕ). take k line) count ∙ ap (take (length (decimal at))) in_front ∙ take_front (decimal at) rest
+  front_stays = ap (λ (k : ℕ). take k line) count ∙ ap (take (length (decimal at))) in_front ∙ take-append_seam (decimal at) rest
 
   pub front_inside : front ≤ length line
   front_inside = (let lengths : length line ≡ length (decimal at) + length rest = ap length in_front ∙ length-append (decimal at) rest in omega (arith, lengths, count))

@@ -1,12 +1,14 @@
 -- Decisions after which a core may be wanted that was not wanted before.
-use Rattle.std.specs.Prelude.{◌&&◌, Bool, true, false, not, Option, Some, None}
+use Rattle.std.specs.Prelude.{ℕ, ◌&&◌, Bool, true, false, not, List, Option, Some, None}
 use Rattle.sched_base.specs.declared.UnitId.{UnitId}
 use Rattle.sched_model.specs.declared.ask.Ask.{Ask}
 use Rattle.sched_model.specs.declared.state.Records.{Records}
 use Rattle.sched_model.specs.declared.state.Records.TheVariants.{Credit2Pool, RtdsPool, ArincPool, NullPool}
+use Rattle.sched_model.specs.declared.state.Resource.{Resource}
 use Rattle.sched_model.specs.declared.state.Scheduler.{Scheduler}
 use Rattle.sched_model.specs.Credit2.{has_domain_budget}
 use Rattle.sched_model.specs.EligibleUnits.{is_unit_allowed, is_core_given}
+use Rattle.sched_model.specs.Places.{at_place}
 use Rattle.sched_model.specs.Policy.{decision_of}
 
 -- whether the cap lets the unit's domain run; no scheduler but Credit2 has caps
@@ -36,3 +38,7 @@ may_free cur leaving (Credit2Pool records) = elim cur [ None ↦ false | Some u 
 may_free cur leaving (RtdsPool domains) = false
 may_free cur leaving (ArincPool records) = true
 may_free cur leaving (NullPool kept) = leaving
+
+-- whether the decision of the core at the place r, if there is one, frees nothing
+abbrev pub is_decision_spared : List (Option Resource) → ℕ → Records → Bool
+is_decision_spared cores r records = elim (at_place cores r) [ None ↦ true | Some c ↦ not (may_free c.cur c.leaving records) ]

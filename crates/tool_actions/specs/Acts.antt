@@ -1,12 +1,15 @@
 -- An act of the tool: what holds where it begins, and what it leaves as it was.
-use Rattle.std.specs.Prelude.{ℕ, ◌≡◌, ◌≢◌, true}
+use Rattle.std.specs.Prelude.{ℕ, ◌≡◌, ◌≢◌, List, Option, true}
 use Rattle.sched_base.specs.Numbers.{moment}
 use Rattle.sched_model.specs.declared.action.Action.{Action}
 use Rattle.sched_model.specs.declared.event.Event.{Event}
-use Rattle.sched_model.specs.Machine.{is_action_enabled}
+use Rattle.sched_model.specs.Machine.{event_of, is_action_enabled}
 use Rattle.journal_core.specs.Parts.{tool_lock}
 use Rattle.journal_core.specs.Histories.{part_at}
 use Rattle.cpupool.specs.Tool.{Tool, tool_of}
+use Rattle.pool_core.specs.Seen.{Seen}
+use Rattle.machine_parts.specs.Counts.{KeepsCounts}
+use Rattle.machine_parts.specs.Parts.{AreParts}
 use Rattle.machine_parts.specs.Told.{Told, told_more}
 use Rattle.machine_parts.specs.Places.{GoesOn, state_of}
 
@@ -35,3 +38,15 @@ HasActedOn w i next tool = HasActed w i i next tool
 -- the same, where no pool changed
 abbrev pub HasActedAlone : Told → Told → Tool → Type 0
 HasActedAlone w next tool = HasActed w tool_lock tool_lock next tool
+
+-- the places and the tool are the parts of the state that the trail leads to, whose moment is t, and in which the action may come
+pub record MayMove (w : Told) (slots : List (Option Seen)) (tool : Tool) (t : ℕ) (action : Action) : Type 0 where
+  pub parts : AreParts w slots tool
+  pub now : t ≡ (state_of w).now
+  pub enabled : is_action_enabled w.input (state_of w) (state_of w).now action ≡ true
+
+-- it came: this is its event, the places and the tool are the parts after it, and pools in use and commands are counted as before
+pub record HasMoved (w : Told) (t : ℕ) (action : Action) (event : Event) (slots : List (Option Seen)) (old new : Tool) : Type 0 where
+  pub event_is : event ≡ event_of w.input (state_of w) (state_of w).now action
+  pub parts : AreParts (told_event w t event) slots new
+  pub counts : KeepsCounts old.part new.part

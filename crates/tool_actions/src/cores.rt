@@ -1,14 +1,13 @@
 //! Cores that move: from no pool to the one to which they are on their way, or from a pool to none. Moments are in nanoseconds.
 
-ghost use Rattle.std.specs.Prelude.{◌≡◌, None, Some, true};
+ghost use Rattle.std.specs.Prelude.{◌≡◌, None, Some};
 ghost use Rattle.sched_model.specs.declared.action.Action.TheVariants.{Moved};
 ghost use Rattle.sched_model.specs.Actions.{home_pool_of_core};
-ghost use Rattle.sched_model.specs.Machine.{event_of, is_action_enabled};
+ghost use Rattle.sched_model.specs.Machine.{event_of};
 ghost use Rattle.journal_core.specs.Parts.{core_to};
 ghost use Rattle.machine_parts.specs.Counts.{KeepsCounts};
 ghost use Rattle.machine_parts.specs.Places.{StandsAt, state_of};
-ghost use Rattle.machine_parts.specs.Parts.{AreParts};
-ghost use Rattle.tool_actions.specs.Acts.{Begins, HasActedOn, told_event};
+ghost use Rattle.tool_actions.specs.Acts.{Begins, HasActedOn, HasMoved, MayMove, told_event};
 
 use cpupool::{Move, ToolState};
 use machine_parts::{PoolSlot, Trail};
@@ -73,14 +72,8 @@ pub fn move_core(
     r: ResId,
     t: Moment,
 ) -> Event
-    requires parts { AreParts trail.now slots.old tool.old }
-    requires now { t.0 ≡ (state_of trail.now).now }
-    requires enabled { is_action_enabled trail.now.input (state_of trail.now)
-        (state_of trail.now).now (Moved r) ≡ true }
-    ensures event { result ≡ event_of trail.now.input (state_of trail.now) (state_of trail.now).now
-        (Moved r) }
-    ensures parts { AreParts (told_event trail.now t.0 result) slots.new tool.new }
-    ensures counts { KeepsCounts tool.old.part tool.new.part }
+    requires { MayMove trail.now slots.old tool.old t.0 (Moved r) }
+    ensures { HasMoved trail.now t.0 (Moved r) result slots.new tool.old tool.new }
 {
     match tool.moving() {
         Some(Move::Res { to: Some(i), .. }) => join_core(
@@ -91,32 +84,13 @@ pub fn move_core(
             i,
             t,
         ),
-        Some(Move::Res { to: None, .. }) => leave_home(slots, tool, trail, r, t),
+        Some(Move::Res { to: None, .. }) => {
+            let Some(home) = tool.home_of_core(r) else {
+                unreachable!();
+            };
+            leave_core(&mut slots[home.0 as usize], tool, trail, r, home, t)
+        }
         Some(Move::Dom { .. }) => unreachable!(),
         None => unreachable!(),
     }
-}
-
-/// The core leaves the pool that has it.
-fn leave_home(
-    slots: &mut [PoolSlot],
-    tool: &mut ToolState,
-    trail: &Trail,
-    r: ResId,
-    t: Moment,
-) -> Event
-    requires parts { AreParts trail.now slots.old tool.old }
-    requires now { t.0 ≡ (state_of trail.now).now }
-    requires enabled { is_action_enabled trail.now.input (state_of trail.now)
-        (state_of trail.now).now (Moved r) ≡ true }
-    requires way { tool.old.part.under_way ≡ Some (core_to r.0 None) }
-    ensures event { result ≡ event_of trail.now.input (state_of trail.now) (state_of trail.now).now
-        (Moved r) }
-    ensures parts { AreParts (told_event trail.now t.0 result) slots.new tool.new }
-    ensures counts { KeepsCounts tool.old.part tool.new.part }
-{
-    let Some(i) = tool.home_of_core(r) else {
-        unreachable!();
-    };
-    leave_core(&mut slots[i.0 as usize], tool, trail, r, i, t)
 }

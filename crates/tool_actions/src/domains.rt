@@ -1,10 +1,10 @@
 //! The move of a domain from its pool to another.
 
-ghost use Rattle.std.specs.Prelude.{◌≡◌, ◌≤◌, ℕ, Some, true};
+ghost use Rattle.std.specs.Prelude.{◌≡◌, ◌≤◌};
 ghost use Rattle.std.specs.Option.{ForSome, IsSome};
 ghost use Rattle.sched_model.specs.declared.action.Action.TheVariants.{DomMoved};
 ghost use Rattle.sched_model.specs.declared.state.Records.{Records};
-ghost use Rattle.sched_model.specs.Machine.{event_of, is_action_enabled, is_null_pool};
+ghost use Rattle.sched_model.specs.Machine.{event_of, is_null_pool};
 ghost use Rattle.sched_model.specs.Places.{at_place};
 ghost use Rattle.sched_model.specs.Policy.{standard_dom_params, records_kind};
 ghost use Rattle.sched_ops.specs.Conditions.{AreDomParams};
@@ -13,8 +13,7 @@ ghost use Rattle.pool_core.specs.Seen.{IsNow};
 ghost use Rattle.cpupool.specs.Tool.{tool_of};
 ghost use Rattle.machine_parts.specs.Counts.{KeepsCounts};
 ghost use Rattle.machine_parts.specs.Places.{StandsAt, state_of};
-ghost use Rattle.machine_parts.specs.Parts.{AreParts};
-ghost use Rattle.tool_actions.specs.Acts.{Begins, HasActed, told_event};
+ghost use Rattle.tool_actions.specs.Acts.{Begins, HasActed, HasMoved, MayMove};
 ghost use Rattle.tool_actions.specs.DomainMoves.{HasLeft, MovesDomain, looked_at, told_moved};
 
 use cpupool::{Move, ToolState};
@@ -142,14 +141,8 @@ pub fn move_domain(
     d: DomId,
     t: Moment,
 ) -> Event
-    requires parts { AreParts trail.now slots.old tool.old }
-    requires now { t.0 ≡ (state_of trail.now).now }
-    requires enabled { is_action_enabled trail.now.input (state_of trail.now)
-        (state_of trail.now).now (DomMoved d) ≡ true }
-    ensures event { result ≡ event_of trail.now.input (state_of trail.now) (state_of trail.now).now
-        (DomMoved d) }
-    ensures parts { AreParts (told_event trail.now t.0 result) slots.new tool.new }
-    ensures counts { KeepsCounts tool.old.part tool.new.part }
+    requires { MayMove trail.now slots.old tool.old t.0 (DomMoved d) }
+    ensures { HasMoved trail.now t.0 (DomMoved d) result slots.new tool.old tool.new }
 {
     let route = route_of(tool, trail, d, t);
     let part = leave_pool(&mut slots[route.from.0 as usize], trail, route, t);

@@ -1,4 +1,5 @@
 use Rattle.std.proofs.Common.{◌≡◌, ◌∙◌, ℕ, List, sym, ap, subst}
+use Rattle.std.proofs.lemmas.Option.{IfSome_then}
 use Rattle.std.specs.Prelude.{Option, None, take}
 use Rattle.sched_model.specs.declared.action.Action.{Action}
 use Rattle.sched_model.specs.Machine.{first_enabled_action}
@@ -10,7 +11,7 @@ use Rattle.machine_parts.specs.Parts.{AreFirsts, AreParts, IsFirstOfPool, event_
 use Rattle.machine_parts.specs.Places.{state_of}
 use Rattle.machine_parts.specs.Told.{Told}
 use Rattle.engine.proofs.Kept.{firsts-taken}
-use Rattle.engine.proofs.Quiet.{none-of, some-of}
+use Rattle.engine.proofs.Quiet.{none-of}
 use Rattle.engine.proofs.engine.Engine.first_of_pools.Goals as goal
 
 -- the first events that are handed in are those of the pools
@@ -46,10 +47,10 @@ returns-clause-none c =
 
 pub returns-clause-first : goal.returns-clause-first
 returns-clause-first c =
-    some-of c.pools_first.result (λ found. Asked c (λ w t. IsFirstOfPool w t found.0 found.1)) _
-    (λ found all. sym (first-is c) ∙ (here c (λ w t. IsFirstOfPool w t found.0 found.1) all).first) c.pools_first.ensures.some
+    IfSome_then c.pools_first.result c.pools_first.ensures.some
+    (λ found all. sym (first-is c) ∙ (here c (λ w t. IsFirstOfPool w t found.0 found.1) all).first)
 
 pub returns-clause-home : goal.returns-clause-home
 returns-clause-home c =
-    some-of c.pools_first.result (λ found. Asked c (λ w t. IsFirstOfPool w t found.0 found.1)) _
-    (λ found all. sym (ap (λ (x : Standing). event_pool x.machine.config.granularity x.state found.1) c.self.view_is) ∙ (here c (λ w t. IsFirstOfPool w t found.0 found.1) all).of_pool) c.pools_first.ensures.some
+    IfSome_then c.pools_first.result c.pools_first.ensures.some
+    (λ found all. sym (ap (λ (x : Standing). event_pool x.machine.config.granularity x.state found.1) c.self.view_is) ∙ (here c (λ w t. IsFirstOfPool w t found.0 found.1) all).of_pool)

@@ -17,12 +17,12 @@ use Rattle.hall.proofs.hall.Hall.step.Goals as goal
 pub decides_before-decides-requires : goal.decides_before-decides-requires
 decides_before-decides-requires c =
     let w = told_of c.args.book in
-    record { few = arrival-small w c.requires.goes c.args.action (first-comes w.input (state_of w) c.args.action c.requires.first) c.args.self.now.opened.input c.requires.input }
+    record { few = arrival-small w c.requires.goes c.args.action (first-comes w.input (state_of w) c.args.action c.requires.first) c.args.self.now.opened.input c.requires.begins.input }
 
 pub perform-event-requires-clause-may : goal.perform-event-requires-clause-may
 perform-event-requires-clause-may c = record {
-  has = subst (λ (x : LockTable). HasBook x c.args.book c.args.seat.now) (sym c.self.view_is) c.requires.has;
-  current = c.requires.current;
+  has = subst (λ (x : LockTable). HasBook x c.args.book c.args.seat.now) (sym c.self.view_is) c.requires.begins.has;
+  current = c.requires.begins.current;
   goes = c.requires.goes;
   room = c.requires.room;
   now = c.requires.now;
@@ -38,7 +38,7 @@ returns-clause-turn c =
       action = c.args.action;
       first = c.requires.first;
       is_event = c.perform-event.ensures.acted.event;
-      adds = adds-event b s c.perform-event.new.seat c.args.action c.args.t c.len-place.result c.perform-event.result decides c.args.self.now.opened.input c.requires.input (c.requires.now ∙ now-held c.args.self.now b s c.requires.has c.requires.current)
+      adds = adds-event b s c.perform-event.new.seat c.args.action c.args.t c.len-place.result c.perform-event.result decides c.args.self.now.opened.input c.requires.begins.input (c.requires.now ∙ now-held c.args.self.now b s c.requires.begins.has c.requires.begins.current)
           (c.len-place.ensures ∙ ap (λ (x : Chronicle). length x.history) c.get.ensures) c.perform-event.ensures.acted.event c.perform-event.ensures.acted.entered
           (subst (λ (x : Chronicle). (e : Event) → event_action e ≡ Some c.args.action → IsCountBefore c.args.self.now.opened.input.config.granularity x.history e decides) c.get-2.ensures c.decides_before-decides.ensures);
     }

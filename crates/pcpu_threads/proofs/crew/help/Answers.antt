@@ -1,5 +1,0 @@
-use Rattle.pcpu_threads.proofs.Serving.{acts_trans}
-use Rattle.pcpu_threads.proofs.crew.help.Goals as goal
-
-pub loop-preserved : goal.loop-preserved
-loop-preserved g c = (let e = c.serve_open.ensures in let i = c.loop.invariant in record { row = e.row; acts = acts_trans c.args.hall.now c.args.domains c.args.seats.now c.loop.seats c.serve_open.new.seats c.requires i.row i.acts e.acts })

@@ -1,4 +1,0 @@
-use Rattle.sched_null.proofs.state.NullState.part.Goals as goal
-
-pub part-requires : goal.part-requires
-part-requires c = let r = rw (← c.self.view_is) at c.requires in r.idle.waiting
