@@ -83,7 +83,7 @@ fn done_of(pool: &Pool, v: VcpuId) -> Option<Moment>
 
 /// When the work of the vCPU that the processor runs is done.
 #[tactic(auto, unfolding(crate::specs::Ready::running_work_moment))]
-fn work_on(pool: &Pool, q: &Processor) -> Option<Moment>
+pub fn work_on(pool: &Pool, q: &Processor) -> Option<Moment>
     requires { PoolFits pool.now }
     ensures { result ≡ running_work_moment pool.now q.now }
 {
@@ -220,7 +220,7 @@ fn of_cores(r: usize, best: u64, pool: &Pool, cores: &[Option<Resource>]) -> u64
 }
 
 /// The least so far, or from when on one of the vCPUs may wake.
-fn of_vcpus(best: u64, vcpus: &[Vcpu]) -> u64
+pub fn of_vcpus(best: u64, vcpus: &[Vcpu]) -> u64
     ensures { result ≡ least_of_vcpus best vcpus.now }
 {
     match vcpus {
@@ -294,7 +294,7 @@ fn of_refills(d: u8, best: u64, end: Moment, domains: &[Option<Credit2Domain>]) 
 }
 
 /// Whether the unit waits or is on a core.
-fn is_about(pool: &Pool, u: UnitId) -> bool
+pub fn is_about(pool: &Pool, u: UnitId) -> bool
     requires { length pool.now.resources ≤ 64 }
     ensures { result ≡ is_waiting_or_on pool.now u }
 {

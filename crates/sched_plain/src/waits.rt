@@ -2,43 +2,16 @@
 
 ghost use Rattle.std.specs.Prelude.{◌≡◌, ℕ, ◌+◌, ◌≤◌, length};
 ghost use Rattle.sched_model.specs.Places.{at_place};
-ghost use Rattle.plain_pool.specs.Ready.{is_waiting_or_on, least_of_vcpus, running_work_moment, work_done_moment};
 ghost use Rattle.pool_records.specs.Fits.{PoolFits};
 ghost use Rattle.sched_plain.specs.Waits.{IsCoreWait, IsDomainWait, awaited_deadline, is_calm as is_calm_core, least_of_deadlines, least_of_domain_timers, least_of_refill_at, least_of_units_at, least_of_works, wait_of_core, wait_of_vcpus};
 
-use plain_pool::ready::{end_if, lesser};
-use plain_schedulers::queue::has_unit;
-use pool_records::cores::{any_held, core_of, is_open};
-use pool_records::vcpus::{done_at, vcpu_of};
-use sched_base::{DomId, Moment, ResId, UnitId, VcpuId};
+use plain_pool::ready::{end_if, is_about, lesser, of_vcpus, work_on};
+use pool_records::cores::{any_held, is_open};
+use sched_base::{DomId, Moment, ResId, UnitId};
 use sched_model::places::item_at;
 use sched_model::state::{
-    Credit2Domain, Doing, Domain, Pool, Processor, Records, Resource, RtdsUnit, RtdsUnits, Vcpu,
+    Credit2Domain, Domain, Pool, Processor, Records, Resource, RtdsUnit, RtdsUnits,
 };
-
-/// When the work of the vCPU is done.
-#[tactic(auto, unfolding(plain_pool::specs::Ready::work_done_moment))]
-fn done_of(pool: &Pool, v: VcpuId) -> Option<Moment>
-    requires { PoolFits pool.now }
-    ensures { result ≡ work_done_moment pool.now v }
-{
-    match vcpu_of(pool.domains.as_slice(), v) {
-        None => None,
-        Some(x) => done_at(x),
-    }
-}
-
-/// When the work of the vCPU that the processor runs is done.
-#[tactic(auto, unfolding(plain_pool::specs::Ready::running_work_moment))]
-fn work_on(pool: &Pool, q: &Processor) -> Option<Moment>
-    requires { PoolFits pool.now }
-    ensures { result ≡ running_work_moment pool.now q.now }
-{
-    match q.doing {
-        Doing::Guest(v) => done_of(pool, v),
-        _ => None,
-    }
-}
 
 /// The least so far, or when the work on one of these processors is done.
 fn of_works(best: u64, pool: &Pool, processors: &[Processor]) -> u64
@@ -85,16 +58,6 @@ pub fn core_wait(pool: &Pool, r: ResId) -> u64
     }
 }
 
-/// The least so far, or when one of the vCPUs wakes.
-fn of_vcpus(best: u64, vcpus: &[Vcpu]) -> u64
-    ensures { result ≡ least_of_vcpus best vcpus.now }
-{
-    match vcpus {
-        [] => best,
-        [x, rest @ ..] => of_vcpus(lesser(best, x.asleep_until), rest),
-    }
-}
-
 /// What the vCPUs of the domain wait for, where it stays.
 fn of_domain(d: DomId, domains: &[Option<Domain>]) -> u64
     ensures { result ≡ wait_of_vcpus (at_place domains.now d.0) }
@@ -109,14 +72,6 @@ fn of_domain(d: DomId, domains: &[Option<Domain>]) -> u64
             }
         }
     }
-}
-
-/// Whether the unit waits or is on a core.
-fn is_about(pool: &Pool, u: UnitId) -> bool
-    requires { length pool.now.resources ≤ 64 }
-    ensures { result ≡ is_waiting_or_on pool.now u }
-{
-    has_unit(pool.scheduler.queue.as_slice(), u) || core_of(pool.resources.as_slice(), u).is_some()
 }
 
 /// The deadline of the unit, unless it has come and the unit neither waits nor is on a core.
