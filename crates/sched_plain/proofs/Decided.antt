@@ -28,7 +28,7 @@ use Rattle.sched_model.specs.NullScheduler as null
 use Rattle.sched_model.specs.Places.{at_place, change_at, change_each, change_item, has_listed_unit, is_unit, numbered_items, put_at, same_unit, test_at}
 use Rattle.sched_model.specs.Policy.{arinc_decision, decision_by, decision_of, is_replenish_due, next_refill_moment}
 use Rattle.sched_model.specs.Pool as pools
-use Rattle.sched_model.specs.Pool.{after_in, core_ask, decided_core, enabled_in, is_domain_unit, is_first_processor_up, is_gathering, is_held_back, is_lowest_processor_up, same_choice, unit_core}
+use Rattle.sched_model.specs.Pool.{core_ask, decided_core, enabled_in, is_domain_unit, is_first_processor_up, is_gathering, is_held_back, is_lowest_processor_up, same_choice, unit_core}
 use Rattle.sched_model.specs.Rtds as rtds
 use Rattle.sched_model.proofs.PlaceLemmas.{at_place-change_at_other}
 use Rattle.sched_laws.specs.PoolFacts.{IfUnit, IsKnownPool}

@@ -29,7 +29,7 @@ use Rattle.sched_model.specs.Policy.{decision_of, is_replenish_due, next_refill_
 use Rattle.sched_model.specs.Rtds as rtds
 use Rattle.sched_model.specs.State.{is_awake, may_unit_run}
 use Rattle.sched_model.specs.Pool as pools
-use Rattle.sched_model.specs.Pool.{after_in, change_core, core_ask, change_processor, change_vcpu, decided_core, done_moment, due_within, enabled_in, is_domain_unit, is_first_processor_up, is_held_back, is_idling, is_unit_off, joined_siblings, pending_core, pool_processor, pool_vcpu, put_to_sleep, queue_unit, reopened_core, running_guest, saved_core, saving_among, started_on, stopped_vcpu, unit_core, vcpu_to_run, vcpu_unit, with_doing, with_records, woken_vcpu}
+use Rattle.sched_model.specs.Pool.{after_in, change_core, core_ask, change_processor, change_vcpu, decided_core, done_moment, due_within, enabled_in, is_domain_unit, is_held_back, is_idling, is_unit_off, pending_core, pool_processor, pool_vcpu, put_to_sleep, queue_unit, reopened_core, running_guest, saved_core, saving_among, started_on, stopped_vcpu, unit_core, vcpu_to_run, vcpu_unit, with_doing, with_records, woken_vcpu}
 use Rattle.sched_model.proofs.PlaceLemmas.{at_place-change_at_other}
 use Rattle.sched_laws.specs.Counts.{one_at}
 use Rattle.sched_laws.specs.PoolFacts.{IsKnownPool, core_places}
