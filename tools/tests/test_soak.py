@@ -64,6 +64,15 @@ class Spoiled(unittest.TestCase):
         self.assertIsNotNone(spoiling.fault_of_ordered_verdict(SCHEDULE, spoiled, calls.Ended(9, b"no 3 Cut\n", b"")))
 
 
+    def test_behind_a_run_that_its_limit_cut_off(self):
+        cut = LINES[:3]
+        longer = spoiling.doubled(cut, 2, random.Random(1))
+        behind = calls.Ended(9, f"no 4 Moment 0\n{LINES[4]}\n".encode(), b"")
+        self.assertIsNone(spoiling.fault_of_ordered_verdict(spoiling.joined(cut), longer, behind))
+        self.assertIsNotNone(spoiling.fault_of_ordered_verdict(SCHEDULE, longer, behind))
+        self.assertIsNotNone(spoiling.fault_of_ordered_verdict(spoiling.joined(cut), longer, calls.Ended(9, b"no 3 Moment 0\n", b"")))
+
+
 class Small(unittest.TestCase):
     def test_lines_are_taken_away_while_it_fails(self):
         texts = Texts(b"format = 1\n[[pool]]\na\n[[domain]]\nb\nwanted\n[[domain]]\nc\n", b"".join(b"%d\n" % k for k in range(50)), 9)
