@@ -1,48 +1,36 @@
 -- A search for a newline parts the bytes, and a text that begins with a line is parted in one way alone.
-use Rattle.std.proofs.Common.{◌≡◌, ◌≢◌, ℕ, suc, ◌+◌, ◌<◌, Bool, true, false, List, [], ◌∷◌, ◌++◌, Some, None, length, take, drop, refl, sym, ap, ◌∙◌, cond, arith, nat_lt, ◌==◌, subst, get_or, add-one, append_assoc}
-use Rattle.std.proofs.lemmas.Bool.{ltb-false, eqb-true}
-use Rattle.std.proofs.lemmas.List.{get_or-take, take-append-drop, length-take}
+use Rattle.std.proofs.Common.{◌≡◌, ◌≢◌, ℕ, suc, ◌+◌, ◌<◌, List, [], ◌∷◌, ◌++◌, Some, None, length, take, drop, refl, sym, ap, ◌∙◌, arith, get_or, add-one, append_assoc, eq-eqb}
+use Rattle.std.proofs.lemmas.Bool.{eqb-true}
+use Rattle.std.proofs.lemmas.List.{get_or-take, get_or_default, take-append-drop, length-take}
 use Rattle.std.proofs.Math.Seq.{drop-cons}
-use Rattle.std.specs.List.{position, position_or_len}
-use Rattle.std.proofs.lemmas.List.Sums.{fails_before_first}
-use Rattle.std.proofs.lemmas.List.Quantifiers.{position-Some}
+use Rattle.memchr.specs.Find.{IsFirstByte, Passes, is_byte}
 use Rattle.std.proofs.lemmas.List.Elements.{All-head, All-tail}
 use Rattle.sched_model.specs.declared.event.Entry.{Entry}
 use Rattle.sched_print.specs.Line.{words, line}
 use Rattle.sched_print.proofs.Texts.{lines_are_lines}
 use Rattle.sched_check.specs.Lines.{HasNone, IsParted}
 
-abbrev is_newline : ℕ → Bool
-is_newline b = b == 10
-
-not_newline : (b : ℕ) → is_newline b ≡ false → b ≢ 10
-not_newline b is_not same =
-    let bad : is_newline 10 ≡ false = subst (λ (z : ℕ). is_newline z ≡ false) same is_not in
-    cc
-
-none_by_test : (bytes : List ℕ) (found : Bool) → found ≡ nat_lt (position_or_len is_newline bytes) (length bytes) → cond found (Some (position_or_len is_newline bytes)) None ≡ None → HasNone bytes
-none_by_test bytes true e is = absurd (cc)
-none_by_test bytes false e is =
-    let past = ltb-false _ _ (sym e) in
-    λ k d l. not_newline (get_or bytes k d) (fails_before_first is_newline bytes k d (omega arith))
+-- a byte that the search passed by is no newline
+missed : (bytes : List ℕ) (k d : ℕ) → k < length bytes → (Passes (is_byte 10) bytes k → ⊥) → get_or bytes k d ≢ 10
+missed bytes k d low misses same = misses (eq-eqb (get_or bytes k 0) 10 (get_or_default bytes k 0 d low ∙ same))
 
 -- where none is found, there is none
-pub found_none : (bytes : List ℕ) → position is_newline bytes ≡ None → HasNone bytes
-found_none bytes is = none_by_test bytes _ refl is
+pub found_none : (bytes : List ℕ) → IsFirstByte (is_byte 10) bytes None → HasNone bytes
+found_none bytes nowhere = λ k d low. missed bytes k d low (nowhere k (omega arith) low)
 
 -- the first one parts the bytes
-pub found_some : (bytes : List ℕ) (i : ℕ) → position is_newline bytes ≡ Some i → IsParted bytes (take i bytes) (drop (i + 1) bytes)
-found_some bytes i is =
-    let found = position-Some is_newline bytes i 0 is in
+pub found_some : (bytes : List ℕ) (i : ℕ) → IsFirstByte (is_byte 10) bytes (Some i) → IsParted bytes (take i bytes) (drop (i + 1) bytes)
+found_some bytes i found =
+    let high = found.0.high in
     let at : get_or bytes i 0 ≡ 10 = eqb-true (get_or bytes i 0) 10 found.1 in
     let behind : drop i bytes ≡ 10 ∷ drop (i + 1) bytes =
-    drop-cons bytes i 0 found.0 ∙ ap (λ (z : ℕ). z ∷ drop (suc i) bytes) at ∙ ap (λ (n : ℕ). 10 ∷ drop n bytes) (sym (add-one i)) in
+    drop-cons bytes i 0 high ∙ ap (λ (z : ℕ). z ∷ drop (suc i) bytes) at ∙ ap (λ (n : ℕ). 10 ∷ drop n bytes) (sym (add-one i)) in
     record {
       parts = sym (take-append-drop i bytes) ∙ ap (λ (z : List ℕ). take i bytes ++ z) behind;
       inner = λ k d below.
           let inside : k < i = omega (arith, below, length-take i bytes) in
-          not_newline (get_or (take i bytes) k d)
-          (ap is_newline (get_or-take i bytes k d inside) ∙ (position-Some is_newline bytes i d is).2 k inside);
+          let there : k < length bytes = omega (arith, inside, high) in
+          λ same. missed bytes k d there (found.0.before k (omega arith) inside) (sym (get_or-take i bytes k d inside) ∙ same);
     }
 
 head_not : (b : ℕ) (bytes : List ℕ) → HasNone (b ∷ bytes) → b ≢ 10

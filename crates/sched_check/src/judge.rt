@@ -1,6 +1,6 @@
 //! The bytes of a schedule are judged line by line.
 
-ghost use Rattle.std.specs.Prelude.{◌≡◌, ◌==◌, ◌+◌, ◌<◌, ◌≤◌, length, position, MatchOption, IfOk, IfErr};
+ghost use Rattle.std.specs.Prelude.{◌≡◌, ◌+◌, ◌<◌, ◌≤◌, length, MatchOption, IfOk, IfErr};
 ghost use Rattle.sched_model.specs.CheckedMachine.{IsChecked};
 ghost use Rattle.sched_model.specs.Runs.{run_start};
 ghost use Rattle.sched_check.specs.declared.verdict.Verdict.TheVariants as verdict;
@@ -9,24 +9,18 @@ ghost use Rattle.sched_check.specs.ScheduleVerdict.{HoldsAt, IsTakenLine, IsVerd
 
 use crate::checker::Checker;
 use crate::verdict::{Cause, Verdict};
+use memchr::memchr;
 use sched_base::NoMemory;
 use sched_model::machine::Machine;
 use sched_print::read_entry;
 use std::alloc::Global;
-
-/// The place of the first newline.
-fn find_newline(bytes: &[u8]) -> Option<usize>
-    ensures { result ≡ position (λ b. b == 10) bytes.now }
-{
-    bytes.iter().position(|b| *b == b'\n')
-}
 
 /// The first line without its newline and the bytes behind it, or none where there is no newline.
 fn part(bytes: &[u8]) -> Option<(&[u8], &[u8])>
     ensures { MatchOption result (HasNone bytes.now)
         (λ parts. IsParted bytes.now parts.0.now parts.1.now) }
 {
-    match find_newline(bytes) {
+    match memchr(b'\n', bytes) {
         None => None,
         Some(end) => Some((&bytes[..end], &bytes[end + 1..])),
     }
