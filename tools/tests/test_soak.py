@@ -88,7 +88,7 @@ class Faulty(unittest.TestCase):
         self.assertNotIn(text.splitlines()[line - 1], ("# nothing", "5 stall 0 1"))
 
     def test_pythons_reader(self):
-        for text, is_one in ((b"a = 1\n", True), (b"a = 9223372036854775808\n", False), (b"a = 2E999", False), (b"a = -inf", True), (b"a = \n", False), (b"\xff", False), (b"a = [[1, 2], [9223372036854775807]]", True)):
+        for text, is_one in ((b"a = 1\n", True), (b"a = 9223372036854775808\n", False), (b"a = 2E999", False), (b"a = -inf", True), (b"a = \n", False), (b"\xff", False), (b"a = [[1, 2], [9223372036854775807]]", True), (b'a = "B\\e"', None), (b'a = "B\\q"', False)):
             self.assertEqual(bad_files.is_toml(text), is_one)
 
 

@@ -1,5 +1,6 @@
 """Spoils domain files, work files and schedules, so that mostly they are none: each call has to end as the pages say, whatever the bytes are."""
 import math
+import re
 import tomllib
 
 from .trials import Trial
@@ -96,11 +97,17 @@ def float_of(text):
     return 2**64 if math.isinf(value) and "inf" not in text else value
 
 
+# Escapes that TOML 1.1 has and TOML 1.0 has not.
+NEWER_ESCAPE = re.compile(rb"\\[ex]")
+
+
 def is_toml(text):
-    """Whether Python's reader takes the text, or None where it cannot say: it gives up where values stand too deep in others."""
+    """Whether Python's reader takes the text, or None where it cannot say: it gives up where values stand too deep in others, and knows no escape of TOML 1.1."""
     try:
         return integers_fit(tomllib.loads(text.decode("utf-8"), parse_float=float_of))
-    except (tomllib.TOMLDecodeError, UnicodeDecodeError):
+    except tomllib.TOMLDecodeError:
+        return None if NEWER_ESCAPE.search(text) else False
+    except UnicodeDecodeError:
         return False
     except RecursionError:
         return None
