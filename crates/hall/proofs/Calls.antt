@@ -145,8 +145,8 @@ module _ (b : Chronicle) (s0 s1 s2 s3 s4 : Sitting) (took : KeepsSight s0 s1) (s
   count-in : (e : Event) (decides : ℕ) → IsCountBefore b.input.config.granularity b.history e decides → IsCountBefore s0.view.input.config.granularity b.history e decides
   count-in e decides counted = subst (λ (m : Machine). IsCountBefore m.config.granularity b.history e decides) input counted
 
-  event-in : (actor : Actor) (place : ℕ) (e : Event) (decides : ℕ) → SettlesEvent actor place e decides b s2 s3 → DoneIn actor (done.Event place e) decides s0.view s4.view
-  event-in actor place e decides settled =
+  acted-in : (actor : Actor) (place : ℕ) (e : Event) (decides : ℕ) → SettlesEvent actor place e decides b s2 s3 → HasActed actor place e b.history s0.view s4.view × IsCountBefore s0.view.input.config.granularity b.history e decides
+  acted-in actor place e decides settled =
       let on = actor-comes b.input (state_in b) actor settled.action settled.first in
       let acted : HasActed actor place e b.history s0.view s4.view = record {
         action = settled.action;
@@ -154,7 +154,10 @@ module _ (b : Chronicle) (s0 s1 s2 s3 s4 : Sitting) (took : KeepsSight s0 s1) (s
         is_event = at-seat (λ m s. e ≡ event_of m s s.now settled.action) settled.is_event;
         added = added-in place e settled.adds.place_is settled.adds.entered (run-with b checked run settled.action on e settled.is_event);
       } in
-      (b.history, acted, count-in e decides settled.adds.counted)
+      (acted, count-in e decides settled.adds.counted)
+
+  event-in : (actor : Actor) (place : ℕ) (e : Event) (decides : ℕ) → SettlesEvent actor place e decides b s2 s3 → DoneIn actor (done.Event place e) decides s0.view s4.view
+  event-in actor place e decides settled = (let both = acted-in actor place e decides settled in (b.history, both.0, both.1))
 
   nothing-in : (actor : Actor) (decides : ℕ) → SettlesNothing actor b s2 s3 → DoneIn actor done.Nothing decides s0.view s4.view
   nothing-in actor decides settled = record {
@@ -244,6 +247,10 @@ module _ (set hall : LockTable) (b : Chronicle) (s0 s1 s2 s3 s4 : Sitting) (took
   pub done-held : (actor : Actor) (r : Result (Done × ℕ) Full) → IfOk r (λ d. Settles actor d.0 d.1 b s2 s3) → IfOk r (λ d. DoneIn actor d.0 d.1 s0.view s4.view)
   done-held actor (Ok d) settled = done-in b s0 s1 s2 s3 s4 took sees gave input-held checked-held (run-held set b s2 has current) actor d.0 d.1 settled
   done-held actor (Err full) settled = tt
+
+  -- and the entry of an event stands behind the book's history
+  pub acted-held : (actor : Actor) (place : ℕ) (e : Event) (decides : ℕ) → SettlesEvent actor place e decides b s2 s3 → HasActed actor place e b.history s0.view s4.view × IsCountBefore s0.view.input.config.granularity b.history e decides
+  acted-held = acted-in b s0 s1 s2 s3 s4 took sees gave input-held checked-held (run-held set b s2 has current)
 
   pub fills-held : (actor : Actor) (r : Result (Done × ℕ) Full) → IfErr r (λ full. SettlesFull actor full b s2 s3) → IfErr r (λ full. ActsFull actor full s0.view s4.view)
   fills-held actor (Ok d) settled = tt

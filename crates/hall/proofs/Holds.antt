@@ -135,7 +135,7 @@ acts-stay actor [] old new acts = kept-stays old.sitting new.sitting acts.sight
 acts-stay actor (place ∷ places) old new acts = stays-on old.sitting acts.0.sitting new.sitting (acts-stay actor places old acts.0 acts.1) acts.2.stays
 
 -- each act has its place in the history
-once-longer : (actor : Actor) (place : ℕ) (old new : Seated) → HasActedOnce actor place old new → (length old.sitting.view.front ≤ place) × (length new.sitting.view.front ≡ place + 1)
+pub once-longer : (actor : Actor) (place : ℕ) (old new : Seated) → HasActedOnce actor place old new → (length old.sitting.view.front ≤ place) × (length new.sitting.view.front ≡ place + 1)
 once-longer actor place old new once =
     let added = once.done.1.added in
     let less = prefix_length old.sitting.view.front once.done.0 added.begins in
@@ -179,14 +179,6 @@ filled-held actor full first old mid new took gave filled = record {
   full_is = full-gave filled.mid.sitting.view mid.sitting new.sitting gave.sight actor full filled.full_is;
   arrived = gave.arrived ∙ filled.arrived;
 }
-
-pub held-said : (actor : Actor) (r : Result Acted Full) (first old mid new : Seated) → IsAsBefore first old → IsAsBefore mid new → IfOk r (λ acted. HasActedAll actor acted old mid) → IfOk r (λ acted. HasActedAll actor acted first new)
-held-said actor (Ok acted) first old mid new took gave all = all-held actor acted first old mid new took gave all
-held-said actor (Err full) first old mid new took gave all = tt
-
-pub held-filled : (actor : Actor) (r : Result Acted Full) (first old mid new : Seated) → IsAsBefore first old → IsAsBefore mid new → IfErr r (λ full. HasFilled actor full old mid) → IfErr r (λ full. HasFilled actor full first new)
-held-filled actor (Ok acted) first old mid new took gave filled = tt
-held-filled actor (Err full) first old mid new took gave filled = filled-held actor full first old mid new took gave filled
 
 -- the pool whose lock is held lists the actor's name, so it is there and has the actor
 module _ (hall : LockTable) (k t : ℕ) (slot : Option PoolSeen) (s : Seated) (actor : Actor) (name : NameId) (named : IsNamed hall.opened.input actor name) (hold : InHold hall k (name_number name) t slot s) where

@@ -11,8 +11,14 @@ pub mod Parting
 pub mod Performing
 mod PoolCrossing
 pub mod Processors
+pub mod Reading
 pub mod Resting
 pub mod Turning
 pub mod UnderAll
 pub mod UnderOne
+pub mod Doers
+pub mod Together
 pub mod Holds
+pub mod GoingOn
+pub mod Serving
+pub mod ServingOn

@@ -5,6 +5,8 @@ use Rattle.std.proofs.Common.{◌≡◌, ◌≢◌, ◌∙◌, ◌<◌, ◌/◌,
 use Rattle.std.specs.Prelude.{Option, Some, None, is_some, nat_lt}
 use Rattle.std.specs.Option.{ForSome, IsSome}
 use Rattle.sched_base.specs.Numbers.{core, moment, processor}
+use Rattle.sched_base.specs.declared.DomId.{DomId}
+use Rattle.sched_base.specs.declared.ProcId.{ProcId}
 use Rattle.sched_model.specs.declared.action.Action.{Action}
 use Rattle.sched_model.specs.declared.action.Action.TheVariants.{Arrive}
 use Rattle.sched_model.specs.declared.action.Actor.{Actor}
@@ -20,7 +22,8 @@ use Rattle.sched_model.specs.Machine.{event_of, is_action_enabled}
 use Rattle.sched_model.specs.Places.{at_place}
 use Rattle.sched_model.specs.Runs.{IsRun, event_action}
 use Rattle.sched_base.proofs.Bools.{and_left, and_right}
-use Rattle.sched_laws.proofs.Lists.{some_is}
+use Rattle.sched_laws.proofs.Lists.{is_some_at, some_is, test_at-some}
+use Rattle.sched_laws.proofs.Reached.{is_apart}
 use Rattle.journal_core.specs.Books.{Chronicle}
 use Rattle.journal_core.specs.Histories.{state_at}
 use Rattle.journal_core.specs.Parts.{StatePart, ToolPart, is_name, lists, part_of, pool_lists, tool_lock, tool_of, tool_part}
@@ -200,13 +203,17 @@ actor-there m now actor name named slot suits listed seen is =
 
 -- where the tool's part lists the actor's name, its core is free, and nothing of it may come
 module _ (set hall : LockTable) (b : Chronicle) (s : Sitting) (has : HasBook set b s) (current : Current s.view) (of_hall : IsChecked hall.opened.input) (input : b.input ≡ hall.opened.input) (part : ToolPart) (knows : IsAsKnown tool_lock (tool_part part) s.view) where
+  abbrev there-free : List (Option FreeCore)
+  there-free = (state_at b.input b.history).free
+
   free-listed : (n : ℕ) → lists (tool_part part) n ≡ true → (nat_lt n 64 && is_some (at_place (tool_of (state_in b)).free n)) ≡ true
   free-listed n listed =
       let is : (let p : StatePart = tool_part part in p) ≡ part_of (state_of (told_of b)) tool_lock = part-held set b s has current tool_lock (tool_part part) (omega arith) knows ∙ part_of-is (told_of b) tool_lock in
       subst (λ (p : StatePart). lists p n ≡ true) is listed
 
-  nothing-free : (m : Machine) → m ≡ b.input → (actor : Actor) (name : NameId) → IsNamed m actor name → lists (tool_part part) (name_number name) ≡ true → first_by b.input (state_in b) actor ≡ None
-  nothing-free m is (Proc p) name named listed =
+  -- the core of such a processor is free; a domain is never listed
+  free-core : (m : Machine) → m ≡ b.input → (p : ProcId) (name : NameId) → IsNamed m (Proc p) name → lists (tool_part part) (name_number name) ≡ true → (c : FreeCore) × (at_place there-free (p.0 / b.input.config.granularity) ≡ Some c)
+  free-core m is p name named listed =
       let r : ℕ = p.0 / m.config.granularity in
       let same : name ≡ name_id.Res (core r) = same-name (name_id.Res (core r)) name named.is in
       let both = free-listed r (subst (λ (n : NameId). lists (tool_part part) (name_number n) ≡ true) same listed) in
@@ -214,15 +221,36 @@ module _ (set hall : LockTable) (b : Chronicle) (s : Sitting) (has : HasBook set
       let free : is_some (at_place (state_in b).free r) ≡ true = sym (some_mapped (λ (c : FreeCore). c.stall_ends) r (state_in b).free) ∙ ends in
       let c = some_is (at_place (state_in b).free r) free in
       let state : state_in b ≡ state_at b.input b.history = state_of-is (told_of b) in
-      let at : at_place (state_at b.input b.history).free (p.0 / b.input.config.granularity) ≡ Some c.0 =
-      subst (λ (x : Machine). at_place (state_at b.input b.history).free (p.0 / x.config.granularity) ≡ Some c.0) is (subst (λ (x : State). at_place x.free r ≡ Some c.0) state c.1) in
-      subst (λ (x : State). first_by b.input x (Proc p) ≡ None) (sym state) (none_of_free b.input (subst IsChecked (sym input) of_hall) b.history (run-held set b s has current) p c.0 at)
-  nothing-free m is (Dom d) name named listed =
+      (c.0, subst (λ (x : Machine). at_place there-free (p.0 / x.config.granularity) ≡ Some c.0) is (subst (λ (x : State). at_place x.free r ≡ Some c.0) state c.1))
+
+  no-domain : (d : ℕ) → lists (tool_part part) (64 + d) ≡ true → ⊥
+  no-domain d listed =
+      let both = free-listed (64 + d) listed in
+      let low : nat_lt (64 + d) 64 ≡ true = and_left (nat_lt (64 + d) 64) (is_some (at_place (tool_of (state_in b)).free (64 + d))) both in
+      true≢false (sym low ∙ high_name d)
+
+  domain-listed : (m : Machine) (d : DomId) (name : NameId) → IsNamed m (Dom d) name → lists (tool_part part) (name_number name) ≡ true → ⊥
+  domain-listed m d name named listed =
       let same : name ≡ name_id.Dom d = same-name (name_id.Dom d) name named.is in
-      let both = free-listed (64 + d.0) (subst (λ (n : NameId). lists (tool_part part) (name_number n) ≡ true) same listed) in
-      let low : nat_lt (64 + d.0) 64 ≡ true = and_left (nat_lt (64 + d.0) 64) (is_some (at_place (tool_of (state_in b)).free (64 + d.0))) both in
-      absurd (true≢false (sym low ∙ high_name d.0))
+      no-domain d.0 (subst (λ (n : NameId). lists (tool_part part) (name_number n) ≡ true) same listed)
+
+  nothing-free : (m : Machine) → m ≡ b.input → (actor : Actor) (name : NameId) → IsNamed m actor name → lists (tool_part part) (name_number name) ≡ true → first_by b.input (state_in b) actor ≡ None
+  nothing-free m is (Proc p) name named listed =
+      let c = free-core m is p name named listed in
+      let state : state_in b ≡ state_at b.input b.history = state_of-is (told_of b) in
+      subst (λ (x : State). first_by b.input x (Proc p) ≡ None) (sym state) (none_of_free b.input (subst IsChecked (sym input) of_hall) b.history (run-held set b s has current) p c.0 c.1)
+  nothing-free m is (Dom d) name named listed = absurd (domain-listed m d name named listed)
   nothing-free m is Tool name named listed = absurd (no-name name named.is)
+
+  -- so no pool has the actor
+  pub free-alone : (m : Machine) → m ≡ b.input → (actor : Actor) (name : NameId) → IsNamed m actor name → lists (tool_part part) (name_number name) ≡ true → (i : ℕ) (pool : Pool) → at_place (state_at b.input b.history).pools i ≡ Some pool → has_actor b.input.config.granularity pool actor ≡ true → ⊥
+  free-alone m is (Proc p) name named listed i pool stood mine =
+      let r : ℕ = p.0 / b.input.config.granularity in
+      let c = free-core m is p name named listed in
+      (is_apart b.input (subst IsChecked (sym input) of_hall) b.history (run-held set b s has current)).free i r (is_some_at (at_place there-free r) c.0 c.1)
+      (test_at-some (state_at b.input b.history).pools i (λ (x : Pool). is_some (at_place x.resources r)) pool stood mine)
+  free-alone m is (Dom d) name named listed i pool stood mine = absurd (domain-listed m d name named listed)
+  free-alone m is Tool name named listed i pool stood mine = absurd (no-name name named.is)
 
   pub free-settles : (actor : Actor) (name : NameId) → IsNamed hall.opened.input actor name → lists (tool_part part) (name_number name) ≡ true → (new : Sitting) → KeepsSight s new → SettlesNothing actor b s new
   free-settles actor name named listed new keeps = record { keeps = keeps; none = nothing-free hall.opened.input (sym input) actor name named listed }

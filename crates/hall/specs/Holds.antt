@@ -5,6 +5,7 @@ use Rattle.sched_model.specs.declared.action.Actor.{Actor}
 use Rattle.sched_model.specs.declared.action.Actor.TheVariants.{Proc, Dom, Tool}
 use Rattle.sched_model.specs.declared.event.Event.{Event}
 use Rattle.sched_model.specs.declared.machine.Machine.{Machine}
+use Rattle.journal_core.specs.Books.{Chronicle}
 use Rattle.pool_core.specs.Seen.{Seen as PoolSeen}
 use Rattle.lock_moves.specs.Sets.{HasName, LockTable}
 use Rattle.lock_moves.specs.SeatSight.{Sitting}
@@ -16,7 +17,7 @@ use Rattle.hall.specs.declared.turns.Full.{Full}
 use Rattle.hall.specs.BookTurns.{HoldsOnly, IsNamed}
 use Rattle.hall.specs.SeatKnowledge.{KnowsPool}
 use Rattle.hall.specs.Seats.{IsCounted, IsOf, Seated, Stays}
-use Rattle.hall.specs.Steps.{KeepsSight}
+use Rattle.hall.specs.Steps.{HasTakenBook, KeepsOthers, KeepsSight}
 use Rattle.hall.specs.Turns.{ActsFull, HasNothing, IsDone, is_actor}
 
 -- the actor is a processor or a domain, whose events are those of one pool
@@ -90,10 +91,16 @@ pub record InHold (hall : LockTable) (k n t : ℕ) (slot : Option PoolSeen) (s :
   pub now : t ≡ s.sitting.view.now
   pub inside : IsArrivalOf hall s
 
--- an act of the actor at the place that is answered, or a look that found nothing of it
-abbrev pub ActsOrLooks : Actor → Option ℕ → Seated → Seated → Type 0
-ActsOrLooks actor (Some place) old new = HasActedOnce actor place old new
-ActsOrLooks actor None old new = IsDone actor done.Nothing old new
+-- the same of a seat that has the book b in its hands, which it took when it sat as `mid`
+pub record InHoldOn (hall : LockTable) (k n t : ℕ) (slot : Option PoolSeen) (b : Chronicle) (mid : Sitting) (s : Seated) : Type 0 where
+  pub hold : InHold hall k n t slot (seated mid s.arrived)
+  pub took : HasTakenBook hall b mid s.sitting
+
+-- the seat knows this place under the lock k, has the names for the lock that it had, and of every other lock knows what it knew
+pub record StaysAtPool (k : ℕ) (slot : Option PoolSeen) (old new : Sitting) : Type 0 where
+  pub knows : KnowsPool k slot new.view
+  pub names : (n : ℕ) → HasName k n old.view → HasName k n new.view
+  pub others : KeepsOthers k old.view new.view
 
 -- whose events a hold does: an actor of some pool of the input, and its name
 pub record IsHolder (m : Machine) (holder : Holder) : Type 0 where

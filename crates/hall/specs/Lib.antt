@@ -6,3 +6,4 @@ pub mod Moves
 pub mod Turns
 pub mod BookTurns
 pub mod Holds
+pub mod Serving

@@ -54,6 +54,15 @@ pub record SeesBook (b : Chronicle) (old new : Sitting) : Type 0 where
   pub takes : old.view.takes < new.view.takes
   pub alone : old.view.shares ≡ 1024 → b.history ≡ old.view.front
 
+-- the seat, which sat as `old`, has taken the book b: all that it knows is current, of the locks that it held it knows what it knew, and the moment
+-- is the same
+pub record HasTakenBook (set : LockTable) (b : Chronicle) (old new : Sitting) : Type 0 where
+  pub has : HasBook set b new
+  pub current : Current new.view
+  pub sees : SeesBook b old new
+  pub locks : (k : ℕ) → k ≢ book_lock → find_lock k new.view.held ≡ find_lock k old.view.held
+  pub now : new.view.now ≡ old.view.now
+
 -- the seat has added the entry to the book b, and has given the book back
 pub record HasEntered (b : Chronicle) (entry : Entry) (old new : Sitting) : Type 0 where
   pub table : new.table ≡ old.table
@@ -102,6 +111,13 @@ pub record KeepsOthers (i : ℕ) (old new : Seen) : Type 0 where
   pub others : (k : ℕ) → book_lock < k → find_lock k old.held ≡ None → find_lock k new.held ≡ None
   pub book : find_lock book_lock new.held ≡ None
   pub moment : new.now ≡ old.now
+
+-- the seat has added the entry to the book `old_book`, which is `book` then, and has kept it: as if it gave it back, sat as `mid`, and took it again
+pub record GoesOnWith (set : LockTable) (old_book book : Chronicle) (entry : Entry) (old mid new : Sitting) : Type 0 where
+  pub entered : HasEntered old_book entry old mid
+  pub knows : KnowsAfter (old_book.history ++ entry ∷ []) old.view mid.view
+  pub took : HasTakenBook set book mid new
+  pub history : book.history ≡ old_book.history ++ entry ∷ []
 
 -- the input has the core, and the seat has its name for a lock that it holds
 pub record HasCore (r : ℕ) (v : Seen) : Type 0 where

@@ -170,7 +170,7 @@ impl Hall {
     }
 
     /// The same, and the seat goes on holding the lock. The moment is t.
-    pub(crate) fn act_held<R: Wait, G: Gate>(
+    fn act_held<R: Wait, G: Gate>(
         &self,
         rt: &R,
         seat: &mut LockSeat,

@@ -1,15 +1,15 @@
-//! The book in a seat's hands: taken, put back as it was, or put back with one entry more.
+//! The book in a seat's hands: taken, put back as it was, or put back or kept with one entry more.
 
 ghost use Rattle.sched_base.specs.Numbers.{core};
 ghost use Rattle.std.specs.Prelude.{◌≡◌, ◌≢◌, ◌<◌, ◌++◌, ◌∷◌, [], ℕ, Some, length};
 ghost use Rattle.sched_model.specs.declared.action.Action.TheVariants.{Decide};
 ghost use Rattle.sched_model.specs.CheckedMachine.{IsChecked};
 ghost use Rattle.sched_model.specs.Runs.{IsNext, event_action};
-ghost use Rattle.journal_core.specs.Histories.{reached_by};
-ghost use Rattle.lock_moves.specs.Plays.{Current, Kept, Placed};
-ghost use Rattle.lock_moves.specs.SeatSight.{AllBelow, Known, find_lock};
+ghost use Rattle.journal_core.specs.Histories.{NamesStandOnce, reached_by};
+ghost use Rattle.lock_moves.specs.Plays.{Current, Decided, Kept, Placed};
+ghost use Rattle.lock_moves.specs.SeatSight.{AllBelow, Known, Sitting, find_lock};
 ghost use Rattle.lock_moves.specs.Sets.{sitting_with};
-ghost use Rattle.hall.specs.Steps.{HasBook, HasCore, HasEntered, KeepsLocks, KeepsSight, KnowsAfter, SeesBook, deciding_view};
+ghost use Rattle.hall.specs.Steps.{GoesOnWith, HasBook, HasCore, HasEntered, KeepsLocks, KeepsSight, KnowsAfter, SeesBook, deciding_view};
 ghost use Rattle.lock_moves.specs.Words.{book_lock};
 
 use crate::value::PartState;
@@ -57,7 +57,29 @@ fn raise_stage(set: &LockSet<PartState>, seat: &mut LockSeat, book: &HeldBook, e
     }
 }
 
-/// Adds the next entry of the run to the book, and puts the book back. A decision first raises the stage word of its core.
+/// Adds the next entry of the run to the book in the seat's hands. A decision first raises the stage word of its core.
+fn add_entry(set: &LockSet<PartState>, seat: &mut LockSeat, book: &mut HeldBook, entry: Entry)
+    requires has { HasBook set.now book.old seat.old }
+    requires checked { IsChecked book.old.input }
+    requires next { IsNext book.old.input (reached_by book.old.input book.old.history) entry }
+    requires room { length book.old.history < book.old.limit }
+    requires core { (r : ℕ) → event_action entry.event ≡ Some (Decide (core r)) →
+        HasCore r seat.old.view }
+    ensures seat { seat.new ≡ sitting_with seat.old (deciding_view entry.event seat.old.view) }
+    ensures input { book.new.input ≡ book.old.input }
+    ensures limit { book.new.limit ≡ book.old.limit }
+    ensures history { book.new.history ≡ book.old.history ++ entry ∷ [] }
+    ensures decided { Decided seat.new.view book.new.history }
+    ensures names { NamesStandOnce book.new.input book.new.history }
+{
+    law_names_stand_once();
+    law_decided();
+    raise_stage(set, seat, book, entry.event);
+    book.get_mut().commit(entry);
+    book.get().tell();
+}
+
+/// Adds the next entry of the run to the book, and puts the book back.
 pub(crate) fn enter(set: &LockSet<PartState>, seat: &mut LockSeat, book: HeldBook, entry: Entry)
     requires has { HasBook set.now book seat.old }
     requires checked { IsChecked book.input }
@@ -70,11 +92,28 @@ pub(crate) fn enter(set: &LockSet<PartState>, seat: &mut LockSeat, book: HeldBoo
     ensures entered { HasEntered book entry seat.old seat.new }
     ensures knows { KnowsAfter (book.history ++ entry ∷ []) seat.old.view seat.new.view }
 {
-    law_names_stand_once();
-    law_decided();
-    raise_stage(set, seat, &book, entry.event);
     let mut book = book;
-    book.get_mut().commit(entry);
-    book.get().tell();
+    add_entry(set, seat, &mut book, entry);
     set.commit(seat, book);
+}
+
+/// The same, and the seat goes on holding the book, in which the entry now is: as if it took the book again at once.
+pub(crate) fn enter_on(
+    set: &LockSet<PartState>,
+    seat: &mut LockSeat,
+    book: &mut HeldBook,
+    entry: Entry,
+)
+    requires has { HasBook set.now book.old seat.old }
+    requires checked { IsChecked book.old.input }
+    requires next { IsNext book.old.input (reached_by book.old.input book.old.history) entry }
+    requires room { length book.old.history < book.old.limit }
+    requires kept { Kept seat.old.view (book.old.history ++ entry ∷ []) }
+    requires placed { Placed seat.old.view (book.old.history ++ entry ∷ []) }
+    requires core { (r : ℕ) → event_action entry.event ≡ Some (Decide (core r)) →
+        HasCore r seat.old.view }
+    ensures { (mid : Sitting) × GoesOnWith set.now book.old book.new entry seat.old mid seat.new }
+{
+    add_entry(set, seat, book, entry);
+    set.commit_on(seat, book);
 }

@@ -1,17 +1,18 @@
 //! The hall: a machine whose parts lie under locks, and the calls that open it, share it out and end it.
 //!
-//! *Design.* A hall is one machine for many threads. Each works through a seat, its handle, which knows the beginning of the history that
-//! it has seen. A call does one entry of the run or none: the first event of an actor, that is of a processor, of a domain or of the tool
-//! (`act`), all such events of a processor or domain under one hold of its pool (`act_all`), or the next entry of the whole machine
-//! (`close_or_step`), which alone ends moments and the run. What an entry says is judged in the state that the history before it leads to,
-//! so any order of the callers' steps makes the beginning of a run.
+//! *Design.* A hall is one machine for many threads. Each works through a seat, its handle, which knows the beginning of the history that it has
+//! seen. A call does one entry of the run or none: the first event of an actor, that is of a processor, of a domain or of the tool (`act`), all
+//! such events of a processor or domain under one hold of its pool (`act_all`), all events of a pool, whoever does them (`act_pool`), or the next
+//! entry of the whole machine (`close_or_step`), which alone ends moments and the run. What an entry says is judged in the state that the history
+//! before it leads to, so any order of the callers' steps makes the beginning of a run.
 //!
-//! *Locking.* There are 18 locks (`lock_moves`): one for each slot of a pool, one for what the tool keeps, and one for the book with the
-//! history. An event of a processor or a domain takes two: its pool's, where it looks for the event, and then the book's, under which it
-//! does the event and adds the entry. So threads in different pools meet at the book alone. Commands, stalls, moves and the ends of moments
-//! take all 18. Locks are taken in rising order of their numbers, the book's last; between two calls a seat holds none. Which lock has a
-//! core or a domain is read from its name's word, and read again under the lock, since a move may have come between. `still_waits` is one
-//! load of a word, without a lock. `entry`, which reads the history, takes the book.
+//! *Locking.* There are 18 locks (`lock_moves`): one for each slot of a pool, one for what the tool keeps, and one for the book with the history.
+//! An event of a processor or a domain takes two: its pool's, where it looks for the event, and then the book's, under which it does the event and
+//! adds the entry; `act_all` and `act_pool` take both once, and keep the book for all their events. So threads in different pools meet at the book
+//! alone. Commands, stalls, moves and the ends of moments take all 18. Locks are taken in rising order of their numbers, the book's last; between
+//! two calls a seat holds none. Which lock has a core or a domain is read from its name's word, and read again under the lock, since a move may
+//! have come between. `still_waits` is one load of a word, without a lock. `entry` and `entries`, which read the history,
+//! take the book.
 //!
 //! *Time.* The moment is a word that is set only under all locks. So it stands still while any lock is held, and all events of a moment are
 //! done before it ends.
@@ -21,6 +22,8 @@
 //! may come in it.
 //!
 //! All memory of a run is taken in `open`.
+
+ghost use Rattle.std.specs.Prelude.{◌≡◌, [], drop, take, vec_capacity};
 
 use crate::book::{put_book, take_book};
 use crate::parts::open_values;
@@ -60,8 +63,22 @@ impl Model for Hall {
     ghost invariant = { λ h. IsHallOf h.set.opened.input h.granularity h.horizon.0 };
 }
 
+/// Puts the entries of the book from this place on into an empty list, as many as stand there and as the list has room for.
+fn copy_entries(book: &Book, from: u32, into: &mut Vec<Entry>)
+    requires empty { into.old.items ≡ [] }
+    ensures found { into.new.items ≡ take (vec_capacity into.old) (drop from book.now.history) }
+    ensures room { vec_capacity into.new ≡ vec_capacity into.old }
+{
+    for place in from..book.len() {
+        if into.len() >= into.capacity() {
+            return;
+        }
+        into.push_reserved(book.get(place));
+    }
+}
+
 impl Hall {
-    ghost use Rattle.std.specs.Prelude.{◌≡◌, ◌≤◌, ◌<◌, ℕ, [], true, None, IfOk, length, slice_get};
+    ghost use Rattle.std.specs.Prelude.{◌≡◌, ◌≤◌, ◌<◌, ℕ, [], true, None, IfOk, drop, length, slice_get, take, vec_capacity};
     ghost use Rattle.sched_model.specs.CheckedMachine.{IsChecked};
     ghost use Rattle.journal_core.specs.Books.{chronicle};
     ghost use Rattle.lock_moves.specs.SeatSight.{after_join, after_sharing, newcomer, opening_view, has_place};
@@ -170,6 +187,23 @@ impl Hall {
         };
         put_book(&self.set, &mut seat.seat, book);
         found
+    }
+
+    /// Puts the entries of the history from this place on, from 0, into an empty list, as many as stand there and as the list has room for. It takes the
+    /// book, and waits until it is free.
+    pub fn entries<R: Wait>(&self, rt: &R, seat: &mut HallSeat, from: u32, into: &mut Vec<Entry>)
+        requires of { IsOf self.now seat.old }
+        requires empty { into.old.items ≡ [] }
+        ensures stays { Stays seat.old seat.new }
+        ensures looked { Looked seat.old.sitting.view seat.new.sitting.view }
+        ensures arrived { seat.new.arrived ≡ seat.old.arrived }
+        ensures found { into.new.items
+            ≡ take (vec_capacity into.old) (drop from seat.new.sitting.view.front) }
+        ensures room { vec_capacity into.new ≡ vec_capacity into.old }
+    {
+        let book = take_book(rt, &self.set, &mut seat.seat);
+        copy_entries(book.get(), from, into);
+        put_book(&self.set, &mut seat.seat, book);
     }
 
     /// Whether the processor, whose last arrival this seat keeps, still waits for its siblings. That is told by one load of its core's stage

@@ -15,6 +15,7 @@ mod hold;
 mod parts;
 mod pools;
 mod seat;
+mod serve;
 mod turns;
 mod value;
 mod whole;

@@ -6,10 +6,12 @@ ghost use Rattle.machine_parts.specs.Places.{state_of};
 ghost use Rattle.machine_parts.specs.Told.{told_of};
 ghost use Rattle.lock_moves.specs.Sets.{HasName};
 ghost use Rattle.hall.specs.SeatKnowledge.{KnowsPool};
-ghost use Rattle.hall.specs.Steps.{HasActed, KeepsOthers, MayAct};
+ghost use Rattle.hall.specs.Steps.{HasActed, HasTakenBook, KeepsOthers, MayAct};
+ghost use Rattle.hall.specs.Holds.{StaysAtPool};
+ghost use Rattle.lock_moves.specs.SeatSight.{Sitting};
 ghost use Rattle.journal_core.specs.Parts.{tool_lock};
 
-use crate::book::enter;
+use crate::book::{enter, enter_on};
 use crate::value::PartState;
 use lock_moves::{HeldBook, LockSeat, LockSet};
 use machine_parts::{PoolSlot, Trail};
@@ -42,5 +44,31 @@ pub(crate) fn perform_at(
     let trail = Trail::of(book.get());
     let event = slot.perform(&trail, place, action, t);
     enter(set, seat, book, Entry { at: t, event });
+    event
+}
+
+/// The same, and the seat goes on holding the book, in which the entry now is: as if it took the book again at once.
+pub(crate) fn perform_on(
+    set: &LockSet<PartState>,
+    seat: &mut LockSeat,
+    book: &mut HeldBook,
+    slot: &mut PoolSlot,
+    place: u8,
+    action: Action,
+    t: Moment,
+) -> Event
+    requires may { MayAct set.now book.old seat.old action t }
+    requires number { place < tool_lock }
+    requires knows { KnowsPool place slot.old seat.old.view }
+    requires own { IsOfPool action }
+    requires home { home_pool_of_action book.old.input.config.granularity
+        (state_of (told_of book.old)) action ≡ Some place }
+    ensures { (mid : Sitting) × HasActed book.old action t result seat.old mid
+        × StaysAtPool place slot.new seat.old mid
+        × HasTakenBook set.now book.new mid seat.new }
+{
+    let trail = Trail::of(book.get());
+    let event = slot.perform(&trail, place, action, t);
+    enter_on(set, seat, book, Entry { at: t, event });
     event
 }

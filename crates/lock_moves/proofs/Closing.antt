@@ -11,7 +11,7 @@ use Rattle.journal_core.specs.Parts.{StatePart}
 use Rattle.sched_model.specs.declared.event.Entry.{Entry}
 use Rattle.sched_model.specs.declared.machine.Machine.{Machine}
 use Rattle.lock_moves.specs.declared.content.Content.{Content}
-use Rattle.lock_moves.specs.declared.content.Content.TheVariants.{Out, Value, Ledger}
+use Rattle.lock_moves.specs.declared.content.Content.TheVariants.{Out, Value, Ledger, Told}
 use Rattle.lock_moves.specs.SeatSight.{View, find_lock, has_place}
 use Rattle.lock_moves.specs.Agreement.{shares_of, Fits, Agrees}
 use Rattle.lock_moves.specs.TableContent.{AreParts, HaveParts, AreFirst}
@@ -64,6 +64,7 @@ module _ {V : Type 0} (part : V → StatePart) (suits : Machine → ℕ → V �
   ledger_there h Out fits = absurd fits
   ledger_there h (Value x) fits = absurd (lt_irrefl 17 fits.0)
   ledger_there h (Ledger b) fits = (b, refl, fits.1, fits.2, fits.3)
+  ledger_there h (Told b) fits = absurd fits
 
   pub leaves : (words : List ℕ) (xs : List (Content V)) (id : ℕ) (v : View) → Final (Seen (Agrees part suits m limit base) id v) words xs → v.seen.shares ≡ 1024 → v.seen.held ≡ [] → Leaves v xs
   leaves words xs id v f whole none_held = let s = f.0 in let r = f.1.0 in let at = f.1.1 in
@@ -80,6 +81,7 @@ module _ {V : Type 0} (part : V → StatePart) (suits : Machine → ℕ → V �
   value_there h k Out low fits = absurd fits
   value_there h k (Value x) low fits = (x, refl, fits.1)
   value_there h k (Ledger b) low fits = let is = fits.0 in absurd (omega (arith, is, low))
+  value_there h k (Told b) low fits = absurd fits
 
   pub leaves_parts : (words : List ℕ) (xs : List (Content V)) (id : ℕ) (v : View) → Final (Seen (Agrees part suits m limit base) id v) words xs → v.seen.shares ≡ 1024 → v.seen.held ≡ [] → HaveParts part suits v.seen.input v.seen.front xs
   leaves_parts words xs id v f whole none_held k low = let s = f.0 in let r = f.1.0 in let at = f.1.1 in

@@ -7,11 +7,12 @@ use lib.ListN.{get_elem?}
 use Rattle.atomic_table.proofs.Lists.{at_set, set_else}
 use Rattle.journal_core.specs.Parts.{lists}
 use Rattle.journal_core.specs.Histories.{part_at, home_at, NamesStandOnce}
+use Rattle.std.specs.declared.snapshot.Snapshot.{Snapshot}
 use Rattle.journal_core.specs.Books.{Chronicle}
 use Rattle.sched_model.specs.declared.event.Entry.{Entry}
 use Rattle.sched_model.specs.declared.machine.Machine.{Machine}
 use Rattle.lock_moves.specs.declared.content.Content.{Content}
-use Rattle.lock_moves.specs.declared.content.Content.TheVariants.{Value, Ledger}
+use Rattle.lock_moves.specs.declared.content.Content.TheVariants.{Value, Ledger, Told}
 use Rattle.lock_moves.specs.SeatSight.{Known, known_part, find_lock, locks_without, refreshed_locks, has_place}
 
 -- a part lists the names whose home is its lock
@@ -157,3 +158,13 @@ module _ {V : Type 0} where
 
   pub ledger_same : (x y : Chronicle) → as_ledger x ≡ as_ledger y → x ≡ y
   ledger_same x y e = ap (ledger_or x) e
+
+  abbrev told_or : Snapshot Chronicle → Content V → Snapshot Chronicle
+  told_or d (Told b) = b
+  told_or d _ = d
+
+  abbrev as_told : Snapshot Chronicle → Content V
+  as_told b = Told b
+
+  pub told_same : (x y : Snapshot Chronicle) → as_told x ≡ as_told y → x ≡ y
+  told_same x y e = ap (told_or x) e

@@ -17,7 +17,7 @@ use Rattle.sched_model.specs.declared.event.Entry.{Entry}
 use Rattle.sched_model.specs.declared.machine.Machine.{Machine}
 use Rattle.lock_moves.proofs.Finding.{lists-part}
 use Rattle.lock_moves.specs.declared.content.Content.{Content}
-use Rattle.lock_moves.specs.declared.content.Content.TheVariants.{Out, Value, Ledger}
+use Rattle.lock_moves.specs.declared.content.Content.TheVariants.{Out, Value, Ledger, Told}
 use Rattle.lock_moves.specs.SeatSight.{Known, View, known_part as known, has_place, find_lock, Holds, AllBelow, locks_without, view_took, view_turned_away, with_out, view_gave}
 use Rattle.lock_moves.specs.Agreement.{Fits, Has, Agrees}
 use Rattle.lock_moves.specs.Plays.{Lists, IsPartOfSome, tried, settled, fetched, put_back}
@@ -71,6 +71,7 @@ module _ {V : Type 0} (part : V → StatePart) (suits : Machine → ℕ → V �
       → Goes s k 1 id me (λ m'. (x : V) × (names : List ℕ) × (t : ℕ) × (m' ≡ (view_took k (part x) names t me.0, (k, Value x) ∷ me.1)) × Lists (part x) names × suits me.0.seen.input t x × ((j : ℕ) (y : Known) → find_lock j me.0.seen.held ≡ Some y → t ≡ me.0.seen.now) × IsPartOfSome k (part x) me.0.seen)
   gains s r id me k Out low above rest left at zero_there there fits = absurd fits
   gains s r id me k (Ledger b) low above rest left at zero_there there fits = absurd (omega (arith, fits.0, low))
+  gains s r id me k (Told b) low above rest left at zero_there there fits = absurd fits
   gains s r id me k (Value x) low above rest left at zero_there there fits = let v : View = me.0 in let names : List ℕ = listed (lists (part x)) 128 in let now : ℕ = get_or s.words 146 0 in let w : View = view_took k (part x) names now v in let z' : Known = known (part x) names in let wide = r.wide in
       let part_of_some : IsPartOfSome k (part x) v.seen = subst (λ (q : Machine). (h : List Entry) × IsPrefix v.seen.front h × (part x ≡ part_at q h k) × IsSound q h) (sym (r.fronts.same id v at left)) (r.history, r.fronts.begins id v at, fits.1, r.sound) in
       let shut : get_or (set s.words k 1) k 0 ≡ 1 = get_or-set_same s.words k 1 0 (omega arith) in (
@@ -175,7 +176,7 @@ module _ {V : Type 0} (part : V → StatePart) (suits : Machine → ℕ → V �
       ))
 
   -- the slot of a lock that the seat holds is filled or emptied, and the lock's word stays
-  shifts : (s : St) (r : Agrees part suits m limit base s) (id : ℕ) (v : View) (k out : ℕ) (slot : maybe.Option (Content V)) → Holds k v.seen → 0 < v.seen.shares → get_elem? s.views id ≡ some v → ((j : ℕ) → j ≢ k → v.out ≢ suc j) → (out ≢ suc k → slot ≡ some Out)
+  pub shifts : (s : St) (r : Agrees part suits m limit base s) (id : ℕ) (v : View) (k out : ℕ) (slot : maybe.Option (Content V)) → Holds k v.seen → 0 < v.seen.shares → get_elem? s.views id ≡ some v → ((j : ℕ) → j ≢ k → v.out ≢ suc j) → (out ≢ suc k → slot ≡ some Out)
       → Agrees part suits m limit base (record { words = set s.words k (get_or s.words k 0); homes = set s.homes k slot; views = set s.views id (with_out out v) })
   shifts s r id v k out slot holds left at others filled = let x : ℕ = get_or s.words k 0 in let w : View = with_out out v in let old = r.locks.held id v k holds.0 at holds.1 in
       let here : get_or (set s.words k x) k 0 ≡ 1 = get_or-set_same s.words k x 0 (let wide = r.wide in omega (arith, wide, old.below)) ∙ old.shut in

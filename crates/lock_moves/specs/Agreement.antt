@@ -10,7 +10,7 @@ use Rattle.sched_model.specs.declared.machine.Machine.{Machine}
 use Rattle.journal_core.specs.Parts.{StatePart, lists}
 use Rattle.journal_core.specs.Histories.{part_at, home_at, now_at, decides_at, IsSound}
 use Rattle.lock_moves.specs.declared.content.Content.{Content}
-use Rattle.lock_moves.specs.declared.content.Content.TheVariants.{Out, Value, Ledger}
+use Rattle.lock_moves.specs.declared.content.Content.TheVariants.{Out, Value, Ledger, Told}
 use Rattle.lock_moves.specs.SeatSight.{Known, View, find_lock, Holds, has_place, Rising, raise}
 use Rattle.lock_moves.specs.Words.{lock_count, word_count, name_word, moment_word, stage_word, book_lock}
 
@@ -60,6 +60,7 @@ module _ {V : Type 0} (part : V → StatePart) (m : Machine) (limit : ℕ) where
   Fits h k Out = ⊥
   Fits h k (Value x) = (k < book_lock) × (part x ≡ part_at m h k)
   Fits h k (Ledger b) = (k ≡ book_lock) × (b.input ≡ m) × (b.history ≡ h) × (b.limit ≡ limit)
+  Fits h k (Told b) = ⊥
 
   -- the locks: a lock's word is taken exactly where some seat holds the lock, a free lock's value is its part of the state, and so is what the holder knows
   pub record Locks (words : List ℕ) (homes : List (maybe.Option (Content V))) (views : List View) (h : List Entry) (owner : ℕ → ℕ) : Type 0 where

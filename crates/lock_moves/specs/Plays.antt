@@ -1,15 +1,17 @@
 -- What each step of a seat tells: of the step, the seat before, the number found and the seat after.
 use Rattle.std.specs.Prelude.{◌≡◌, ◌≢◌, ◌⊎◌, ℕ, suc, ◌+◌, eqb, ◌≤◌, ◌<◌, List, [], ◌∷◌, ◌++◌, Some, None}
 use mathlib.Core.List.{IsPrefix}
+use mathlib.Core.Option.{some}
 use Rattle.atomic_table.specs.Table.{Me, Step}
 use Rattle.sched_model.specs.declared.event.Entry.{Entry}
 use Rattle.sched_model.specs.declared.machine.Machine.{Machine}
 use Rattle.journal_core.specs.Parts.{StatePart, lists}
 use Rattle.journal_core.specs.Histories.{part_at, home_at, now_at, decides_at, IsSound}
+use Rattle.std.specs.declared.snapshot.Snapshot.{Snapshot}
 use Rattle.journal_core.specs.Books.{Chronicle}
 use Rattle.lock_moves.specs.declared.content.Content.{Content}
-use Rattle.lock_moves.specs.declared.content.Content.TheVariants.{Out, Value, Ledger}
-use Rattle.lock_moves.specs.SeatSight.{Known, Seen, View, find_lock, has_place, view_took, view_took_book, view_turned_away, with_out, view_gave, view_committed, view_moved_name, view_with_now, raise, view_naming, view_has_loaded}
+use Rattle.lock_moves.specs.declared.content.Content.TheVariants.{Out, Value, Ledger, Told}
+use Rattle.lock_moves.specs.SeatSight.{Known, Seen, View, find_lock, has_place, view_took, view_took_book, view_turned_away, with_out, view_gave, view_committed, view_committed_on, view_moved_name, view_with_now, raise, view_naming, view_has_loaded}
 use Rattle.lock_moves.specs.Words.{name_word, moment_word, stage_word, book_lock}
 
 -- the parts, the names and the moment that the view knows are those of the state to which its front leads
@@ -79,6 +81,10 @@ module _ {V : Type 0} where
   -- the book went home, and its lock is free
   abbrev pub committed : Step (Content V) → Sat V → ℕ → Sat V → Type 0
   committed st m r m' = (b : Chronicle) → m.1 ≡ (book_lock, Ledger b) ∷ [] → m' ≡ (view_committed b.history m.0, [])
+
+  -- the book stays with the seat, as the step says that it is
+  abbrev pub went_on : Step (Content V) → Sat V → ℕ → Sat V → Type 0
+  went_on st m r m' = (b : Snapshot Chronicle) → st.said ≡ some (Told b) → (m' ≡ (view_committed_on b.value.history m.0, m.1)) × Current m'.0.seen
 
   -- the word was read
   abbrev pub looked : Step (Content V) → Sat V → ℕ → Sat V → Type 0

@@ -170,6 +170,10 @@ places_after v h = cond (eqb (length h) (length v.front)) v.own (v.own ++ length
 abbrev pub committed_view : List Entry → Seen → Seen
 committed_view h v = record v { front = h; own = places_after v h; held = refreshed_locks v.input h (locks_without book_lock v.held); named = 0 }
 
+-- the book was put back so, and taken again at once
+abbrev pub committed_on : List Entry → Seen → Seen
+committed_on h v = took_book h v.now (committed_view h v)
+
 -- a seat that has done nothing yet
 abbrev pub fresh_view : Machine → ℕ → List Entry → ℕ → Seen
 fresh_view m limit h shares = record { input = m; limit = limit; front = h; own = []; shares = shares; takes = 0; refused = []; held = []; now = 0; named = 0; loaded = (0, 0); loads = 0 }
@@ -226,6 +230,9 @@ view_gave k v = at_rest (after_give k v.seen)
 
 abbrev pub view_committed : List Entry → View → View
 view_committed h v = at_rest (committed_view h v.seen)
+
+abbrev pub view_committed_on : List Entry → View → View
+view_committed_on h v = at_rest (committed_on h v.seen)
 
 abbrev pub view_turned_away : ℕ → View → View
 view_turned_away k v = with_seen (turned_away k v.seen) v

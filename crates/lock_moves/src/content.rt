@@ -9,6 +9,7 @@ use crate::names::Names;
 use journal_core::Book;
 use sched_base::{DomId, ResId};
 use std::marker::Model;
+use std::snapshot::Snapshot;
 
 /// The tool's lock, after those of the 16 pools.
 pub const TOOL: LockId = LockId(16);
@@ -98,6 +99,8 @@ pub(crate) enum Content<V> {
     Out,
     Value(V),
     Ledger(Book),
+    // What a step that moves no slot says of the book. It lies in none.
+    Told(Snapshot<Book>),
 }
 
 /// The value of a lock that was taken. Contracts see the number of the lock and the value.

@@ -66,6 +66,14 @@ impl<V> Play<Content<V>, View> for Commit {
     ghost then = { committed };
 }
 
+pub(crate) struct CommitOn;
+
+impl<V> Play<Content<V>, View> for CommitOn {
+    ghost use Rattle.lock_moves.specs.Plays.{went_on};
+
+    ghost then = { went_on };
+}
+
 pub(crate) struct ReadWord;
 
 impl<V> Play<Content<V>, View> for ReadWord {

@@ -12,9 +12,9 @@
 //! `take_book` try, and let other threads go on, until the lock is free; `try_lock` tries once. `lock_of` reads a name's word, takes that
 //! lock, and reads the word again: where the name has moved meanwhile it gives the lock back and begins again.
 //!
-//! *What a lock allows.* Under the book: to add an entry (`commit`), to move a name between two locks that the seat holds (`move_name`,
-//! `rename`), and to raise the stage of a core whose name one of its locks has (`set_stage`). Under all 18: to set the moment (`set_now`).
-//! So under any lock the moment stands, and under the lock that has it a name does. Without a lock a word may be read, and tells only what
+//! *What a lock allows.* Under the book: to add an entry (`commit`, or `commit_on`, which keeps the book in hand), to move a name between two
+//! locks that the seat holds (`move_name`, `rename`), and to raise the stage of a core whose name one of its locks has (`set_stage`). Under
+//! all 18: to set the moment (`set_now`). So under any lock the moment stands, and under the lock that has it a name does. Without a lock a word may be read, and tells only what
 //! was once so: a stage never falls.
 //!
 //! *Ordering.* Entries are ordered by the book, which one seat has at a time. Taking the book brings a seat's front up to the whole
@@ -26,15 +26,15 @@ ghost use Rattle.sched_model.specs.declared.event.Entry.{Entry};
 ghost use Rattle.sched_model.specs.Runs.{IsRun};
 ghost use Rattle.journal_core.specs.Parts.{lists};
 ghost use Rattle.journal_core.specs.Histories.{decides_at, NamesStandOnce};
-ghost use Rattle.lock_moves.specs.SeatSight.{Known, find_lock, Holds, AllBelow, took_book, turned_away, after_give, committed_view, after_sharing, newcomer, after_join, moved_name, with_now, tried_again, after_search, after_naming, has_loaded};
+ghost use Rattle.lock_moves.specs.SeatSight.{Known, find_lock, Holds, AllBelow, took_book, turned_away, after_give, committed_view, committed_on, after_sharing, newcomer, after_join, moved_name, with_now, tried_again, after_search, after_naming, has_loaded};
 ghost use Rattle.lock_moves.specs.Plays.{Current, IsPartOfSome, Next, Kept, Placed, Decided, Tells};
 ghost use Rattle.lock_moves.specs.Sets.{sitting_with, HasTaken, IsAsKnown, HasName};
 ghost use Rattle.lock_moves.specs.Words.{name_number, has_name, has_core, has_word, lock_count, word_index, book_lock};
 
 use crate::content::{BOOK, Content, Held, HeldBook, LockId, NOW, NameId, Part, WordId};
 use crate::rule::{
-    Agreement, Clock, Commit, Cut, Fetch, Glue, Load, Put, Raise, ReadWord, Settle, Take, TakeBook,
-    WriteName,
+    Agreement, Clock, Commit, CommitOn, Cut, Fetch, Glue, Load, Put, Raise, ReadWord, Settle, Take,
+    TakeBook, WriteName,
 };
 use crate::seat::{LockSeat, seated};
 use crate::view::View;
@@ -179,6 +179,32 @@ impl<V: Part> LockSet<V> {
         self.table.shared.store::<Commit>(&mut me, BOOK, 0);
         seat.badge = me.into_badge();
         drop(empty);
+    }
+
+    /// The same as `commit` and then `take_book`, where the seat goes on holding the book: its history, with one entry more or none, is the front
+    /// from now on.
+    pub fn commit_on(&self, seat: &mut LockSeat, b: &HeldBook)
+        requires set { seat.old.table ≡ self.now.table }
+        requires held { Holds book_lock seat.old.view }
+        requires input { b.now.input ≡ seat.old.view.input }
+        requires limit { b.now.limit ≡ seat.old.view.limit }
+        requires next { Next seat.old.view.front b.now.history }
+        requires kept { Kept seat.old.view b.now.history }
+        requires placed { Placed seat.old.view b.now.history }
+        requires decided { Decided seat.old.view b.now.history }
+        requires names { NamesStandOnce b.now.input b.now.history }
+        ensures on { seat.new
+            ≡ sitting_with seat.old (committed_on b.now.history seat.old.view) }
+        ensures current { Current seat.new.view }
+    {
+        b.book.tell();
+        let said = Content::Told(Snapshot::of(&b.book));
+        // No word changes. That of the moment is one for which no other thread waits.
+        let mut me = seated::<V>(&mut seat.badge);
+        self.table
+            .shared
+            .compare_exchange_with::<CommitOn>(&mut me, NOW, 0, 0, &said);
+        seat.badge = me.into_badge();
     }
 
     /// A second seat, with one of the parts of this one and with the same front.

@@ -51,7 +51,7 @@ pub fn put_done<R: Print>(rt: &R, answer: Result<Done, Full>) -> io::Result<()> 
     }
 }
 
-/// Prints an answer of `act_all`.
+/// Prints an answer of `act_all` or `act_pool`.
 pub fn put_acted<R: Print>(rt: &R, answer: Result<Acted, Full>) -> io::Result<()> {
     match answer {
         Ok(

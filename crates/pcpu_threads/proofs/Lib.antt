@@ -3,3 +3,4 @@ pub mod Turning
 pub mod Working
 pub mod Serving
 pub mod Crossing
+pub mod Hearing

@@ -9,42 +9,54 @@ use Rattle.std.specs.Fork.{IsChunk}
 use Rattle.sched_model.specs.declared.action.Actor.{Actor}
 use Rattle.sched_model.specs.declared.action.Actor.TheVariants.{Dom, Proc, Tool}
 use Rattle.sched_model.specs.declared.config.Config.{Config}
+use Rattle.sched_model.specs.declared.machine.Machine.{Machine}
 use Rattle.lock_moves.specs.Sets.{LockTable}
 use Rattle.hall.specs.declared.hold.Acted.{Acted}
 use Rattle.hall.specs.declared.turns.Done.TheVariants as done
 use Rattle.hall.specs.declared.turns.Full.{Full}
-use Rattle.hall.specs.Holds.{Acts, HasActedAll, HasFilled, IsOfSomePool}
+use Rattle.hall.specs.Holds.{IsOfSomePool}
+use Rattle.hall.specs.Serving.{HasServed, HasServedFull, HasServedOnce, Serves}
 use Rattle.hall.specs.Turns.{is_actor}
 use Rattle.hall.proofs.Processors.{is_low}
 use Rattle.hall.specs.Seats.{Seated, Stays, shares_in}
 use Rattle.hall.proofs.Calls.{kept-stays}
-use Rattle.pcpu_threads.specs.Crews.{ActsForWorkers, IsAmong, IsHand, IsRow, IsWide}
-use Rattle.pcpu_threads.specs.Workers.{ActsAs, IsFor, Works, shares_of}
+use Rattle.pcpu_threads.specs.Crews.{ActsForWorkers, HasWorker, IsAmong, IsHand, IsRow, IsWide}
+use Rattle.pcpu_threads.specs.Workers.{Works, shares_of}
 use Rattle.pcpu_threads.proofs.Counting.{of-stays, shares-cons}
-use Rattle.std.proofs.Math.Nat.{mul-mod_left}
+use Rattle.std.proofs.lemmas.Bool.{ltb-true}
+use Rattle.std.proofs.Math.Nat.{mod-lt, mul-mod_left}
 use Rattle.pcpu_threads.proofs.Working.{acts-said, works-for, works-same, works_refl, works_trans}
 
--- acts of one actor, one after the other
-acts-works : (actor : Actor) (places : List ℕ) (old new : Seated) → Acts actor places old new → ActsAs actor old new
-acts-works actor [] old new same = works-same (λ a. a ≡ actor) old new (kept-stays old.sitting new.sitting same.sight) (record { front = same.sight.front; own = same.sight.own; takes = (let more = same.sight.takes in omega (arith, more)) })
-acts-works actor (place ∷ places) old new acts =
-    works_trans (λ a. a ≡ actor) old acts.0 new (acts-works actor places old acts.0 acts.1)
-    (acts-said actor acts.0 new acts.2.stays (Ok (done.Event place acts.2.event)) acts.2.done tt)
+-- an actor of the input that does events of a pool has a worker
+with-worker : (config : Config) (n : ℕ) (actor : Actor) → n ≡ config.processors → 0 < n → is_actor config actor ≡ true → IsOfSomePool actor → HasWorker n actor
+with-worker config n (Proc p) all some low of = (p.0, (let below = ltb-true p.0 config.processors low in omega (arith, below, all)), refl)
+with-worker config n (Dom d) all some low of = (d.0 % n, mod-lt d.0 some, refl)
+with-worker config n Tool all some low of = absurd of
 
-all-works : (actor : Actor) (acted : Acted) (old new : Seated) → HasActedAll actor acted old new → ActsAs actor old new
-all-works actor acted old new all =
-    works_trans (λ a. a ≡ actor) old all.mid new (acts-works actor all.places old all.mid all.acts)
-    (acts-said actor all.mid new all.stays (Ok done.Nothing) (all.nothing, all.arrived) tt)
+-- what the seats of a hall with so many processors have seen
+module _ (n : ℕ) (some : 0 < n) where
+  served-works : (actor : Actor) (place : ℕ) (old new : Seated) → n ≡ old.sitting.view.input.config.processors → HasServedOnce actor place old new → Works (HasWorker n) old new
+  served-works actor place old new all (doer, served) =
+      works-for (HasWorker n) doer (with-worker old.sitting.view.input.config n doer all some served.is served.some) old new
+      (acts-said doer old new served.once.stays (Ok (done.Event place served.once.event)) served.once.done tt)
 
-filled-works : (actor : Actor) (full : Full) (old new : Seated) → HasFilled actor full old new → ActsAs actor old new
-filled-works actor full old new filled =
-    works_trans (λ a. a ≡ actor) old filled.mid new (acts-works actor filled.places old filled.mid filled.acts)
-    (acts-said actor filled.mid new filled.stays (Err full) tt filled.full_is)
+  serves-works : (actor : Actor) (places : List ℕ) (old new : Seated) → n ≡ old.sitting.view.input.config.processors → Serves actor places old new → Works (HasWorker n) old new
+  serves-works actor [] old new all same = works-same (HasWorker n) old new (kept-stays old.sitting new.sitting same.sight) (record { front = same.sight.front; own = same.sight.own; takes = (let more = same.sight.takes in omega (arith, more)) })
+  serves-works actor (place ∷ places) old new all serves =
+      let first = serves-works actor places old serves.0 all serves.1 in
+      works_trans (HasWorker n) old serves.0 new first
+      (served-works actor place serves.0 new (all ∙ sym (ap (λ (m : Machine). m.config.processors) first.stays.input)) serves.2)
 
--- a whole hold
-pub hold-works : (actor : Actor) (r : Result Acted Full) (old new : Seated) → IfOk r (λ acted. HasActedAll actor acted old new) → IfErr r (λ full. HasFilled actor full old new) → ActsAs actor old new
-hold-works actor (Ok acted) old new all filled = all-works actor acted old new all
-hold-works actor (Err full) old new all filled = filled-works actor full old new filled
+  -- a whole hold
+  pub hold-works : (actor : Actor) (r : Result Acted Full) (old new : Seated) → n ≡ old.sitting.view.input.config.processors → HasWorker n actor → IfOk r (λ acted. HasServed actor acted old new) → IfErr r (λ full. HasServedFull actor full old new) → Works (HasWorker n) old new
+  hold-works actor (Ok acted) old new all has served full =
+      works_trans (HasWorker n) old served.mid new (serves-works actor served.places old served.mid all served.serves)
+      (works-for (HasWorker n) actor has served.mid new (acts-said actor served.mid new served.stays (Ok done.Nothing) (served.nothing, served.arrived) tt))
+  hold-works actor (Err f) old new all has served full =
+      works_trans (HasWorker n) old full.mid new (serves-works actor full.places old full.mid all full.serves)
+      (let same : n ≡ full.mid.sitting.view.input.config.processors = all ∙ sym (ap (λ (m : Machine). m.config.processors) (serves-works actor full.places old full.mid all full.serves).stays.input) in
+      works-for (HasWorker n) full.doer (with-worker full.mid.sitting.view.input.config n full.doer same some full.is full.some) full.mid new
+      (acts-said full.doer full.mid new full.stays (Err f) tt full.full_is))
 
 pub hand-stays : (hall : LockTable) (old new : Seated) → IsHand hall old → Stays old new → IsHand hall new
 hand-stays hall old new hand stays = record { of = of-stays hall old new hand.of stays; one = stays.shares ∙ hand.one }
@@ -62,13 +74,13 @@ module _ (hall : LockTable) (domains : ℕ) (seats : List Seated) (w : ℕ) (new
     wide = subst (IsWide hall domains) (sym (length-set seats w new)) row.wide;
   }
 
-  pub acts-set : ((d : Seated) → Works (IsFor (length seats - 1) w) (get_or seats w d) new) → ActsForWorkers seats (set seats w new)
+  pub acts-set : ((d : Seated) → Works (HasWorker (length seats - 1)) (get_or seats w d) new) → ActsForWorkers seats (set seats w new)
   acts-set works k d inside = dite (ℕ_discrete k w)
-      (λ same. subst (Works (IsFor (length seats - 1) k) (get_or seats k d)) (sym (set-here k d same)) (subst (λ (j : ℕ). Works (IsFor (length seats - 1) j) (get_or seats j d) new) (sym same) (works d)))
-      (λ other. subst (Works (IsFor (length seats - 1) k) (get_or seats k d)) (sym (get_or-set_other seats w k new d other)) (works_refl (IsFor (length seats - 1) k) (get_or seats k d)))
+      (λ same. subst (Works (HasWorker (length seats - 1)) (get_or seats k d)) (sym (set-here k d same)) (subst (λ (j : ℕ). Works (HasWorker (length seats - 1)) (get_or seats j d) new) (sym same) (works d)))
+      (λ other. subst (Works (HasWorker (length seats - 1)) (get_or seats k d)) (sym (get_or-set_other seats w k new d other)) (works_refl (HasWorker (length seats - 1)) (get_or seats k d)))
 
 pub acts_refl : (seats : List Seated) → ActsForWorkers seats seats
-acts_refl seats w d low = works_refl (IsFor (length seats - 1) w) (get_or seats w d)
+acts_refl seats w d low = works_refl (HasWorker (length seats - 1)) (get_or seats w d)
 
 pub rows-long : (hall : LockTable) (domains : ℕ) (a b : List Seated) → IsRow hall domains a → IsRow hall domains b → length a ≡ length b
 rows-long hall domains a b one other = one.wide.count ∙ sym other.wide.count
@@ -76,8 +88,8 @@ rows-long hall domains a b one other = one.wide.count ∙ sym other.wide.count
 pub acts_trans : (hall : LockTable) (domains : ℕ) (a b c : List Seated) → IsRow hall domains a → IsRow hall domains b → ActsForWorkers a b → ActsForWorkers b c → ActsForWorkers a c
 acts_trans hall domains a b c one other u v w d low =
     let len = rows-long hall domains a b one other in
-    works_trans (IsFor (length a - 1) w) (get_or a w d) (get_or b w d) (get_or c w d) (u w d low)
-    (subst (λ (n : ℕ). Works (IsFor (n - 1) w) (get_or b w d) (get_or c w d)) (sym len) (v w d (omega (arith, low, len))))
+    works_trans (HasWorker (length a - 1)) (get_or a w d) (get_or b w d) (get_or c w d) (u w d low)
+    (subst (λ (n : ℕ). Works (HasWorker (n - 1)) (get_or b w d) (get_or c w d)) (sym len) (v w d (omega (arith, low, len))))
 
 -- an actor with a worker is one of the input, and does the events of a pool
 pub among-is : (config : Config) (n domains : ℕ) (actor : Actor) → n ≡ config.processors → domains ≡ length config.domains → IsAmong n domains actor → is_actor config actor ≡ true
@@ -90,14 +102,18 @@ among-pool n domains (Proc p) among = tt
 among-pool n domains (Dom d) among = tt
 among-pool n domains Tool among = among
 
--- a hold by the seat of the actor's worker
+-- a hold of a pool by one of the row's seats
 pub acts-served : (hall : LockTable) (domains : ℕ) (seats : List Seated) (w : ℕ) (any new : Seated) (actor : Actor) (r : Result Acted Full) → IsRow hall domains seats → w < length seats - 1 → Stays (get_or seats w any) new
-    → IfOk r (λ acted. HasActedAll actor acted (get_or seats w any) new) → IfErr r (λ full. HasFilled actor full (get_or seats w any) new) → IsFor (length seats - 1) w actor → ActsForWorkers seats (set seats w new)
-acts-served hall domains seats w any new actor r row low stays all filled mine =
+    → is_actor hall.opened.input.config actor ≡ true → IsOfSomePool actor → IfOk r (λ acted. HasServed actor acted (get_or seats w any) new) → IfErr r (λ full. HasServedFull actor full (get_or seats w any) new) → ActsForWorkers seats (set seats w new)
+acts-served hall domains seats w any new actor r row low stays is of served full =
+    let n : ℕ = length seats - 1 in
     let inside : w < length seats = omega (arith, low) in
     let here : (d : Seated) → get_or seats w any ≡ get_or seats w d = λ d. get_or_default seats w any d inside in
+    let some : 0 < n = omega (arith, low) in
+    let wide : n ≡ hall.opened.input.config.processors = (let count = row.wide.count in omega (arith, count)) in
+    let mine : n ≡ (get_or seats w any).sitting.view.input.config.processors = wide ∙ sym (ap (λ (m : Machine). m.config.processors) (row.hands w any inside).of.input) in
     acts-set hall domains seats w new inside row (λ d. subst (λ (s : Seated). Stays s new) (here d) stays)
-    (λ d. works-for (IsFor (length seats - 1) w) actor mine (get_or seats w d) new (subst (λ (s : Seated). ActsAs actor s new) (here d) (hold-works actor r (get_or seats w any) new all filled)))
+    (λ d. subst (λ (s : Seated). Works (HasWorker n) s new) (here d) (hold-works n some actor r (get_or seats w any) new mine (with-worker hall.opened.input.config n actor wide some is of) served full))
 
 -- a chunk of the rows is a row
 pub row-chunk : (hall : LockTable) (domains wide : ℕ) (seats : List Seated) (start : ℕ) (row : List Seated) → IsWide hall domains wide → length seats % wide ≡ 0 → All (IsHand hall) seats → IsChunk seats wide start row → IsRow hall domains row

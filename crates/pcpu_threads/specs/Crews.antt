@@ -5,7 +5,7 @@ use Rattle.sched_model.specs.declared.action.Actor.{Actor}
 use Rattle.sched_model.specs.declared.action.Actor.TheVariants.{Proc, Dom, Tool}
 use Rattle.lock_moves.specs.Sets.{LockTable}
 use Rattle.hall.specs.Seats.{IsOf, Seated, shares_in}
-use Rattle.pcpu_threads.specs.Workers.{IsFor, Works}
+use Rattle.pcpu_threads.specs.Workers.{IsFor, OneEach, Works, shares_of}
 
 -- a seat of the hall with one of its parts
 pub record IsHand (hall : LockTable) (s : Seated) : Type 0 where
@@ -24,9 +24,19 @@ pub record IsRow (hall : LockTable) (domains : ℕ) (seats : List Seated) : Type
   pub hands : All (IsHand hall) seats
   pub wide : IsWide hall domains (length seats)
 
--- each seat of a row but the last has acted for its worker alone, and the last as it likes: it is left as it was
+-- the seats are of the hall, one worker for each processor, and together they have more parts than rows ever want
+pub record AreCrew (hall : LockTable) (seat : Seated) (workers : List Seated) : Type 0 where
+  pub of : IsOf hall seat
+  pub each : OneEach hall workers
+  pub enough : 976 ≤ shares_in seat + shares_of workers
+
+-- the actor is one of some worker of n
+abbrev pub HasWorker : ℕ → Actor → Type 0
+HasWorker n actor = (p : ℕ) × (p < n) × IsFor n p actor
+
+-- the seats of a row have acted for workers: each place that one has added is that of the first action of an actor that some worker has
 abbrev pub ActsForWorkers : List Seated → List Seated → Type 0
-ActsForWorkers old new = (w : ℕ) (d : Seated) → w < length old → Works (IsFor (length old - 1) w) (slice_index_or old w d) (slice_index_or new w d)
+ActsForWorkers old new = (w : ℕ) (d : Seated) → w < length old → Works (HasWorker (length old - 1)) (slice_index_or old w d) (slice_index_or new w d)
 
 -- the actor is one of so many processors or domains
 abbrev pub IsAmong : ℕ → ℕ → Actor → Type 0

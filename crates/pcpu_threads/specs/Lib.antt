@@ -1,3 +1,4 @@
 pub mod Ends
 pub mod Workers
 pub mod Crews
+pub mod Hearing

@@ -1,13 +1,15 @@
 //! The threads of a free run. They are made once and stay: in each moment they take the pools that have something to do, and act there for the workers
-//! whose events come, each by a seat of that worker. Each thread has a row of seats: one for each worker, and a last one that ends moments.
+//! whose events come, under one hold of the pool by the seat of the first of them. Each thread has a row of seats: one for each worker, and a last one
+//! that ends moments.
 
 ghost use Rattle.std.specs.Prelude.{◌≡◌, ◌≤◌, ◌<◌, ◌+◌, ◌*◌, ◌%◌, [], IfSome, length, vec_capacity};
 ghost use Rattle.std.specs.List.{All};
 ghost use Rattle.hall.specs.Seats.{IsOf, shares_in};
-ghost use Rattle.pcpu_threads.specs.Crews.{ActsForWorkers, IsAmong, IsHand, IsRow, IsWide};
-ghost use Rattle.pcpu_threads.specs.Workers.{AreWorkers, IsFor, shares_of};
+ghost use Rattle.pcpu_threads.specs.Crews.{ActsForWorkers, AreCrew, IsAmong, IsHand, IsRow, IsWide};
+ghost use Rattle.pcpu_threads.specs.Workers.{IsFor, shares_of};
 
 use crate::closing::take_in;
+use crate::progress::Progress;
 use crate::pulse::{Pace, Pulse, pools_of};
 use hall::{Full, Hall, HallSeat, Hints, Turn};
 use sched_io::Gate;
@@ -23,7 +25,6 @@ pub(crate) const MOST_ROWS: usize = 15;
 fn worker_of(actor: Actor, workers: usize, domains: u8) -> Option<usize>
     requires some { 0 < workers }
     ensures low { IfSome result (λ w. w < workers) }
-    ensures mine { IfSome result (λ w. IsFor workers w actor) }
     ensures there { IfSome result (λ w. IsAmong workers domains actor) }
 {
     match actor {
@@ -33,27 +34,8 @@ fn worker_of(actor: Actor, workers: usize, domains: u8) -> Option<usize>
     }
 }
 
-/// Does what the actor may do now, by its worker's seat, and answers whose event comes next in the same pool. None where nothing was done.
-fn serve_one<R: Wait, G: Gate>(
-    rt: &R,
-    hall: &Hall,
-    domains: u8,
-    gate: &G,
-    actor: Actor,
-    seats: &mut [HallSeat],
-) -> Option<Actor>
-    requires { IsRow hall.now domains seats.old }
-    ensures row { IsRow hall.now domains seats.new }
-    ensures acts { ActsForWorkers seats.old seats.new }
-{
-    let worker = worker_of(actor, seats.len() - 1, domains)?;
-    match hall.act_all(rt, &mut seats[worker], actor, gate) {
-        Ok(acted) if acted.count != 0 => acted.next,
-        _ => None,
-    }
-}
-
-/// Does what may be done now in a pool, beginning with this actor: the workers whose events come act one after the other.
+/// Does what may be done now in the pool that has this actor, by the seat of the actor's worker: the events of the pool's actors in the pool's order, each
+/// of which is its own worker's.
 fn serve<R: Wait, G: Gate>(
     rt: &R,
     hall: &Hall,
@@ -66,13 +48,13 @@ fn serve<R: Wait, G: Gate>(
     ensures row { IsRow hall.now domains seats.new }
     ensures acts { ActsForWorkers seats.old seats.new }
 {
-    let mut next = first;
-    for _ in rt.forever() {
-        let Some(actor) = next else {
-            return;
-        };
-        next = serve_one(rt, hall, domains, gate, actor, seats);
-    }
+    let Some(actor) = first else {
+        return;
+    };
+    let Some(worker) = worker_of(actor, seats.len() - 1, domains) else {
+        return;
+    };
+    let _acted = hall.act_pool(rt, &mut seats[worker], actor, gate);
 }
 
 /// Takes pools that wait, its own ones first, and does what may be done there.
@@ -170,6 +152,7 @@ fn end_moment<R: Wait>(
     rt: &R,
     hall: &Hall,
     domains: u8,
+    progress: &Progress,
     pace: &mut Pace,
     seats: &mut [HallSeat],
 ) -> Option<Hints>
@@ -179,6 +162,7 @@ fn end_moment<R: Wait>(
     match take_turn(rt, hall, domains, seats) {
         Ok((Turn::Closed { place, .. }, hints)) => {
             pace.end_moment(place);
+            progress.end_moment(place);
             Some(hints)
         }
         Ok((Turn::Stepped { .. }, _)) => Some(look(rt, hall, domains, seats)),
@@ -193,12 +177,14 @@ fn lead<R: Wait, G: Gate>(
     hall: &Hall,
     domains: u8,
     gate: &G,
+    progress: &Progress,
     pulse: &Pulse,
     seats: &mut [HallSeat],
 )
     requires { IsRow hall.now domains seats.old }
     ensures { IsRow hall.now domains seats.new }
 {
+    progress.begin();
     let mut pace = Pace::new();
     let mut hints = look(rt, hall, domains, seats);
     for _ in rt.forever() {
@@ -207,12 +193,14 @@ fn lead<R: Wait, G: Gate>(
         } else {
             work_alone(rt, hall, domains, gate, &hints, seats);
         }
-        let Some(next) = end_moment(rt, hall, domains, &mut pace, seats) else {
+        progress.wait_for_turn(rt);
+        let Some(next) = end_moment(rt, hall, domains, progress, &mut pace, seats) else {
             break;
         };
         hints = next;
     }
     pulse.end();
+    progress.end();
 }
 
 /// The part of the thread that comes next, with this row: the first one leads, and the others help until the run is over.
@@ -221,6 +209,7 @@ fn take_part<R: Wait, G: Gate>(
     hall: &Hall,
     domains: u8,
     gate: &G,
+    progress: &Progress,
     pulse: &Pulse,
     seats: &mut [HallSeat],
 )
@@ -229,7 +218,7 @@ fn take_part<R: Wait, G: Gate>(
 {
     let number = pulse.came_before();
     if number == 0 {
-        lead(rt, hall, domains, gate, pulse, seats);
+        lead(rt, hall, domains, gate, progress, pulse, seats);
         return;
     }
     let own = 1u64 << (number % 16);
@@ -245,20 +234,19 @@ fn take_part<R: Wait, G: Gate>(
 fn rows_for(threads: usize, room: usize, wide: usize) -> usize
     requires wide { (0 < wide) × (wide ≤ 65) }
     ensures fit { result * wide ≤ room }
-    ensures few { result * wide < 1024 }
+    ensures few { result * wide ≤ 975 }
 {
     threads.min(MOST_ROWS).min(room / wide)
 }
 
-/// Splits so many seats from this one, which has all parts of the hall, into an empty list with room for them.
+/// Splits so many seats from this one, which has more parts than that, into an empty list with room for them.
 fn split_rows(hall: &Hall, seat: &mut HallSeat, count: usize, seats: &mut Vec<HallSeat>)
     requires of { IsOf hall.now seat.old }
-    requires all { shares_in seat.old ≡ 1024 }
-    requires few { count < 1024 }
+    requires few { count < shares_in seat.old }
     requires empty { seats.old.items ≡ [] }
     requires room { count ≤ vec_capacity seats.old }
     ensures of { IsOf hall.now seat.new }
-    ensures left { shares_in seat.new + count ≡ 1024 }
+    ensures left { shares_in seat.new + count ≡ shares_in seat.old }
     ensures hands { All (IsHand hall.now) seats.new.items }
     ensures count { length seats.new.items ≡ count }
 {
@@ -267,27 +255,38 @@ fn split_rows(hall: &Hall, seat: &mut HallSeat, count: usize, seats: &mut Vec<Ha
     }
 }
 
-/// Goes through the run by threads that stay, as many as asked for and as there is room for seats of theirs, until it is over or the book is full.
-pub(crate) fn run_crew<R: Threads + Wait + Sync, G: Gate + Sync>(
+/// Goes through the run by threads that stay, as many as asked for and as there is room for seats of theirs, until it is over or the book is full. The
+/// seat and the workers have all of the hall's parts but a few. Who goes along with the run learns from `progress` how far it is.
+pub fn run_crew<R: Threads + Wait + Sync, G: Gate + Sync>(
     rt: &R,
     hall: &Hall,
     domains: u8,
     threads: usize,
     gate: &G,
+    progress: &Progress,
     seat: &mut HallSeat,
     workers: &mut Vec<HallSeat>,
 )
-    requires workers { AreWorkers hall.now seat.old workers.old.items }
+    requires crew { AreCrew hall.now seat.old workers.old.items }
     requires domains { domains ≡ length hall.now.opened.input.config.domains }
     ensures of { IsOf hall.now seat.new }
     ensures each { All (IsOf hall.now) workers.new.items }
-    ensures shares { shares_in seat.new + shares_of workers.new.items ≡ 1024 }
+    ensures shares { shares_in seat.new + shares_of workers.new.items
+        ≡ shares_in seat.old + shares_of workers.old.items }
 {
     let wide = workers.len() + 1;
     take_in(hall, seat, workers);
     let rows = rows_for(threads, workers.capacity(), wide);
     split_rows(hall, seat, rows * wide, workers);
-    run_rows(rt, hall, domains, gate, wide, workers.as_mut_slice());
+    run_rows(
+        rt,
+        hall,
+        domains,
+        gate,
+        progress,
+        wide,
+        workers.as_mut_slice(),
+    );
 }
 
 /// The same by a thread for each row of so many seats.
@@ -296,6 +295,7 @@ fn run_rows<R: Threads + Wait + Sync, G: Gate + Sync>(
     hall: &Hall,
     domains: u8,
     gate: &G,
+    progress: &Progress,
     wide: usize,
     seats: &mut [HallSeat],
 )
@@ -313,6 +313,6 @@ fn run_rows<R: Threads + Wait + Sync, G: Gate + Sync>(
         &|_start, row|
             requires { IsRow hall.now domains row.now }
             ensures { IsRow hall.entry.now domains row.exit.now }
-        { take_part(rt, hall, domains, gate, shared, row) },
+        { take_part(rt, hall, domains, gate, progress, shared, row) },
     );
 }

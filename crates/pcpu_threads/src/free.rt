@@ -8,6 +8,7 @@ ghost use Rattle.pcpu_threads.specs.Workers.{AreWorkers};
 use crate::closing::{close_down, join_all};
 use crate::crew::run_crew;
 use crate::ends::RunEnd;
+use crate::progress::Progress;
 use hall::{Hall, HallSeat};
 use journal_core::Book;
 use sched_io::Gate;
@@ -49,7 +50,16 @@ pub fn run_free<R: Threads + Wait + Sync, G: Gate + Sync>(
     let mut seat = seat;
     let mut workers = workers;
     let threads = threads_for(rt);
-    run_crew(rt, &hall, domains, threads, gate, &mut seat, &mut workers);
+    run_crew(
+        rt,
+        &hall,
+        domains,
+        threads,
+        gate,
+        &Progress::new(),
+        &mut seat,
+        &mut workers,
+    );
     join_all(&hall, &mut seat, workers);
     close_down(rt, hall, seat)
 }

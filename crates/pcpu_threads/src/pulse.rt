@@ -1,6 +1,8 @@
 //! What the threads of a run share beside the hall: which pools have something to do, and whether somebody is at it. No contract speaks of it: a wrong
 //! word here costs time, or the run does not end, and no entry is wrong.
 
+use crate::bell::Bell;
+use crate::word::Word;
 use hall::Hints;
 use sched_base::{DomId, ProcId};
 use sched_model::action::Actor;
@@ -11,30 +13,6 @@ use std::thread::yield_now;
 
 /// How often a thread looks before it sleeps.
 const LOOKS: u32 = 2000;
-
-/// A word on a cache line of its own.
-#[derive(Drop)]
-struct Word {
-    word: AtomicU64,
-    _rest: [u64; 15],
-}
-
-impl Word {
-    fn new() -> Word {
-        Word {
-            word: AtomicU64::new(0),
-            _rest: [0; 15],
-        }
-    }
-
-    fn get(&self) -> u64 {
-        self.word.load(Ordering::SeqCst)
-    }
-
-    fn set(&self, value: u64) {
-        self.word.store(value, Ordering::SeqCst);
-    }
-}
 
 /// In so many moments, the first of a run, nothing is known of how much there is to do in one: so the workers are in threads side by side.
 pub const FIRST_MOMENTS: u32 = 16;
@@ -74,7 +52,7 @@ impl Pace {
 }
 
 /// How many threads have come; the pools that wait for a thread, with bit i for the pool i, and with whom each begins; how many of them are not through;
-/// whether the run is over; the bell for those who sleep, and how many they are.
+/// whether the run is over; and the bell for those who sleep.
 #[derive(Drop)]
 pub(crate) struct Pulse {
     came: Word,
@@ -82,8 +60,7 @@ pub(crate) struct Pulse {
     open: Word,
     left: Word,
     over: Word,
-    bell: Word,
-    asleep: Word,
+    bell: Bell,
 }
 
 /// The actor as a number, 0 for none.
@@ -141,8 +118,7 @@ impl Pulse {
             open: Word::new(),
             left: Word::new(),
             over: Word::new(),
-            bell: Word::new(),
-            asleep: Word::new(),
+            bell: Bell::new(),
         }
     }
 
@@ -159,7 +135,7 @@ impl Pulse {
         let pools = pools_of(hints);
         self.left.set(u64::from(pools.count_ones()));
         self.open.set(pools);
-        self.ring();
+        self.bell.ring();
     }
 
     /// Takes one of the pools that wait, one of these where there is one, and answers with whom it begins.
@@ -228,25 +204,16 @@ impl Pulse {
 
     /// Sleeps until the bell is rung, unless there is something to do.
     fn sleep<R: Wait>(&self, rt: &R) {
-        let bell = self.bell.get();
-        self.asleep.word.fetch_add(1, Ordering::SeqCst);
+        let rung = self.bell.lie_down();
         if self.open.get() == 0 && self.over.get() == 0 {
-            self.bell.word.park(rt, (bell % (1 << 32)) as u32);
+            self.bell.sleep(rt, rung);
         }
-        self.asleep.word.fetch_sub(1, Ordering::SeqCst);
-    }
-
-    /// Wakes those who sleep.
-    fn ring(&self) {
-        if self.asleep.get() != 0 {
-            self.bell.word.fetch_add(1, Ordering::SeqCst);
-            self.bell.word.wake_all();
-        }
+        self.bell.get_up();
     }
 
     /// The run is over.
     pub(crate) fn end(&self) {
         self.over.set(1);
-        self.ring();
+        self.bell.ring();
     }
 }

@@ -3,7 +3,7 @@ use mathlib.Core.List.{IsPrefix}
 use Rattle.std.proofs.Common.{◌≡◌, ◌∙◌, ◌++◌, ◌-◌, ◌<◌, ◌≤◌, ◌^◌, ℕ, suc, List, [], ◌∷◌, length, sym, ap, subst, arith, append-nil}
 use Rattle.std.proofs.lemmas.List.{length_push}
 use Rattle.sched_model.specs.declared.event.Entry.{Entry}
-use Rattle.status_board.specs.Boards.{Desk, Watch}
+use Rattle.status_board.specs.Boards.{Desk}
 use Rattle.status_board.specs.Counts.{entry_count}
 use Rattle.lock_moves.specs.Sets.{LockTable}
 use Rattle.pcpu_watch.specs.declared.looks.Look.{Look}
@@ -29,7 +29,7 @@ module _ (hall : LockTable) (w : Watcher) (is : IsWatch hall w) where
   learned-count = few-counted (has_read w.scribe) w.scribe.read (read-length hall w.scribe is.scribe) is.scribe.few
 
   module _ (s t : Scribe) (on : ReadsOn hall w.scribe s) (written : HasWritten (length w.looks.items) s) (keeps : KeepsReading hall s t) (look : Look) (shows : ShowsBeginning (has_read t) look)
-      (least : (look_of (has_read w.scribe)).entries ≤ look.entries) (reader : Watch) (cores : reader.cores ≡ w.reader.cores) (looks : LookList) (pushed : looks ≡ record w.looks { items = w.looks.items ++ look ∷ [] }) where
+      (least : (look_of (has_read w.scribe)).entries ≤ look.entries) (looks : LookList) (pushed : looks ≡ record w.looks { items = w.looks.items ++ look ∷ [] }) where
     begins : IsPrefix (has_read w.scribe) (has_read t)
     begins = subst (IsPrefix (has_read w.scribe)) (sym keeps.same) on.begins
 
@@ -51,13 +51,12 @@ module _ (hall : LockTable) (w : Watcher) (is : IsWatch hall w) where
         (looks-still (has_read w.scribe) (has_read t) begins w.looks.items (omega (arith, ended-before)) is.looks) this
 
     abbrev new : Watcher
-    new = record { scribe = t; reader = reader; looks = looks }
+    new = record { scribe = t; looks = looks }
 
     pub looked : HasLooked hall w new
     looked = record {
       is = record {
         scribe = keeps.on.is;
-        cores = cores ∙ is.cores ∙ sym on.cores ∙ sym keeps.on.cores;
         pending = ap (λ (d : Desk). d.pending) keeps.writer ∙ written.pending;
         ended = keeps.ended ∙ written.ended ∙ omega (arith, one-more);
         before = λ place low. (let early = in-time place low in omega (arith, early, one-more));

@@ -1,6 +1,5 @@
 pub mod Moments
 pub mod Looks
-pub mod Readers
 pub mod Scribes
 pub mod Watcher
 pub mod Crews

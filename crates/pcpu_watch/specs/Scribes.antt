@@ -1,9 +1,10 @@
 -- What the scribe has read of the book.
-use Rattle.std.specs.Prelude.{◌≡◌, ℕ, ◌<◌, ◌≤◌, ◌^◌, ◌++◌, [], List, length, take}
+use Rattle.std.specs.Prelude.{◌≡◌, ℕ, ◌<◌, ◌≤◌, ◌^◌, ◌+◌, ◌++◌, [], List, Some, length, slice_get, take}
 use mathlib.Core.List.{IsPrefix}
 use Rattle.sched_model.specs.declared.event.Entry.{Entry}
 use Rattle.lock_moves.specs.Sets.{LockTable}
 use Rattle.hall.specs.Seats.{IsOf, Seated, shares_in}
+use Rattle.pcpu_watch.specs.declared.ahead.Ahead.{Ahead}
 use Rattle.pcpu_watch.specs.declared.looks.Look.{Look}
 use Rattle.pcpu_watch.specs.declared.scribe.Scribe.{Scribe}
 use Rattle.pcpu_watch.specs.Looks.{ShowsBeginning}
@@ -19,17 +20,22 @@ pub record SeesOn (hall : LockTable) (old new : Seated) : Type 0 where
   pub begins : IsPrefix (front_of old) (front_of new)
   pub shares : shares_in new ≡ shares_in old
 
+-- each entry that was read ahead stands at its place of the history
+abbrev pub IsAhead : List Entry → Ahead → Type 0
+IsAhead history ahead = (i : ℕ) (e : Entry) → slice_get ahead.entries.items i ≡ Some e → slice_get history (ahead.first + i) ≡ Some e
+
 -- the entries that the scribe has read
 abbrev pub has_read : Scribe → List Entry
 has_read s = take s.read (front_of s.seat)
 
--- the scribe's seat is one of the hall; what it has read is what it gave the writer, and so many moments end with that
+-- the scribe's seat is one of the hall, and has seen what was read ahead; what it has read is what it gave the writer, and so many moments end with that
 pub record IsScribe (hall : LockTable) (s : Scribe) : Type 0 where
   pub of : IsOf hall s.seat
   pub inside : s.read ≤ length (front_of s.seat)
   pub few : s.read ≤ 2 ^ 32
   pub given : s.writer.published ++ s.writer.pending ≡ has_read s
   pub ended : s.ended ≡ ends (has_read s)
+  pub ahead : IsAhead (front_of s.seat) s.ahead
 
 -- all that the scribe has read stands in moments before the moment k
 abbrev pub ReadsBefore : ℕ → Scribe → Type 0

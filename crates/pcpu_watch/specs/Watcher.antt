@@ -9,7 +9,6 @@ use Rattle.pcpu_watch.specs.Scribes.{IsScribe, ReadsBefore, has_read}
 -- between two moments: there is a look for each moment so far, and what the scribe has read is published: the entries of the moments before the last one
 pub record IsWatch (hall : LockTable) (w : Watcher) : Type 0 where
   pub scribe : IsScribe hall w.scribe
-  pub cores : w.reader.cores ≡ w.scribe.writer.cores
   pub pending : w.scribe.writer.pending ≡ []
   pub ended : w.scribe.ended ≡ length w.looks.items - 1
   pub before : ReadsBefore (length w.looks.items) w.scribe
@@ -19,6 +18,17 @@ pub record IsWatch (hall : LockTable) (w : Watcher) : Type 0 where
 pub record CanLook (hall : LockTable) (w : Watcher) : Type 0 where
   pub is : IsWatch hall w
   pub room : length w.looks.items < w.looks.room
+
+-- before the first moment: there is no look, and room for one
+pub record BeginsWatch (hall : LockTable) (w : Watcher) : Type 0 where
+  pub is : IsWatch hall w
+  pub nothing : w.looks.items ≡ []
+  pub room : 0 < w.looks.room
+
+-- behind the last moment that was watched: there is a look for each moment so far, of which there is one
+pub record HasWatched (hall : LockTable) (w : Watcher) : Type 0 where
+  pub is : IsWatch hall w
+  pub some : 0 < length w.looks.items
 
 -- what no turn changes
 pub record StaysWatch (hall : LockTable) (old new : Watcher) : Type 0 where

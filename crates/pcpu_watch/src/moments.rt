@@ -1,92 +1,80 @@
-//! The moments of a watched run.
+//! The moments of a watched run, as the writer of the board goes along with them.
 
-ghost use Rattle.std.specs.Prelude.{◌≡◌, ◌<◌, [], OnOk, length};
-ghost use Rattle.pcpu_watch.specs.Crews.{IsCrew, StaysCrew};
-ghost use Rattle.pcpu_watch.specs.Watcher.{CanLook, HasLooked, IsWatch, StaysWatch};
+ghost use Rattle.std.specs.Prelude.{OnOk};
+ghost use Rattle.pcpu_watch.specs.Watcher.{BeginsWatch, CanLook, HasLooked, HasWatched, StaysWatch};
 
-use crate::crew::{Crew, end_moment, work};
-use crate::watch::{Watcher, take_turns};
+use crate::line::WriterEnd;
+use crate::meeting::Meeting;
+use crate::watch::{Watcher, take_turn};
 use hall::Hall;
+use pcpu_threads::Progress;
 use sched_base::NoMemory;
-use sched_io::Gate;
 use std::alloc::Global;
 use std::sync::Wait;
-use std::thread::{Threads, join_mut};
 
-/// The workers' part of a moment, and beside it the turns of the board.
-fn work_and_watch<R: Threads + Wait + Sync, G: Gate + Sync>(
+/// The board's turn in the next moment, after which the crew may end it.
+fn write_moment<R: Wait>(
     rt: &R,
     alloc: Global,
     hall: &Hall,
-    gate: &G,
-    crew: &mut Crew,
+    progress: &Progress,
+    meeting: &Meeting,
+    line: &mut WriterEnd,
     watch: &mut Watcher,
 ) -> Result<(), NoMemory>
-    requires crew { IsCrew hall.now crew.old }
     requires can { CanLook hall.now watch.old }
-    ensures crew { StaysCrew hall.now crew.old crew.new }
     ensures stays { StaysWatch hall.now watch.old watch.new }
     ensures looked { OnOk result (HasLooked hall.now watch.old watch.new) }
 {
     let moment = watch.looks.len();
-    let ((), written) = join_mut(
-        rt,
-        &mut ||
-            requires { IsCrew hall.now crew.now }
-            ensures { StaysCrew hall.entry.now crew.entry.now crew.exit.now }
-        { work(rt, hall, gate, moment, crew) },
-        &mut ||
-            requires { CanLook hall.now watch.now }
-            ensures stays { StaysWatch hall.entry.now watch.entry.now watch.exit.now }
-            ensures looked { OnOk result (HasLooked hall.entry.now watch.entry.now watch.exit.now) }
-        { take_turns(rt, alloc, hall, watch) },
-    );
-    written
+    take_turn(rt, alloc, hall, meeting, line, watch)?;
+    progress.turn_is_done(moment);
+    Ok(())
 }
 
-/// A moment of the run, with one look. It answers whether another moment follows.
-fn watch_moment<R: Threads + Wait + Sync, G: Gate + Sync>(
+/// A turn in each moment, until the run is over or the book is full.
+fn write_moments<R: Wait>(
     rt: &R,
     alloc: Global,
     hall: &Hall,
-    gate: &G,
-    crew: &mut Crew,
-    watch: &mut Watcher,
-) -> Result<bool, NoMemory>
-    requires crew { IsCrew hall.now crew.old }
-    requires can { CanLook hall.now watch.old }
-    ensures crew { StaysCrew hall.now crew.old crew.new }
-    ensures stays { StaysWatch hall.now watch.old watch.new }
-    ensures looked { OnOk result (HasLooked hall.now watch.old watch.new) }
-{
-    let moment = watch.looks.len();
-    work_and_watch(rt, alloc, hall, gate, crew, watch)?;
-    Ok(end_moment(rt, hall, gate, moment, crew))
-}
-
-/// One moment after the other, each with a look, until the run is over or the book is full. Its one error is want of memory.
-pub(crate) fn watch_moments<R: Threads + Wait + Sync, G: Gate + Sync>(
-    rt: &R,
-    alloc: Global,
-    hall: &Hall,
-    gate: &G,
-    crew: &mut Crew,
+    progress: &Progress,
+    meeting: &Meeting,
+    line: &mut WriterEnd,
     watch: &mut Watcher,
 ) -> Result<(), NoMemory>
-    requires crew { IsCrew hall.now crew.old }
-    requires watch { IsWatch hall.now watch.old }
-    requires nothing { watch.old.looks.items ≡ [] }
-    requires room { 0 < watch.old.looks.room }
-    ensures crew { StaysCrew hall.now crew.old crew.new }
+    requires begins { BeginsWatch hall.now watch.old }
     ensures stays { StaysWatch hall.now watch.old watch.new }
-    ensures watched { OnOk result (IsWatch hall.now watch.new) }
-    ensures some { OnOk result (0 < length watch.new.looks.items) }
+    ensures watched { OnOk result (HasWatched hall.now watch.new) }
 {
+    write_moment(rt, alloc, hall, progress, meeting, line, watch)?;
     // Each moment but the last adds an entry, its End, so the room for looks is enough for all moments.
-    for _ in 0..watch.looks.most() {
-        if !watch_moment(rt, alloc, hall, gate, crew, watch)? {
-            return Ok(());
+    for moment in 1..watch.looks.most() {
+        if !progress.wait_for_moment(rt, moment) {
+            break;
         }
+        write_moment(rt, alloc, hall, progress, meeting, line, watch)?;
     }
     Ok(())
+}
+
+/// The writer's side of a watched run: in step with the crew, from the first moment to the last one. Its one error is want of memory: then the crew goes on alone.
+pub(crate) fn write_in_step<R: Wait>(
+    rt: &R,
+    alloc: Global,
+    hall: &Hall,
+    progress: &Progress,
+    meeting: &Meeting,
+    line: &mut WriterEnd,
+    watch: &mut Watcher,
+) -> Result<(), NoMemory>
+    requires begins { BeginsWatch hall.now watch.old }
+    ensures stays { StaysWatch hall.now watch.old watch.new }
+    ensures watched { OnOk result (HasWatched hall.now watch.new) }
+{
+    progress.keep_step();
+    line.meet(meeting);
+    let written = write_moments(rt, alloc, hall, progress, meeting, line, watch);
+    progress.leave_step();
+    meeting.end();
+    written
 }

@@ -1,37 +1,78 @@
 //! The scribe: it reads the book, entry by entry, for the writer of the board.
 
-ghost use Rattle.std.specs.Prelude.{◌≡◌, ◌≤◌, ◌<◌, ◌⊎◌, OnOk};
+ghost use Rattle.std.specs.Prelude.{◌≡◌, ◌≤◌, ◌<◌, ◌^◌, ◌⊎◌, Some, IfSome, OnOk, OnSome, slice_get};
 ghost use Rattle.pcpu_watch.specs.Looks.{ShowsBeginning};
-ghost use Rattle.pcpu_watch.specs.Scribes.{CanWrite, HasWritten, IsScribe, KeepsReading, MayKeep, ReadsOn, has_read};
+ghost use Rattle.pcpu_watch.specs.Scribes.{CanWrite, HasWritten, IsScribe, KeepsReading, MayKeep, ReadsOn, front_of, has_read};
 
-use crate::entries::{entry_at, moment_at, opens_next};
+use crate::ahead::Ahead;
+use crate::entries::{moment_at, opens_next};
 use crate::looks::Look;
 use hall::{Hall, HallSeat};
 use sched_base::NoMemory;
+use sched_model::event::Entry;
 use status_board::BoardWriter;
 use std::alloc::Global;
 use std::sync::Wait;
 use std::thread::yield_now;
 
-/// A seat that reads the book for the writer of a board: how many entries it has read and given to the writer, and how many moments end with these.
+/// A seat that reads the book for the writer of a board: how many entries it has read and given to the writer, how many moments end with these, and entries that were
+/// read ahead.
 pub(crate) struct Scribe {
     pub seat: HallSeat,
     pub writer: BoardWriter,
     pub read: u64,
     pub ended: u32,
+    pub ahead: Ahead,
 }
 
 impl Scribe {
     /// A scribe that has read nothing.
-    pub(crate) fn new(seat: HallSeat, writer: BoardWriter) -> Scribe
-        ensures { result ≡ record { seat = seat; writer = writer; read = 0; ended = 0 } }
+    pub(crate) fn new(seat: HallSeat, writer: BoardWriter, ahead: Ahead) -> Scribe
+        ensures { result ≡ record { seat = seat; writer = writer; read = 0; ended = 0; ahead = ahead } }
     {
         Scribe {
             seat,
             writer,
             read: 0,
             ended: 0,
+            ahead,
         }
+    }
+
+    /// The next entry of the book, if it stands there by now. The book is taken only where none was read ahead.
+    fn next<R: Wait>(&mut self, rt: &R, hall: &Hall) -> Option<Entry>
+        requires is { IsScribe hall.now self.old }
+        ensures reading { KeepsReading hall.now self.old self.new }
+        ensures found { IfSome result (λ e. slice_get (front_of self.new.seat) self.new.read ≡ Some e) }
+        ensures few { OnSome result (self.new.read < 2 ^ 32) }
+    {
+        let place = u32::try_from(self.read).ok()?;
+        if let Some(entry) = self.ahead.at(place) {
+            return Some(entry);
+        }
+        self.ahead.read(rt, hall, &mut self.seat, place);
+        self.ahead.at(place)
+    }
+
+    /// Gives the writer the next entry of the book, which this is.
+    fn give(
+        &mut self,
+        alloc: Global,
+        hall: &Hall,
+        moment: u32,
+        entry: Entry,
+    ) -> Result<(), NoMemory>
+        requires can { CanWrite hall.now moment self.old }
+        requires due { self.old.ended < moment }
+        requires found { slice_get (front_of self.old.seat) self.old.read ≡ Some entry }
+        requires few { self.old.read < 2 ^ 32 }
+        ensures on { ReadsOn hall.now self.old self.new }
+        ensures can { CanWrite hall.now moment self.new }
+    {
+        self.writer.add(alloc, &entry)?;
+        self.read += 1;
+        self.ended += u32::from(opens_next(&entry));
+        Ok(())
     }
 
     /// Gives the writer the next entry of the book, if it stands there by now.
@@ -47,14 +88,11 @@ impl Scribe {
         ensures on { ReadsOn hall.now self.old self.new }
         ensures can { CanWrite hall.now moment self.new }
     {
-        let Some(entry) = entry_at(rt, hall, &mut self.seat, self.read) else {
+        let Some(entry) = self.next(rt, hall) else {
             yield_now();
             return Ok(());
         };
-        self.writer.add(alloc, &entry)?;
-        self.read += 1;
-        self.ended += u32::from(opens_next(&entry));
-        Ok(())
+        self.give(alloc, hall, moment, entry)
     }
 
     /// The look that is kept of a moment: what was seen, where that is at least what was learned and at most what was read, and has the moment of the last

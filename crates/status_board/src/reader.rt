@@ -1,6 +1,6 @@
 //! The readers of a board.
 
-ghost use Rattle.std.specs.Prelude.{◌≡◌, ◌≤◌, List, IfSome, MatchOption};
+ghost use Rattle.std.specs.Prelude.{◌≡◌, ◌≤◌, ◌↔◌, List, IfSome, IsTrue, MatchOption};
 ghost use mathlib.Core.List.{IsPrefix};
 ghost use Rattle.left_right.specs.Sides.{view};
 ghost use Rattle.status_board.specs.Boards.{longer_list};
@@ -126,6 +126,13 @@ impl Told {
         ensures { result ≡ record { cores = reader.cores; list = reader.seen } }
     {
         Told { reader }
+    }
+
+    /// Whether it is of a board with as many cores as that of the reader.
+    pub fn fits(&self, reader: &BoardReader) -> bool
+        ensures { IsTrue result ↔ (self.now.cores ≡ reader.now.cores) }
+    {
+        self.reader.cores == reader.cores
     }
 
     /// The totals of the entries that were published.

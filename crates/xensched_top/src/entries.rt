@@ -116,11 +116,14 @@ impl RecordedEntries {
     pub(crate) fn of(book: Book, end: RunEnd) -> RecordedEntries
         ensures { result ≡ recorded_entries book.history 0 end }
     {
-        RecordedEntries {
-            book,
-            place: 0,
-            end,
-        }
+        RecordedEntries::behind(book, 0, end)
+    }
+
+    /// Those of the book from this place on.
+    pub(crate) fn behind(book: Book, place: u32, end: RunEnd) -> RecordedEntries
+        ensures { result ≡ recorded_entries book.history place end }
+    {
+        RecordedEntries { book, place, end }
     }
 }
 

@@ -42,7 +42,7 @@ pub(crate) fn status_of(end: RunEnd, limit: u32) -> Status
 }
 
 /// Writes the lines of all entries.
-fn put_entries<E: Entries, K: Sink>(entries: &mut E, sink: &mut K) -> Result<(), Failed>
+pub(crate) fn put_entries<E: Entries, K: Sink>(entries: &mut E, sink: &mut K) -> Result<(), Failed>
     ensures whole { OnOk result (Adds (K.told sink.old) (K.told sink.new)
         (text (E.coming entries.old))) }
     ensures part { OnErr result (AddsPart (K.told sink.old) (K.told sink.new)

@@ -8,7 +8,7 @@ abbrev pub invariant-loop : goal.invariant-loop
 invariant-loop l =
     record {
       of : IsOf l.hall l.seat;
-      left : shares_in l.seat + l.counter ≡ 1024;
+      left : shares_in l.seat + l.counter ≡ shares_in l.fn.seat;
       hands : All (IsHand l.hall) l.seats.items;
       count : length l.seats.items ≡ l.counter;
       room : l.count ≤ vec_capacity l.seats;

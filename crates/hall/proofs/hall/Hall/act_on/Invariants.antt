@@ -1,14 +1,19 @@
 use Rattle.std.proofs.Common.{◌≡◌, ℕ, List, length}
+use Rattle.std.specs.Option.{ForSome}
+use Rattle.lock_moves.specs.SeatSight.{Sitting}
 use Rattle.lock_moves.specs.Words.{name_number}
-use Rattle.hall.specs.Holds.{Acts, InHold, last_of, seated}
+use Rattle.pool_laws.specs.Actors.{IsFirstBy}
+use Rattle.hall.specs.Holds.{Acts, InHoldOn, last_of, seated}
 use Rattle.hall.proofs.hall.Hall.act_on.Given as goal
 
 abbrev pub invariant-loop : goal.invariant-loop
 invariant-loop g l =
     record {
-      hold : InHold l.self l.lock.0 (name_number l.holder.name) l.t.0 l.slot (seated l.seat l.arrived);
+      mid : Sitting;
+      hold : InHoldOn l.self l.lock.0 (name_number l.holder.name) l.t.0 l.slot l.book mid (seated l.seat l.arrived);
+      found : ForSome l.slot (λ seen. IsFirstBy seen.granularity l.t.0 seen.pool l.holder.actor l.found);
       places : List ℕ;
-      acts : Acts l.holder.actor places (seated l.fn.seat l.fn.arrived) (seated l.seat l.arrived);
+      acts : Acts l.holder.actor places (seated l.fn.seat l.fn.arrived) (seated mid l.arrived);
       count : l.acted.count ≡ length places;
       first : l.acted.first ≡ last_of places;
     }

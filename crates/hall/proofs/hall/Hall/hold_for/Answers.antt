@@ -1,8 +1,10 @@
 use mathlib.Core.List.{IsPrefix}
-use Rattle.std.proofs.Common.{◌≡◌, ◌≢◌, ◌∙◌, ◌<◌, [], List, ℕ, true, refl, sym, subst, arith}
+use Rattle.std.proofs.Common.{◌≡◌, ◌≢◌, ◌∙◌, ◌<◌, List, ℕ, true, refl, sym, subst, arith}
 use Rattle.sched_model.specs.declared.event.Entry.{Entry}
+use Rattle.sched_model.specs.declared.machine.Machine.{Machine}
 use Rattle.std.specs.Prelude.{Ok}
 use Rattle.sched_model.specs.CheckedMachine.{IsChecked}
+use Rattle.journal_core.specs.Histories.{state_at}
 use Rattle.journal_core.specs.Parts.{lists, tool_lock, tool_part}
 use Rattle.lock_moves.specs.Plays.{IsPartOfSome}
 use Rattle.lock_moves.specs.Sets.{IsAsKnown, LockTable, sitting_with}
@@ -13,17 +15,19 @@ use Rattle.hall.specs.declared.value.PartState.{PartState}
 use Rattle.hall.specs.declared.value.PartState.TheVariants.{Pool, Tool}
 use Rattle.hall.specs.BookTurns.{DoneIn}
 use Rattle.hall.specs.Holds.{seated}
+use Rattle.hall.specs.Serving.{AreTogether}
 use Rattle.hall.specs.Steps.{KeepsSight}
 use Rattle.hall.specs.Values.{part_of_value}
 use Rattle.hall.proofs.Calls.{call-stays, done-held, kept-stays}
-use Rattle.hall.proofs.Holds.{arrival-on, gone-only, held-filled, held-said}
-use Rattle.hall.proofs.Locking.{gave_keeps, keeps_same}
+use Rattle.hall.proofs.Holds.{arrival-on, gone-only}
+use Rattle.hall.proofs.Locking.{gave_keeps}
 use Rattle.hall.proofs.Parting.{as-known}
-use Rattle.hall.proofs.UnderOne.{free-settles, keeps-all, lock-of-pool, lock-of-tool, only-gone, sought-keeps, sought-known, sought-only}
+use Rattle.hall.proofs.Serving.{held-done, held-full, idle-done}
+use Rattle.hall.proofs.UnderOne.{free-alone, free-settles, keeps-all, lock-of-pool, lock-of-tool, only-gone, sought-keeps, sought-known, sought-only}
 use Rattle.hall.proofs.hall.Hall.hold_for.Goals as goal
 
-pub act_on-acted-requires-clause-number : goal.act_on-acted-requires-clause-number
-act_on-acted-requires-clause-number g c =
+pub do_all-acted-requires-clause-number : goal.do_all-acted-requires-clause-number
+do_all-acted-requires-clause-number g c =
     let is : c.lock_of-held.result.value ≡ Pool c.in-Pool.slot = sym c.into_value.ensures ∙ c.in-Pool.is in
     let low : c.lock_of-held.result.lock < 16 = lock-of-pool c.lock_of-held.result.lock c.in-Pool.slot c.args.seat.now.view c.lock_of-held.ensures.number
     (subst (λ (x : PartState). IsPartOfSome c.lock_of-held.result.lock (part_of_value x) c.args.seat.now.view) is c.lock_of-held.ensures.state) in
@@ -78,22 +82,24 @@ returns-in-Tool-clause-all g c =
     (free-settles _ hall c.take_book-book.result s2 book.has book.current checked (book.has.input ∙ book.sees.input ∙ took.input ∙ c.requires.of.input) part
     (as-known tool_lock (tool_part part) s1.view s2.view (book.locks 16 apart) known) actor c.args.holder.name c.requires.holder.named
     (subst (λ (x : PartState). lists (part_of_value x) (name_number c.args.holder.name) ≡ true) is c.lock_of-held.ensures.lists) s3 c.put_book.ensures.keeps) in
-    record {
-      places = [];
-      mid = seated s0 c.args.arrived.now;
-      acts = record { sight = keeps_same s0; arrived = refl };
-      stays = call-stays c.take_book-book.result s0 s1 s2 s3 s4 took book.sees (kept-stays s2 s3 c.put_book.ensures.keeps) gave;
-      nothing = told;
-      arrived = refl;
-      count = c.nothing.ensures.count;
-      first = c.nothing.ensures.first;
-    }
+    let to_front : s4.view.front ≡ c.take_book-book.result.history = gave.front ∙ c.put_book.ensures.keeps.front ∙ book.sees.front in
+    let input : c.take_book-book.result.input ≡ s0.view.input = book.has.input ∙ book.sees.input ∙ took.input in
+    idle-done c.args.whole actor c.nothing.result (seated s0 c.args.arrived.now) (seated s4 c.args.arrived.now)
+    (call-stays c.take_book-book.result s0 s1 s2 s3 s4 took book.sees (kept-stays s2 s3 c.put_book.ensures.keeps) gave) told
+    (λ other both.
+    let there : AreTogether c.take_book-book.result.input.config.granularity (state_at c.take_book-book.result.input c.take_book-book.result.history) actor other =
+    subst (λ (m : Machine). AreTogether m.config.granularity (state_at m c.take_book-book.result.history) actor other) (sym input)
+    (subst (λ (h : List Entry). AreTogether s0.view.input.config.granularity (state_at s0.view.input h) actor other) to_front both) in
+    free-alone _ hall c.take_book-book.result s2 book.has book.current checked (input ∙ c.requires.of.input) part
+    (as-known tool_lock (tool_part part) s1.view s2.view (book.locks 16 apart) known) hall.opened.input (sym (input ∙ c.requires.of.input)) actor c.args.holder.name c.requires.holder.named
+    (subst (λ (x : PartState). lists (part_of_value x) (name_number c.args.holder.name) ≡ true) is c.lock_of-held.ensures.lists) there.place there.pool there.at there.has)
+    refl c.nothing.ensures.count c.nothing.ensures.first
 
 pub returns-in-Pool-clause-nothing : goal.returns-in-Pool-clause-nothing
 returns-in-Pool-clause-nothing g c =
-    let s3 = c.act_on-acted.new.seat in
+    let s3 = c.do_all-acted.new.seat in
     let s4 = c.unlock-in-Pool.new.seat in
-    gone-only c.lock-lock.result.0 s3 s4 c.act_on-acted.ensures.hold.only
+    gone-only c.lock-lock.result.0 s3 s4 c.do_all-acted.ensures.hold.only
     (subst (λ (k : ℕ). s4 ≡ sitting_with s3 (after_give k s3.view)) c.new-in-Pool.ensures.lock c.unlock-in-Pool.ensures)
 
 pub returns-in-Pool-clause-all : goal.returns-in-Pool-clause-all
@@ -101,19 +107,19 @@ returns-in-Pool-clause-all g c =
     let t = c.lock_of-held.ensures.taken in
     let s0 = c.args.seat.now in
     let s1 = c.lock_of-held.new.seat in
-    let s3 = c.act_on-acted.new.seat in
+    let s3 = c.do_all-acted.new.seat in
     let s4 = c.unlock-in-Pool.new.seat in
     let took : KeepsSight s0 c.read_word.new.seat = subst (KeepsSight s0) (sym c.read_word.ensures.same) (sought-keeps c.lock_of-held.result.lock (part_of_value c.lock_of-held.result.value) t.0 t.1 s0 s1 t.2) in
-    held-said c.args.holder.actor c.act_on-acted.result (seated s0 c.args.arrived.now) (seated c.read_word.new.seat c.args.arrived.now) (seated s3 c.act_on-acted.new.arrived) (seated s4 c.act_on-acted.new.arrived)
-    (record { sight = took; arrived = refl }) (record { sight = gave_keeps c.new-in-Pool.result.lock s3 s4 c.unlock-in-Pool.ensures; arrived = refl }) c.act_on-acted.ensures.all
+    held-done c.args.holder.actor (seated s0 c.args.arrived.now) (seated c.read_word.new.seat c.args.arrived.now) (seated s3 c.do_all-acted.new.arrived) (seated s4 c.do_all-acted.new.arrived)
+    (record { sight = took; arrived = refl }) (record { sight = gave_keeps c.new-in-Pool.result.lock s3 s4 c.unlock-in-Pool.ensures; arrived = refl }) c.args.whole c.do_all-acted.result c.do_all-acted.ensures.all
 
 pub returns-in-Pool-clause-full : goal.returns-in-Pool-clause-full
 returns-in-Pool-clause-full g c =
     let t = c.lock_of-held.ensures.taken in
     let s0 = c.args.seat.now in
     let s1 = c.lock_of-held.new.seat in
-    let s3 = c.act_on-acted.new.seat in
+    let s3 = c.do_all-acted.new.seat in
     let s4 = c.unlock-in-Pool.new.seat in
     let took : KeepsSight s0 c.read_word.new.seat = subst (KeepsSight s0) (sym c.read_word.ensures.same) (sought-keeps c.lock_of-held.result.lock (part_of_value c.lock_of-held.result.value) t.0 t.1 s0 s1 t.2) in
-    held-filled c.args.holder.actor c.act_on-acted.result (seated s0 c.args.arrived.now) (seated c.read_word.new.seat c.args.arrived.now) (seated s3 c.act_on-acted.new.arrived) (seated s4 c.act_on-acted.new.arrived)
-    (record { sight = took; arrived = refl }) (record { sight = gave_keeps c.new-in-Pool.result.lock s3 s4 c.unlock-in-Pool.ensures; arrived = refl }) c.act_on-acted.ensures.full
+    held-full c.args.holder.actor (seated s0 c.args.arrived.now) (seated c.read_word.new.seat c.args.arrived.now) (seated s3 c.do_all-acted.new.arrived) (seated s4 c.do_all-acted.new.arrived)
+    (record { sight = took; arrived = refl }) (record { sight = gave_keeps c.new-in-Pool.result.lock s3 s4 c.unlock-in-Pool.ensures; arrived = refl }) c.args.whole c.do_all-acted.result c.do_all-acted.ensures.full

@@ -1,5 +1,0 @@
-use Rattle.pcpu_threads.specs.Crews.{ActsForWorkers, IsRow}
-use Rattle.pcpu_threads.proofs.crew.serve.Given as goal
-
-abbrev pub invariant-loop : goal.invariant-loop
-invariant-loop g l = record { row : IsRow l.hall l.domains l.seats; acts : ActsForWorkers l.fn.seats l.seats }
