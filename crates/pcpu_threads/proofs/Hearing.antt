@@ -38,35 +38,35 @@ module _ {L K : Type 0} (heard : L → K → List Entry → L → K → Type 0) 
 
   -- the scribe has read what stands behind so many entries, and the listener was told it
   module _ (from : ℕ) (a b c : Scribe) (items : List Entry) (la lb : L) (oa ob : K) (is : IsScribe hall a) (stays : Stays a.seat b.seat) (begins : IsPrefix (front_of a.seat) (front_of b.seat)) (low : from ≤ length (front_of a.seat))
-      (found : items ≡ take 512 (drop from (front_of b.seat))) (seat : c.seat ≡ b.seat) where
+      (found : items ≡ take 2048 (drop from (front_of b.seat))) (seat : c.seat ≡ b.seat) where
     abbrev front : List Entry
     front = front_of b.seat
 
     abbrev rest : List Entry
     rest = drop from front
 
-    count : length items ≡ length (take 512 rest)
+    count : length items ≡ length (take 2048 rest)
     count = ap length found
 
     within : from ≤ length front
     within = (let more = prefix_length (front_of a.seat) front begins in omega (arith, more, low))
 
-    pub few-read : length items ≤ 512
-    few-read = (let most = length-take 512 rest in omega (arith, most, count))
+    pub few-read : length items ≤ 2048
+    few-read = (let most = length-take 2048 rest in omega (arith, most, count))
 
     read : take (from + length items) front ≡ take from (front_of a.seat) ++ items
     read = take-add from (length items) front
         ∙ ap (λ (x : List Entry). x ++ take (length items) rest) (take-begins from (front_of a.seat) front begins low)
-        ∙ ap (λ (x : List Entry). take from (front_of a.seat) ++ x) (ap (λ (n : ℕ). take n rest) count ∙ take-same 512 rest ∙ sym found)
+        ∙ ap (λ (x : List Entry). take from (front_of a.seat) ++ x) (ap (λ (n : ℕ). take n rest) count ∙ take-same 2048 rest ∙ sym found)
 
     inside-read : from + length items ≤ length front
     inside-read =
         let all : length (take from front) + length rest ≡ length front = sym (length-append (take from front) rest) ∙ ap length (take-append-drop from front) in
         let first = length-take-le from front within in
-        let most = length-take 512 rest in
+        let most = length-take 2048 rest in
         omega (arith, all, first, most, count)
 
-    pub reads-on : c.ahead.items ≡ [] → vec_capacity c.ahead ≡ 512 → IsTold heard items la oa lb ob → HearsOn heard hall from (from + length items) a la oa c lb ob
+    pub reads-on : c.ahead.items ≡ [] → vec_capacity c.ahead ≡ 2048 → IsTold heard items la oa lb ob → HearsOn heard hall from (from + length items) a la oa c lb ob
     reads-on nothing room told = record {
       scribe_is = record { of = subst (IsOf hall) (sym seat) (of-stays hall a.seat b.seat is.of stays); nothing = nothing; room = room };
       shares = ap shares_in seat ∙ stays.shares;

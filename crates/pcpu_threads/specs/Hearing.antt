@@ -11,11 +11,11 @@ use Rattle.pcpu_threads.specs.Workers.{OneEach, shares_of}
 abbrev pub front_of : Seated → List Entry
 front_of s = s.sitting.view.front
 
--- the scribe's seat is one of the hall; nothing is read ahead, and there is room for 512 entries
+-- the scribe's seat is one of the hall; nothing is read ahead, and there is room for 2048 entries
 pub record IsScribe (hall : LockTable) (s : Scribe) : Type 0 where
   pub of : IsOf hall s.seat
   pub nothing : s.ahead.items ≡ []
-  pub room : vec_capacity s.ahead ≡ 512
+  pub room : vec_capacity s.ahead ≡ 2048
 
 -- the caller's seat, one worker for each processor, and the scribe's seat: they are of the hall, and together they have all parts
 pub record AreSeats (hall : LockTable) (seat : Seated) (workers : List Seated) (scribe : Scribe) : Type 0 where

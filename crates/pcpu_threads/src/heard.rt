@@ -25,13 +25,13 @@ use std::sync::Wait;
 use std::thread::{Threads, join_mut};
 
 /// As many entries are read in one take of the book.
-const AT_ONCE: usize = 512;
+const AT_ONCE: usize = 2_048;
 
 /// Where more entries stand than so many, they are read at once.
-const FEW: u64 = 512;
+const FEW: u64 = 2_048;
 
 /// Where fewer stand, the scribe sleeps until these do.
-const MANY: u64 = 4096;
+const MANY: u64 = 4_096;
 
 /// Who hears the entries of a run, one after the other. K is where what is heard goes.
 pub trait Listener<K> {
@@ -105,7 +105,7 @@ fn read_on<R: Wait, K, L: Listener<K>>(
     requires inside { read ≤ length (front_of scribe.old.seat) }
     ensures heard { HearsOn L.has_heard hall.now read (read + result) scribe.old listener.old outlet.old
         scribe.new listener.new outlet.new }
-    ensures few { result ≤ 512 }
+    ensures few { result ≤ 2048 }
 {
     hall.entries(rt, &mut scribe.seat, read, &mut scribe.ahead);
     tell(scribe.ahead.as_slice(), listener, outlet);

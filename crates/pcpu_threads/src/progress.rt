@@ -2,17 +2,18 @@
 //! time, or the run does not end, and no entry is wrong.
 
 use crate::bell::Bell;
+use crate::patience::Patience;
 use crate::word::Word;
 use std::hint::spin_loop;
 use std::sync::Wait;
 use std::sync::atomic::Ordering;
 use std::thread::yield_now;
 
-/// How often a thread looks before it sleeps, or lets others run.
-const LOOKS: u32 = 200;
-
 /// How often it is asked whether the crew has begun, or the one who takes turns has come.
-const ASKED: u32 = 1_000;
+const ASKED: u64 = 2_000;
+
+/// After so many of these looks other threads are let run between two of them.
+const SPINS: u64 = 200;
 
 /// Turns are expected, and nobody has come to take them.
 const EXPECTED: u64 = 1;
@@ -21,8 +22,8 @@ const EXPECTED: u64 = 1;
 const KEPT: u64 = 2;
 
 /// Of the crew: whether it has begun, how many entries stand and how many moments have ended, and whether the run is over. Of those who go along:
-/// whether turns are taken, and of how many moments the turn is done, with the bell of those who wait for a moment or a turn; and at how many entries
-/// one who reads is to be woken, with its bell.
+/// whether turns are taken, and of how many moments the turn is done, with the bell of those who wait for a moment or a turn, and the patience of the
+/// crew and of the other one; and at how many entries one who reads is to be woken, with its bell.
 #[derive(Drop)]
 pub struct Progress {
     begun: Word,
@@ -32,13 +33,15 @@ pub struct Progress {
     in_step: Word,
     turns: Word,
     steps: Bell,
+    crew: Patience,
+    other: Patience,
     wanted: Word,
     reader: Bell,
 }
 
 /// Looks so often, and then lets other threads run.
-fn pause(looks: u32) {
-    if looks < LOOKS {
+fn pause(looks: u64) {
+    if looks < SPINS {
         spin_loop();
     } else {
         yield_now();
@@ -56,6 +59,8 @@ impl Progress {
             in_step: Word::new(),
             turns: Word::new(),
             steps: Bell::new(),
+            crew: Patience::new(),
+            other: Patience::new(),
             wanted: Word::new(),
             reader: Bell::new(),
         }
@@ -90,7 +95,7 @@ impl Progress {
     }
 
     /// Waits a little for the one who is expected, and in the end no more.
-    fn wait_to_come(&self, looks: u32) {
+    fn wait_to_come(&self, looks: u64) {
         if looks < ASKED {
             pause(looks);
         } else {
@@ -104,16 +109,18 @@ impl Progress {
     /// The crew waits until the turn of the moment that it is in is done, where such turns are taken. Where they are expected, it waits some time for the
     /// one who takes them, and not without bound: where no thread can be made, that one comes later.
     pub(crate) fn wait_for_turn<R: Wait>(&self, rt: &R) {
-        let mut looks = 0u32;
+        let mut looks = 0u64;
         for _ in rt.forever() {
             if !self.turn_is_due() {
+                self.crew.has_come(looks);
                 return;
             }
             if self.in_step.get() == EXPECTED {
                 self.wait_to_come(looks);
-            } else if looks < LOOKS {
+            } else if self.crew.lasts(looks) {
                 spin_loop();
             } else {
+                self.crew.give_up();
                 let rung = self.steps.lie_down();
                 if self.turn_is_due() {
                     self.steps.sleep(rt, rung);
@@ -183,14 +190,15 @@ impl Progress {
 
     /// Waits until the moment with this number, from 0, has begun. False where the run is over, and there is no such moment.
     pub fn wait_for_moment<R: Wait>(&self, rt: &R, moment: u32) -> bool {
-        let mut looks = 0u32;
+        let mut looks = 0u64;
         for _ in rt.forever() {
             if !self.moment_is_due(moment) {
                 break;
             }
-            if looks < LOOKS {
+            if self.other.lasts(looks) {
                 spin_loop();
             } else {
+                self.other.give_up();
                 let rung = self.steps.lie_down();
                 if self.moment_is_due(moment) {
                     self.steps.sleep(rt, rung);
@@ -199,6 +207,7 @@ impl Progress {
             }
             looks = looks.saturating_add(1);
         }
+        self.other.has_come(looks);
         self.ended.get() >= u64::from(moment)
     }
 

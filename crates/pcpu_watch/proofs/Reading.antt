@@ -6,6 +6,7 @@ use Rattle.std.proofs.lemmas.Bool.{cases_lt}
 use Rattle.std.proofs.lemmas.List.{length-take-le, take_all}
 use Rattle.std.proofs.lemmas.Option.{slice_get_within}
 use Rattle.sched_model.specs.declared.event.Entry.{Entry}
+use Rattle.sched_report.specs.Stays.{last_moment}
 use Rattle.status_board.specs.Boards.{Desk}
 use Rattle.lock_moves.specs.Sets.{LockTable}
 use Rattle.lock_moves.proofs.Prefix.{prefix_length, prefix_refl}
@@ -13,7 +14,7 @@ use Rattle.pcpu_watch.specs.declared.ahead.Ahead.{Ahead}
 use Rattle.pcpu_watch.specs.declared.scribe.Scribe.{Scribe}
 use Rattle.pcpu_watch.specs.Moments.{ends, has_next_moment, moment_of}
 use Rattle.pcpu_watch.specs.Scribes.{CanWrite, IsAhead, IsScribe, KeepsReading, ReadsBefore, ReadsOn, SeesOn, front_of, has_read}
-use Rattle.pcpu_watch.proofs.Counting.{ends-more, moment-same, one-more, part-same}
+use Rattle.pcpu_watch.proofs.Counting.{ends-more, last-at, moment-same, one-more, part-same}
 
 module _ {A : Type 0} where
   -- what stands at a place still stands there where the list goes on
@@ -38,7 +39,7 @@ module _ (hall : LockTable) (s t : Scribe) (on : SeesOn hall s.seat t.seat) (is 
   part = part-same (seen_by s) (seen_by t) s.read on.begins is.inside
 
   -- nothing more was read
-  module _ (read : t.read ≡ s.read) (ended : t.ended ≡ s.ended) (writer : t.writer ≡ s.writer) (ahead : IsAhead (seen_by t) t.ahead) where
+  module _ (read : t.read ≡ s.read) (ended : t.ended ≡ s.ended) (writer : t.writer ≡ s.writer) (latest : t.latest.0 ≡ s.latest.0) (ahead : IsAhead (seen_by t) t.ahead) where
     same : has_read t ≡ has_read s
     same = ap (λ (n : ℕ). take n (seen_by t)) read ∙ part
 
@@ -49,6 +50,7 @@ module _ (hall : LockTable) (s t : Scribe) (on : SeesOn hall s.seat t.seat) (is 
       few = (let few = is.few in omega (arith, few, read));
       given = ap (λ (w : Desk). w.published ++ w.pending) writer ∙ is.given ∙ sym same;
       ended = ended ∙ is.ended ∙ ap ends (sym same);
+      latest = latest ∙ is.latest ∙ ap last_moment (sym same);
       ahead = ahead;
     }
 
@@ -63,12 +65,12 @@ module _ (hall : LockTable) (s t : Scribe) (on : SeesOn hall s.seat t.seat) (is 
 
   -- one entry more was read and given to the writer
   module _ (e : Entry) (at : slice_get (seen_by t) s.read ≡ Some e) (few : s.read < 2 ^ 32) (read : t.read ≡ s.read + 1) (ended : t.ended ≡ s.ended + cond (has_next_moment e.event) 1 0)
-      (writer : t.writer ≡ record s.writer { pending = s.writer.pending ++ e ∷ [] }) (ahead : IsAhead (seen_by t) t.ahead) where
+      (writer : t.writer ≡ record s.writer { pending = s.writer.pending ++ e ∷ [] }) (latest : t.latest.0 ≡ e.at.0) (ahead : IsAhead (seen_by t) t.ahead) where
+    next : t.read ≡ suc s.read
+    next = omega (arith, read)
+
     more : has_read t ≡ has_read s ++ e ∷ []
     more = ap (λ (n : ℕ). take n (seen_by t)) next ∙ one-more (seen_by t) s.read e at ∙ ap (λ (h : List Entry). h ++ e ∷ []) part
-      where
-        next : t.read ≡ suc s.read
-        next = omega (arith, read)
 
     reads : IsScribe hall t
     reads = record {
@@ -77,6 +79,7 @@ module _ (hall : LockTable) (s t : Scribe) (on : SeesOn hall s.seat t.seat) (is 
       few = omega (arith, read, few);
       given = ap (λ (w : Desk). w.published ++ w.pending) writer ∙ sym (append_assoc s.writer.published s.writer.pending (e ∷ [])) ∙ ap (λ (h : List Entry). h ++ e ∷ []) is.given ∙ sym more;
       ended = ended ∙ ap (λ (n : ℕ). n + cond (has_next_moment e.event) 1 0) is.ended ∙ sym (ap ends more ∙ ends-more (has_read s) e);
+      latest = latest ∙ last-at (seen_by t) s.read e at ∙ sym (ap (λ (n : ℕ). last_moment (take n (seen_by t))) next);
       ahead = ahead;
     }
 

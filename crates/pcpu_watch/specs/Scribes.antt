@@ -2,6 +2,7 @@
 use Rattle.std.specs.Prelude.{◌≡◌, ℕ, ◌<◌, ◌≤◌, ◌^◌, ◌+◌, ◌++◌, [], List, Some, length, slice_get, take}
 use mathlib.Core.List.{IsPrefix}
 use Rattle.sched_model.specs.declared.event.Entry.{Entry}
+use Rattle.sched_report.specs.Stays.{last_moment}
 use Rattle.lock_moves.specs.Sets.{LockTable}
 use Rattle.hall.specs.Seats.{IsOf, Seated, shares_in}
 use Rattle.pcpu_watch.specs.declared.ahead.Ahead.{Ahead}
@@ -28,13 +29,14 @@ IsAhead history ahead = (i : ℕ) (e : Entry) → slice_get ahead.entries.items 
 abbrev pub has_read : Scribe → List Entry
 has_read s = take s.read (front_of s.seat)
 
--- the scribe's seat is one of the hall, and has seen what was read ahead; what it has read is what it gave the writer, and so many moments end with that
+-- the scribe's seat is one of the hall, and has seen what was read ahead; what it has read is what it gave the writer, so many moments end with that, and its last entry has that moment
 pub record IsScribe (hall : LockTable) (s : Scribe) : Type 0 where
   pub of : IsOf hall s.seat
   pub inside : s.read ≤ length (front_of s.seat)
   pub few : s.read ≤ 2 ^ 32
   pub given : s.writer.published ++ s.writer.pending ≡ has_read s
   pub ended : s.ended ≡ ends (has_read s)
+  pub latest : s.latest.0 ≡ last_moment (has_read s)
   pub ahead : IsAhead (front_of s.seat) s.ahead
 
 -- all that the scribe has read stands in moments before the moment k

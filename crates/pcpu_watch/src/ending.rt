@@ -120,6 +120,7 @@ pub(crate) fn end_watched<R: Wait>(
         writer,
         read,
         ended: _,
+        latest: _,
         ahead: _,
     } = scribe;
     writer.close(rt);

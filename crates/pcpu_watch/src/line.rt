@@ -2,7 +2,7 @@
 //! speaks of what comes: a look is judged before it is kept.
 
 use crate::looks::Look;
-use crate::meeting::{LOOKS, Meeting};
+use crate::meeting::Meeting;
 use rtrb::{Consumer, Producer, PushError, RingBuffer};
 use sched_base::NoMemory;
 use status_board::Told;
@@ -62,14 +62,16 @@ impl WriterEnd {
 
     /// Waits for what the reader saw.
     pub(crate) fn wait_for_look<R: Wait>(&mut self, rt: &R, meeting: &Meeting) -> Look {
-        let mut looks = 0u32;
+        let mut looks = 0u64;
         for _ in rt.forever() {
             if let Ok(look) = self.seen.pop() {
+                meeting.writer.has_come(looks);
                 return look;
             }
-            if looks < LOOKS {
+            if meeting.writer.lasts(looks) {
                 spin_loop();
             } else {
+                meeting.writer.give_up();
                 let rung = meeting.bell.lie_down();
                 if self.seen.is_empty() {
                     meeting.bell.sleep(rt, rung);
@@ -85,17 +87,22 @@ impl WriterEnd {
 impl ReaderEnd {
     /// Waits for what the writer tells. None where it is through.
     pub(crate) fn wait_to_be_told<R: Wait>(&mut self, rt: &R, meeting: &Meeting) -> Option<Told> {
-        let mut looks = 0u32;
+        let mut looks = 0u64;
         for _ in rt.forever() {
-            if let Ok(told) = self.told.pop() {
-                return Some(told);
+            // What is told is large, so an empty ring is not asked for it.
+            if !self.told.is_empty() {
+                if let Ok(told) = self.told.pop() {
+                    meeting.reader.has_come(looks);
+                    return Some(told);
+                }
             }
             if meeting.is_over() {
                 return None;
             }
-            if looks < LOOKS {
+            if meeting.reader.lasts(looks) {
                 spin_loop();
             } else {
+                meeting.reader.give_up();
                 let rung = meeting.bell.lie_down();
                 if self.told.is_empty() && !meeting.is_over() {
                     meeting.bell.sleep(rt, rung);

@@ -1,23 +1,25 @@
 //! How the writer and the reader of a board find each other, and how they wait. No contract speaks of it: a wrong word here costs time or a look, or the run does not
 //! end, and no look that is kept is wrong.
 
-use pcpu_threads::Bell;
+use pcpu_threads::{Bell, Patience};
 use std::hint::spin_loop;
 use std::sync::atomic::{AtomicU64, Ordering};
 use std::thread::yield_now;
 
-/// How often somebody looks before it sleeps.
-pub(crate) const LOOKS: u32 = 200;
-
 /// How often the writer looks for the reader before it goes on without it.
-const ASKED: u32 = 1_000;
+const ASKED: u32 = 2_000;
 
-/// Whether the reader has come, and whether the writer is through; and the bell of the one who waits.
+/// After so many of these looks other threads are let run between two of them.
+const SPINS: u32 = 200;
+
+/// Whether the reader has come, and whether the writer is through; the bell of the one who waits, and the patience of both.
 #[derive(Drop)]
 pub(crate) struct Meeting {
     came: AtomicU64,
     over: AtomicU64,
     pub bell: Bell,
+    pub writer: Patience,
+    pub reader: Patience,
 }
 
 impl Meeting {
@@ -27,6 +29,8 @@ impl Meeting {
             came: AtomicU64::new(0),
             over: AtomicU64::new(0),
             bell: Bell::new(),
+            writer: Patience::new(),
+            reader: Patience::new(),
         }
     }
 
@@ -41,7 +45,7 @@ impl Meeting {
             if self.came.load(Ordering::SeqCst) != 0 {
                 return true;
             }
-            if looks < LOOKS {
+            if looks < SPINS {
                 spin_loop();
             } else {
                 yield_now();

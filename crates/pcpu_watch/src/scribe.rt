@@ -1,6 +1,8 @@
 //! The scribe: it reads the book, entry by entry, for the writer of the board.
 
-ghost use Rattle.std.specs.Prelude.{◌≡◌, ◌≤◌, ◌<◌, ◌^◌, ◌⊎◌, Some, IfSome, OnOk, OnSome, slice_get};
+ghost use Rattle.std.specs.Prelude.{◌≡◌, ◌≤◌, ◌<◌, ◌^◌, ◌⊎◌, Some, IfNone, IfSome, OnOk, OnSome, length, slice_get, take};
+ghost use Rattle.sched_base.specs.Numbers.{moment};
+ghost use Rattle.sched_report.specs.Stays.{last_moment};
 ghost use Rattle.pcpu_watch.specs.Looks.{ShowsBeginning};
 ghost use Rattle.pcpu_watch.specs.Scribes.{CanWrite, HasWritten, IsScribe, KeepsReading, MayKeep, ReadsOn, front_of, has_read};
 
@@ -8,33 +10,35 @@ use crate::ahead::Ahead;
 use crate::entries::{moment_at, opens_next};
 use crate::looks::Look;
 use hall::{Hall, HallSeat};
-use sched_base::NoMemory;
+use sched_base::{Moment, NoMemory};
 use sched_model::event::Entry;
 use status_board::BoardWriter;
 use std::alloc::Global;
 use std::sync::Wait;
 use std::thread::yield_now;
 
-/// A seat that reads the book for the writer of a board: how many entries it has read and given to the writer, how many moments end with these, and entries that were
-/// read ahead.
+/// A seat that reads the book for the writer of a board: how many entries it has read and given to the writer, how many moments end with these, the moment of the last
+/// of them, and entries that were read ahead.
 pub(crate) struct Scribe {
     pub seat: HallSeat,
     pub writer: BoardWriter,
     pub read: u64,
     pub ended: u32,
+    pub latest: Moment,
     pub ahead: Ahead,
 }
 
 impl Scribe {
     /// A scribe that has read nothing.
     pub(crate) fn new(seat: HallSeat, writer: BoardWriter, ahead: Ahead) -> Scribe
-        ensures { result ≡ record { seat = seat; writer = writer; read = 0; ended = 0; ahead = ahead } }
+        ensures { result ≡ record { seat = seat; writer = writer; read = 0; ended = 0; latest = moment 0; ahead = ahead } }
     {
         Scribe {
             seat,
             writer,
             read: 0,
             ended: 0,
+            latest: Moment(0),
             ahead,
         }
     }
@@ -71,6 +75,7 @@ impl Scribe {
     {
         self.writer.add(alloc, &entry)?;
         self.read += 1;
+        self.latest = entry.at;
         self.ended += u32::from(opens_next(&entry));
         Ok(())
     }
@@ -95,6 +100,30 @@ impl Scribe {
         self.give(alloc, hall, moment, entry)
     }
 
+    /// The moment of the last of so many entries of the book, if they stand in the book by now. The book is taken only where they are neither those that
+    /// were learned of nor all that were read.
+    fn moment_of_last<R: Wait>(
+        &mut self,
+        rt: &R,
+        hall: &Hall,
+        learned: Look,
+        entries: u64,
+    ) -> Option<Moment>
+        requires is { IsScribe hall.now self.old }
+        requires learned { ShowsBeginning (has_read self.old) learned }
+        ensures reading { KeepsReading hall.now self.old self.new }
+        ensures moment { IfSome result (λ t. t.0 ≡ last_moment (take entries (front_of self.new.seat))) }
+        ensures none { IfNone result (entries ≤ 2 ^ 32 → length (front_of self.new.seat) < entries) }
+    {
+        if entries == learned.entries {
+            return Some(learned.moment);
+        }
+        if entries == self.read {
+            return Some(self.latest);
+        }
+        moment_at(rt, hall, &mut self.seat, entries)
+    }
+
     /// The look that is kept of a moment: what was seen, where that is at least what was learned and at most what was read, and has the moment of the last
     /// of so many entries of the book; or else what was learned.
     pub(crate) fn kept<R: Wait>(&mut self, rt: &R, hall: &Hall, learned: Look, seen: Look) -> Look
@@ -107,7 +136,7 @@ impl Scribe {
         ensures as_seen { MayKeep self.old learned seen → result ≡ seen }
     {
         let within = learned.entries <= seen.entries && seen.entries <= self.read;
-        match moment_at(rt, hall, &mut self.seat, seen.entries) {
+        match self.moment_of_last(rt, hall, learned, seen.entries) {
             Some(t) if within && t.0 == seen.moment.0 => seen,
             _ => learned,
         }

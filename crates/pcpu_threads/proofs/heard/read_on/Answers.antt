@@ -12,7 +12,7 @@ returns-clause-heard g c =
     let old : Scribe = c.args.scribe.now in
     let mid : Scribe = record { seat = c.entries.new.seat; ahead = c.entries.new.into } in
     let new : Scribe = record { seat = c.entries.new.seat; ahead = c.clear.new.self } in
-    let found : items ≡ take 512 (drop c.args.read (front_of c.entries.new.seat)) = c.entries.ensures.found ∙ ap (λ (n : ℕ). take n (drop c.args.read (front_of c.entries.new.seat))) c.requires.scribe.room in
+    let found : items ≡ take 2048 (drop c.args.read (front_of c.entries.new.seat)) = c.entries.ensures.found ∙ ap (λ (n : ℕ). take n (drop c.args.read (front_of c.entries.new.seat))) c.requires.scribe.room in
     let count : c.len-count.result ≡ length items = c.len-count.ensures ∙ sym c.as_slice.ensures.len ∙ ap length c.as_slice.ensures.value in
     subst (λ (n : ℕ). HearsOn heard c.args.hall.now c.args.read (c.args.read + n) old c.args.listener.now c.args.outlet.now new c.tell.new.listener c.tell.new.outlet) (sym count)
     (reads-on heard c.args.hall.now c.args.read old mid new items c.args.listener.now c.tell.new.listener c.args.outlet.now c.tell.new.outlet c.requires.scribe c.entries.ensures.stays c.entries.ensures.looked.begins c.requires.inside found refl

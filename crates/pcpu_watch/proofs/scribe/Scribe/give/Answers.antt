@@ -13,7 +13,7 @@ returns-clause-on c =
     let hall = c.args.hall.now in
     let is = c.requires.can.is in
     let ended = ap (λ (n : ℕ). s.ended + n) (c.from.ensures ∙ byte c.opens_next.result ∙ ap (λ (b : Bool). cond b 1 0) c.opens_next.ensures) in
-    reads-on hall s _ (sees-same hall s is) is c.args.entry c.requires.found c.requires.few refl ended c.in_ok-add.ensures.added is.ahead
+    reads-on hall s _ (sees-same hall s is) is c.args.entry c.requires.found c.requires.few refl ended c.in_ok-add.ensures.added refl is.ahead
 
 pub returns-clause-can : goal.returns-clause-can
 returns-clause-can c =
@@ -21,4 +21,4 @@ returns-clause-can c =
     let hall = c.args.hall.now in
     let is = c.requires.can.is in
     let ended = ap (λ (n : ℕ). s.ended + n) (c.from.ensures ∙ byte c.opens_next.result ∙ ap (λ (b : Bool). cond b 1 0) c.opens_next.ensures) in
-    can-go-on hall s _ (sees-same hall s is) is c.args.entry c.requires.found c.requires.few refl ended c.in_ok-add.ensures.added is.ahead c.args.moment c.requires.can c.requires.due
+    can-go-on hall s _ (sees-same hall s is) is c.args.entry c.requires.found c.requires.few refl ended c.in_ok-add.ensures.added refl is.ahead c.args.moment c.requires.can c.requires.due
