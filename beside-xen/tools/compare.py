@@ -177,10 +177,10 @@ def call(words, text=None, seconds=SECONDS):
 
 
 class Model:
-    """A machine, and what xensched makes of it."""
+    """A machine, and what xensched makes of it: the ordered run, or the one that it makes unless that is asked for."""
 
-    def __init__(self, program, domains, work="", seconds=SECONDS):
-        self.seconds = seconds
+    def __init__(self, program, domains, work="", seconds=SECONDS, ordered=True):
+        self.seconds, self.form = seconds, ["--ordered"] if ordered else []
         self.domains, self.work, self.machine = domains, work, tomllib.loads(domains)
         self.size = self.machine.get("granularity", 1)
         self.text = self.run_program(program)
@@ -194,7 +194,7 @@ class Model:
             folder = pathlib.Path(name)
             (folder / "domains.toml").write_text(self.domains)
             (folder / "work.txt").write_text(self.work)
-            done = call([program, "run", "--ordered", "--events", ENTRIES, folder / "domains.toml", folder / "work.txt"], None, self.seconds)
+            done = call([program, "run", *self.form, "--events", ENTRIES, folder / "domains.toml", folder / "work.txt"], None, self.seconds)
         if done.returncode:
             raise Fault(f"{program} ends with {done.returncode}: {done.stderr.strip()}")
         return done.stdout

@@ -115,6 +115,61 @@ def shares(setting):
             setting.fault(f"shares, {row.name}: mean {mean:.4f} of at most {MEAN}, greatest {max(apart):.3f} of at most {GREATEST}", row, seed)
 
 
+# ---- both forms of the run ----
+
+def spread_out(make, **more):
+    """Machines of two to eight cores."""
+    return lambda r: make(r, made.credit2(r, r.randrange(2, 9), milliseconds=1000, **more))
+
+
+def as_made(random, machine):
+    return machine
+
+
+# The machines, and whether the shares of the default run have to be nearer to Xen's than those of the ordered run.
+ORDERS = [
+    (Row("mixed", spread_out(as_made)), True),
+    (Row("mixed, pinned units", spread_out(made.pinned)), True),
+    (Row("mixed, caps", spread_out(as_made, caps=True)), False),
+    (Row("mixed, cores of two", spread_out(made.of_two)), True),
+    (Row("guests that always run", spread_out(as_made, busy=1.0)), True),
+    (Row("guests that always run, pinned units", spread_out(made.pinned, busy=1.0)), True),
+    (Row("guests that always run, caps", spread_out(as_made, busy=1.0, caps=True)), False),
+    (Row("32 cores", lambda r: made.credit2(r, 32, milliseconds=200)), False),
+    (Row("32 cores, pinned units", lambda r: made.pinned(r, made.credit2(r, 32, milliseconds=200))), False),
+]
+
+
+def in_both_orders(job):
+    """Of one machine: for the ordered run, the default run and Xen the distances of shares to Xen, the moves and the waits."""
+    program, beside, texts = job
+    models = [compare.Model(program, *texts, ordered=ordered) for ordered in (True, False)]
+    xen = compare.Both(models[0], beside, ALL).xen
+    runs = [*(model.run for model in models), xen]
+    return models[0].machine["horizon_ns"] / 1e9, [(distances(models[0].shares(run), models[0].shares(xen)), run.moves(), run.latencies()) for run in runs]
+
+
+def orders(setting):
+    seeds = setting.seeds()
+    print(f"\n## The two forms of the run\n\nCredit2, {len(seeds)} made machines a row; unless it says otherwise of two to eight cores. `run --ordered` / `run`, and behind them Xen. "
+          "Share: |xensched - Xen| / the greater, of each domain.\n\n"
+          "| Machines | share: mean | greatest | moves a second | wait, us: mean | 99 % | greatest |\n" + "|---" * 7 + "|")
+    beside = setting.builder.program()
+    for row, nearer in ORDERS:
+        setting.tell(f"orders, {row.name}")
+        found = list(setting.pool.map(in_both_orders, [(setting.program, beside, row.machine(seed)) for seed in seeds]))
+        seconds = sum(it[0] for it in found)
+        apart, waits = ([[value for it in found for value in it[1][side][place]] for side in range(3)] for place in (0, 2))
+        moves = [sum(it[1][side][1] for it in found) / seconds for side in range(3)]
+        means = [sum(values) / len(values) for values in apart[:2]]
+        print("| " + " | ".join([row.name, " / ".join(f"{it:.4f}" for it in means), " / ".join(f"{max(it):.3f}" for it in apart[:2]), " / ".join(f"{it:.0f}" for it in moves),
+                                 " / ".join(f"{sum(it) / max(1, len(it)) / 1000:.0f}" for it in waits), " / ".join(f"{quantile(it, .99):.0f}" for it in waits),
+                                 " / ".join(f"{max(it, default=0) / 1000:.0f}" for it in waits)]) + " |", flush=True)
+        if means[1] > MEAN or max(apart[1]) > GREATEST or nearer and means[1] > means[0]:
+            seed = max(seeds, key=lambda seed: max(found[seed - 1][1][1][0]))
+            setting.fault(f"orders, {row.name}: the default run is {means[1]:.4f} from Xen, the ordered one {means[0]:.4f}", row, seed)
+
+
 # ---- weights and caps alone ----
 
 def one_core(*domains):
