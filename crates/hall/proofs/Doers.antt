@@ -1,13 +1,15 @@
 -- Who does an event of a pool that may come: some actor does, and the pool has it.
-use Rattle.std.proofs.lemmas.Bool.{eq-eqb}
-use Rattle.std.proofs.Common.{◌≡◌, ◌*◌, ◌/◌, ℕ, Bool, true, false, refl, arith, sym, subst}
-use Rattle.std.specs.Prelude.{Option, Some, None, is_some, ◌&&◌, ◌||◌}
+use Rattle.std.proofs.lemmas.Bool.{eq-eqb, eqb-true}
+use Rattle.std.proofs.Common.{◌≡◌, ◌∙◌, ◌*◌, ◌/◌, ℕ, Bool, true, false, refl, arith, ap, sym, subst}
+use Rattle.std.specs.Prelude.{◌==◌, Option, Some, None, is_some, ◌&&◌, ◌||◌}
+use Rattle.sched_base.specs.declared.DomId.{DomId}
+use Rattle.sched_base.specs.declared.ProcId.{ProcId}
 use Rattle.sched_base.specs.Numbers.{has_moment_come, processor}
 use Rattle.sched_base.proofs.Bools.{and_right}
 use Rattle.sched_model.specs.declared.action.Action.{Action}
 use Rattle.sched_model.specs.declared.action.Action.TheVariants.{Wake, Block, Slice, Repl, Refill, Arrive, Decide, Leave, Save}
 use Rattle.sched_model.specs.declared.action.Actor.{Actor}
-use Rattle.sched_model.specs.declared.action.Actor.TheVariants.{Proc, Dom}
+use Rattle.sched_model.specs.declared.action.Actor.TheVariants.{Proc, Dom, Tool}
 use Rattle.sched_model.specs.declared.state.Pool.{Pool}
 use Rattle.sched_model.specs.declared.state.Resource.{Resource}
 use Rattle.sched_model.specs.Actions.{IsOfPool}
@@ -18,7 +20,7 @@ use Rattle.sched_model.specs.Pool.{enabled_in, is_first_processor_up, is_lowest_
 use Rattle.sched_laws.proofs.EachPlace.{found_at}
 use Rattle.sched_laws.proofs.Granularity.{by_granularity}
 use Rattle.sched_laws.proofs.Lists.{is_some_at}
-use Rattle.pool_laws.specs.Actors.{ComesFirstBy, IsFirstBy, is_by, is_by_processor, is_lowest, leads}
+use Rattle.pool_laws.specs.Actors.{ComesFirstBy, IsFirstBy, is_by, is_by_domain, is_by_processor, is_lowest, leads}
 use Rattle.pool_laws.specs.FirstEvents.{IsFirst, IsFirstEnabled}
 use Rattle.composition_laws.specs.Actors.{has_actor}
 use Rattle.composition_laws.proofs.Subjects.{HasCore, has_subject}
@@ -68,6 +70,46 @@ module _ (g t : ℕ) (of : IsGranularity g) (pool : Pool) where
   doer (Leave p) own on = by-itself p.0 (Leave p) (has_subject g t pool (Leave p) on) (eq-eqb p.0 p.0 refl)
   doer (Save r) own on = by-first r.0 (Save r) (has_subject g t pool (Save r) on) (eq-eqb (r.0 * g) (r.0 * g) refl)
   doer event own on = absurd own
+
+  -- the pool has the core of a processor, if it is the core that is there
+  of-core : (p r : ℕ) → p / g ≡ r → HasCore g t pool r → is_some (at_place pool.resources (p / g)) ≡ true
+  of-core p r is core = subst (λ (k : ℕ). is_some (at_place pool.resources k) ≡ true) (sym is) (is_some_at (at_place pool.resources r) core.0 core.1)
+
+  of-itself : (p q : ℕ) → (p == q) ≡ true → HasCore g t pool (q / g) → is_some (at_place pool.resources (p / g)) ≡ true
+  of-itself p q is core = of-core p (q / g) (ap (λ (k : ℕ). k / g) (eqb-true p q is)) core
+
+  of-leader : (p r : ℕ) → leads g r p ≡ true → HasCore g t pool r → is_some (at_place pool.resources (p / g)) ≡ true
+  of-leader p r is core = of-core p r (ap (λ (k : ℕ). k / g) (eqb-true p (r * g) is) ∙ core-of-first g r of) core
+
+  of-lowest : (p : ℕ) → is_lowest g pool p ≡ true → is_some (at_place pool.resources (p / g)) ≡ true
+  of-lowest p is = by-place (first_place 0 (λ (c : Resource). true) pool.resources) refl is
+    where
+      by-place : (o : Option ℕ) → first_place 0 (λ (c : Resource). true) pool.resources ≡ o → elim o as (λ _. Bool) [ None ↦ false | Some r ↦ leads g r p ] ≡ true → is_some (at_place pool.resources (p / g)) ≡ true
+      by-place None at e = absurd (cc)
+      by-place (Some r) at e = (let f = found_at r (λ (c : Resource). true) pool.resources at in of-leader p r e (f.0, f.1))
+
+  has-processor : (p : ProcId) (event : Action) → enabled_in g t pool event ≡ true → is_by_processor g pool p.0 event ≡ true → has_actor g pool (Proc p) ≡ true
+  has-processor p (Block q) on by = of-itself p.0 q.0 by (has_subject g t pool (Block q) on)
+  has-processor p (Slice r) on by = of-leader p.0 r.0 by (has_subject g t pool (Slice r) on)
+  has-processor p (Repl u) on by = of-lowest p.0 by
+  has-processor p (Refill d) on by = of-lowest p.0 by
+  has-processor p (Arrive q) on by = of-itself p.0 q.0 by (has_subject g t pool (Arrive q) on)
+  has-processor p (Decide r) on by = of-leader p.0 r.0 by (has_subject g t pool (Decide r) on)
+  has-processor p (Leave q) on by = of-itself p.0 q.0 by (has_subject g t pool (Leave q) on)
+  has-processor p (Save r) on by = of-leader p.0 r.0 by (has_subject g t pool (Save r) on)
+  has-processor p event on by = absurd (cc)
+
+  has-domain : (d : DomId) (event : Action) → enabled_in g t pool event ≡ true → is_by_domain d.0 event ≡ true → has_actor g pool (Dom d) ≡ true
+  has-domain d (Wake v) on by =
+      let h = has_subject g t pool (Wake v) on in
+      subst (λ (k : ℕ). is_some (at_place pool.domains k) ≡ true) (eqb-true v.dom.0 d.0 by) (is_some_at (at_place pool.domains v.dom.0) h.0 h.1)
+  has-domain d event on by = absurd (cc)
+
+  -- whoever does an event that may come in the pool, the pool has
+  pub has-doer : (event : Action) (actor : Actor) → enabled_in g t pool event ≡ true → is_by g pool actor event ≡ true → has_actor g pool actor ≡ true
+  has-doer event (Proc p) on by = has-processor p event on by
+  has-doer event (Dom d) on by = has-domain d event on by
+  has-doer event Tool on by = absurd (cc)
 
   -- what comes first in the pool comes first of all that its actor does there
   pub first-by : (event : Action) (actor : Actor) → IsFirst g t pool event → is_by g pool actor event ≡ true → ComesFirstBy g t pool actor event

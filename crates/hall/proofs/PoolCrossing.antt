@@ -23,7 +23,7 @@ timed_with_send P g s =
 -- a pool may, where its scheduler may
 pub pool_with_send : (P : RattleType) (g : Ghosts P.Denot) → IsSend P → IsSend (pool_row P g)
 pool_with_send P g s =
-    let fields : AllSend (shape (inside.the_type P g)).fields = (search (sendable, crosses) depth 200 fits 100000, (search (sendable, crosses) depth 200 fits 100000, (timed_with_send P g s, (search sendable depth 40, (search sendable depth 20, tt))))) in
+    let fields : AllSend (shape (inside.the_type P g)).fields = (search (sendable, crosses) depth 200 fits 100000, (search (sendable, crosses) depth 200 fits 100000, (timed_with_send P g s, (search sendable depth 40, (search sendable depth 20, (search (sendable, crosses) depth 200 fits 100000, tt)))))) in
     view_send _ _ _ _ _ (recorded_send (inside.the_field P g).row _ _ (inside.the_type P g).to_one (struct_send (shape (inside.the_type P g)) fields))
 
 -- each of the four schedulers may

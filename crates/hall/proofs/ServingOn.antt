@@ -1,5 +1,5 @@
 -- A hold of a whole pool that keeps the book in hand: who does what comes first, and the two ends.
-use Rattle.std.proofs.Common.{◌≡◌, ◌∙◌, ◌<◌, ◌≤◌, ℕ, true, List, length, refl, sym, subst}
+use Rattle.std.proofs.Common.{◌≡◌, ◌∙◌, ◌<◌, ◌≤◌, ℕ, true, List, length, refl, sym, subst, inl, inr}
 use Rattle.std.specs.Prelude.{None, Option, Some}
 use Rattle.std.specs.Option.{ForSome}
 use Rattle.sched_base.specs.declared.Moment.{Moment}
@@ -24,10 +24,10 @@ use Rattle.hall.specs.declared.seat.Arrival.{Arrival}
 use Rattle.hall.specs.declared.turns.Full.{Full}
 use Rattle.hall.specs.Holds.{InHoldOn, IsHolder, last_of, seated}
 use Rattle.hall.specs.Seats.{Seated}
-use Rattle.hall.specs.Serving.{AreTogether, HasServed, HasServedFull, IsDoerOf, Serves}
+use Rattle.hall.specs.Serving.{AreTogether, HasServed, HasServedFull, IsDoerOf, IsSomebodys, MayComeNext, Serves}
 use Rattle.hall.specs.Steps.{HasTakenBook, KeepsLocks, KeepsSight}
 use Rattle.hall.specs.Turns.{is_actor}
-use Rattle.hall.proofs.Doers.{HasDoer, doer, first-by, none-by}
+use Rattle.hall.proofs.Doers.{HasDoer, doer, first-by, has-doer, none-by}
 use Rattle.hall.proofs.GoingOn.{actor-on, full-on, input-on, knows-on, nothing-on, some-on, stays-end}
 use Rattle.hall.proofs.Together.{inside-held, other-held, some-held, together-held}
 
@@ -54,22 +54,23 @@ module _ (hall : LockTable) (k : ℕ) (low : k < 16) (t : Moment) (slot : Option
       subst IsGranularity (sym ((on.hold.knows.suits seen here.1).granularity))
       (subst (λ (m : Machine). IsGranularity m.config.granularity) (sym on.hold.of.input) checked.config.granularity)
 
+  -- the pool has the actor whose first event this is
+  of-somebody : (action : Action) → IsSomebodys slot t.0 action → (actor : Actor) × IsDoerOf slot t.0 action actor
+  of-somebody action (actor, first) =
+      let f = first seen here.1 in
+      (actor, record { has = at-slot (λ x. has_actor x.granularity x.pool actor ≡ true) (has-doer seen.granularity t.0 of-granularity seen.pool action actor f.enabled f.own); first = first })
+
   -- somebody does what comes first in the pool
-  module _ (action : Action) (first : ForSome slot (λ x. IsFirstEnabled x.granularity t.0 x.pool (Some action))) where
-    first-seen : IsFirst seen.granularity t.0 seen.pool action
-    first-seen = first seen here.1
+  of-first : (action : Action) → ForSome slot (λ x. IsFirstEnabled x.granularity t.0 x.pool (Some action)) → (actor : Actor) × IsDoerOf slot t.0 action actor
+  of-first action first =
+      let f : IsFirst seen.granularity t.0 seen.pool action = first seen here.1 in
+      let who : HasDoer seen.granularity seen.pool action = doer seen.granularity t.0 of-granularity seen.pool action f.of_pool f.enabled in
+      of-somebody action (who.actor, at-slot (λ x. IsFirstBy x.granularity t.0 x.pool who.actor (Some action)) (first-by seen.granularity t.0 of-granularity seen.pool action who.actor f who.by))
 
-    who : HasDoer seen.granularity seen.pool action
-    who = doer seen.granularity t.0 of-granularity seen.pool action first-seen.of_pool first-seen.enabled
-
-    pub doer-on : (actor : Actor) × IsDoerOf slot t.0 action actor
-    doer-on = (
-      who.actor,
-      record {
-        has = at-slot (λ x. has_actor x.granularity x.pool who.actor ≡ true) who.has;
-        first = at-slot (λ x. IsFirstBy x.granularity t.0 x.pool who.actor (Some action)) (first-by seen.granularity t.0 of-granularity seen.pool action who.actor first-seen who.by);
-      },
-    )
+  -- so somebody does what may come next
+  pub doer-on : (action : Action) → MayComeNext slot t.0 (Some action) → (actor : Actor) × IsDoerOf slot t.0 action actor
+  doer-on action (inl somebodys) = of-somebody action somebodys
+  doer-on action (inr first) = of-first action first
 
   -- the book was looked at, and went back as it was
   module _ (new : Sitting) (keeps : KeepsSight s new) (same : KeepsLocks s.view new.view) where
@@ -112,14 +113,14 @@ module _ (hall : LockTable) (k : ℕ) (low : k < 16) (t : Moment) (slot : Option
         }
 
     -- something may, and the book is full
-    pub full-end : (full : Full) (old : Seated) (places : List ℕ) → Serves holder.actor places old (seated mid arrived) → (action : Action) → ForSome slot (λ x. IsFirstEnabled x.granularity t.0 x.pool (Some action))
+    pub full-end : (full : Full) (old : Seated) (places : List ℕ) → Serves holder.actor places old (seated mid arrived) → (action : Action) → MayComeNext slot t.0 (Some action)
         → full.events ≡ b.limit → length b.history ≤ b.limit → (length b.history < b.limit → ⊥) → HasServedFull holder.actor full old (seated new arrived)
-    full-end full old places serves action first events fits no_room =
+    full-end full old places serves action next events fits no_room =
         let mine = actor-on hall k low t slot b mid s arrived holder is_holder checked on in
         let input = input-on hall k low t slot b mid s arrived holder is_holder checked on in
         let knows = knows-on hall k low t slot b mid s arrived holder is_holder checked on in
         let some = some-on hall k low t slot b mid s arrived holder is_holder checked on in
-        let d = doer-on action first in
+        let d = doer-on action next in
         record {
           places = places;
           mid = seated mid arrived;

@@ -1,5 +1,5 @@
 -- What a hold of a whole pool does: events of actors that the pool has, one after the other, while nobody else has the pool.
-use Rattle.std.specs.Prelude.{ℕ, ◌≡◌, ◌∷◌, [], Bool, true, false, List, Option, Some, length}
+use Rattle.std.specs.Prelude.{ℕ, ◌≡◌, ◌⊎◌, ◌∷◌, [], Bool, true, false, List, Option, Some, None, length}
 use Rattle.std.specs.Option.{ForSome}
 use Rattle.sched_model.specs.declared.action.Action.{Action}
 use Rattle.sched_model.specs.declared.action.Actor.{Actor}
@@ -9,6 +9,7 @@ use Rattle.sched_model.specs.Places.{at_place}
 use Rattle.journal_core.specs.Histories.{state_at}
 use Rattle.composition_laws.specs.Actors.{has_actor}
 use Rattle.pool_laws.specs.Actors.{IsFirstBy}
+use Rattle.pool_laws.specs.FirstEvents.{IsFirstEnabled}
 use Rattle.pool_core.specs.Seen.{Seen as PoolSeen}
 use Rattle.hall.specs.declared.hold.Acted.{Acted}
 use Rattle.hall.specs.declared.turns.Full.{Full}
@@ -78,3 +79,12 @@ HasDoneFull false actor full old new = HasFilled actor full old new
 pub record IsDoerOf (slot : Option PoolSeen) (t : ℕ) (action : Action) (actor : Actor) : Type 0 where
   pub has : ForSome slot (λ seen. has_actor seen.granularity seen.pool actor ≡ true)
   pub first : ForSome slot (λ seen. IsFirstBy seen.granularity t seen.pool actor (Some action))
+
+-- an actor's first event at t in the pool of the place
+abbrev pub IsSomebodys : Option PoolSeen → ℕ → Action → Type 0
+IsSomebodys slot t action = (actor : Actor) × ForSome slot (λ seen. IsFirstBy seen.granularity t seen.pool actor (Some action))
+
+-- what may come next in the pool of the place at t: the first event of an actor, or the first of all; and none where none may
+abbrev pub MayComeNext : Option PoolSeen → ℕ → Option Action → Type 0
+MayComeNext slot t None = ForSome slot (λ seen. IsFirstEnabled seen.granularity t seen.pool None)
+MayComeNext slot t (Some action) = IsSomebodys slot t action ⊎ ForSome slot (λ seen. IsFirstEnabled seen.granularity t seen.pool (Some action))

@@ -1,9 +1,9 @@
 //! All events of a pool that may come now, whoever does them, under one hold of its lock.
 
-ghost use Rattle.std.specs.Prelude.{◌≡◌, ◌<◌, true, IfOk, IfErr};
+ghost use Rattle.std.specs.Prelude.{◌≡◌, ◌<◌, true, IfOk, IfErr, IfSome};
 ghost use Rattle.hall.specs.Holds.{InHold, IsHolder, IsOfSomePool, seated};
 ghost use Rattle.hall.specs.Seats.{IsOf, SeatStays, Stays};
-ghost use Rattle.hall.specs.Serving.{HasDone, HasDoneFull, HasServed, HasServedFull};
+ghost use Rattle.hall.specs.Serving.{HasDone, HasDoneFull, HasServed, HasServedFull, IsSomebodys, MayComeNext};
 ghost use Rattle.hall.specs.Turns.{is_actor};
 ghost use Rattle.lock_moves.specs.Words.{name_number};
 ghost use Rattle.journal_core.specs.Parts.{tool_lock};
@@ -17,17 +17,54 @@ use lock_moves::{LockId, LockSeat};
 use machine_parts::PoolSlot;
 use sched_base::Moment;
 use sched_io::Gate;
-use sched_model::action::Actor;
+use sched_model::action::{Action, Actor};
 use std::sync::Wait;
 
+/// The first event of the actor whose turn it is, if that is known and one may come.
+fn event_of(slot: &PoolSlot, turn: Option<Actor>, t: Moment) -> Option<Action>
+    ensures { IfSome result (λ action. IsSomebodys slot.now t.0 action) }
+{
+    let actor = turn?;
+    slot.enabled_for(actor, t)
+}
+
+/// The event that comes first in the pool; where a core is to begin a switch, that of a core that runs nothing, if there is one. So a unit that
+/// comes to wait takes an idle core and does not displace another.
+fn first_event(slot: &PoolSlot, t: Moment) -> Option<Action>
+    ensures { MayComeNext slot.now t.0 result }
+{
+    let first = slot.first_enabled(t);
+    let turn = match first {
+        Some(Action::Arrive(_)) => slot.begins(),
+        _ => None,
+    };
+    match event_of(slot, turn, t) {
+        Some(action) => Some(action),
+        None => first,
+    }
+}
+
+/// The event that comes after this one in the pool: a core that has begun to switch goes on with it before another begins, as a processor does in
+/// Xen. Else it is the one that comes first. Each of these is the first event of the actor that does it, and no contract says whose turn it is.
+fn next_event(slot: &PoolSlot, t: Moment, done: Action) -> Option<Action>
+    ensures { MayComeNext slot.now t.0 result }
+{
+    let turn = slot.goes_on(done, t);
+    match event_of(slot, turn, t) {
+        Some(action) => Some(action),
+        None => first_event(slot, t),
+    }
+}
+
 impl Hall {
-    /// Does the events of a pool that may come now, one after the other in the pool's order, under one hold of its lock and one take of the book, and
+    /// Does the events of a pool that may come now, one after the other, under one hold of its lock and one take of the book, and
     /// answers how many they were. The pool is the one that has the actor: the processor's core, or the domain. Each is the first event of the one who
     /// does it, another actor of the pool or this one, in the state in which its entry stands. It ends where the book was looked at, and no event of
     /// any actor of the pool may come in the state to which the seat's front then leads. It waits for locks. A core of no pool has no event. Full comes
     /// only where a further event may, and the book has no room; what was done before stays.
     ///
-    /// Its entries stand one behind the other, in the pool's order: by kind, then by number and index; no contract says so. Where the pool's lock is
+    /// Its entries stand one behind the other: those that come at a moment of their own by kind, then by number and index; then core by core, each
+    /// through its whole switch, and of those that are to begin one that runs nothing first. No contract says so. Where the pool's lock is
     /// held, and the book not yet, it passes the gate, once: with the processor's number, or 64 more than the domain's. `next` of the answer is `None`.
     pub fn act_pool<R: Wait, G: Gate>(
         &self,
@@ -106,7 +143,7 @@ impl Hall {
     {
         gate.pass(holder.who);
         let mut acted = Acted::nothing();
-        let mut found = slot.first_enabled(t);
+        let mut found = first_event(slot, t);
         let mut book = take_book(rt, &self.set, seat);
         for _ in rt.forever() {
             let Some(action) = found else {
@@ -121,7 +158,7 @@ impl Hall {
             }
             let place = self.act_on_book(seat, arrived, &mut book, lock, slot, t, holder, action);
             acted.add(place);
-            found = slot.first_enabled(t);
+            found = next_event(slot, t, action);
         }
         unreachable!()
     }

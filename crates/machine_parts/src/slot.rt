@@ -114,6 +114,22 @@ impl PoolSlot {
         }
     }
 
+    /// A hint: whose turn it is after this event at t, where a core goes on with its switch.
+    pub fn goes_on(&self, done: Action, t: Moment) -> Option<Actor> {
+        match &self.state {
+            None => None,
+            Some(pool) => pool.goes_on(done, t),
+        }
+    }
+
+    /// A hint: whose turn it is where a core is to begin a switch, and one of them runs nothing.
+    pub fn begins(&self) -> Option<Actor> {
+        match &self.state {
+            None => None,
+            Some(pool) => pool.begins(),
+        }
+    }
+
     /// The least moment at which an event of the pool may come. `None` where none may ever, while nothing else happens, and where there
     /// is no pool.
     pub fn next_moment(&self) -> Option<Moment>

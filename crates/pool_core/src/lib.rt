@@ -15,6 +15,7 @@ mod params;
 pub mod pool;
 mod settling;
 mod timed;
+mod turns;
 pub mod units;
 mod waking;
 

@@ -30,6 +30,7 @@ use crate::events::act;
 use crate::params::{facts, part_of, set_params};
 use crate::settling::{Mark, settle};
 use crate::timed::Timed;
+use crate::turns::{Visits, begins, goes_on};
 use crate::units::set_units;
 use core_state::CoreState;
 use pool_records::cores::has_come;
@@ -55,6 +56,8 @@ pub struct PoolState<P: Policy> {
     policy: Timed<P>,
     mark: Mark,
     in_use: bool,
+    /// A hint, of which contracts see nothing.
+    visits: Visits,
 }
 
 impl<P: Policy> Model for PoolState<P> {
@@ -130,6 +133,7 @@ impl<P: Policy> PoolState<P> {
             policy: Timed::of(policy),
             mark: Mark::unsettled(Moment(0)),
             in_use: false,
+            visits: Visits::none(),
         })
     }
 
@@ -337,6 +341,15 @@ impl<P: Policy> PoolState<P> {
         self.cores.advance(t);
     }
 
+    /// Which unit a core that decided has now.
+    fn remember(&mut self, action: Action, t: Moment)
+        ensures { self.new ≡ self.old }
+    {
+        if let Action::Decide(r) = action {
+            self.visits.note(&self.cores, r, t);
+        }
+    }
+
     /// The closure alone: each core that is to decide anew at t is pending.
     pub fn settle(&mut self, t: Moment)
         requires now { IsNow self.old t.0 }
@@ -360,6 +373,16 @@ impl<P: Policy> PoolState<P> {
         ensures { IsFirstBy self.now.granularity t.0 self.now.pool actor result }
     {
         enabled_for(&self.guests, &self.cores, &self.policy, actor, t)
+    }
+
+    /// A hint: whose turn it is after this event at t, where a core goes on with its switch.
+    pub fn goes_on(&self, done: Action, t: Moment) -> Option<Actor> {
+        goes_on(&self.cores, done, t)
+    }
+
+    /// A hint: whose turn it is where a core is to begin a switch, and one of them runs nothing.
+    pub fn begins(&self) -> Option<Actor> {
+        begins(&self.visits, &self.guests, &self.cores)
     }
 
     /// The least moment at which an event of the pool may come. `None` where none may ever, while nothing else happens.
@@ -417,6 +440,7 @@ impl<P: Policy> PoolState<P> {
         );
         self.mark = Mark::unsettled(t);
         self.look(settled & outcome.spares, outcome.came);
+        self.remember(action, t);
         outcome.event
     }
 

@@ -40,6 +40,7 @@ returns-clause-event g c =
 pub returns-clause-after : goal.returns-clause-after
 returns-clause-after g c =
     let s = c.self.inside.policy in
-    c.look.ensures
+    c.remember.ensures
+    ∙ c.look.ensures
     ∙ happened_is c.args.t.0 c.unsettled-self-inside.result.latest.0 c.self.inside.guests c.act-outcome.new.guests c.self.inside.cores c.act-outcome.new.cores s (c.act-outcome.new.policy) c.self.inside.mark.latest.0 c.self.inside.in_use c.args.action c.act-outcome.result c.args.self.now
     c.act-outcome.ensures (ap (λ (m : Mark). m.latest.0) c.unsettled-self-inside.ensures) (c.self.view_is ∙ c.tell.ensures)
