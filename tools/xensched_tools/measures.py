@@ -1,5 +1,7 @@
 """The measures of a schedule, as docs/MEASURES.md defines them, summed up while it is followed."""
-from .commands import setting
+from .commands import domain_of, setting
+from .machine import options_of
+from .promises import Promises
 from .schedule import Domain, Follower
 
 CAP_PERIOD = 10_000_000
@@ -324,7 +326,7 @@ class Study(Follower):
 
     def __init__(self, machine, work=None, each=None):
         super().__init__(machine, work)
-        self.each = each
+        self.each, self.promises = each, None
         self.visits, self.frames, self.next_boundary = [], [], None
         for home in self.pools.values():
             home.tally = PoolTally(0)
@@ -336,6 +338,40 @@ class Study(Follower):
         for home in self.pools.values():
             if home.settings.get("frame"):
                 self.frame_set(home)
+
+    # what the laws promise
+
+    def count_promises(self):
+        """Asks for the table `promises`, before the first line."""
+        self.promises = Promises(self)
+
+    def decided(self, core, unit):
+        if self.promises:
+            self.promises.decided(core, unit)
+
+    def stalled(self, processor, until):
+        if self.promises:
+            self.promises.stalled(processor, until)
+
+    def answered_command(self, number, command, answer):
+        if self.promises:
+            self.promises.has_commands = True
+            if command is not None and not answer.startswith("refused"):
+                self._command_promises(command.words)
+
+    def _command_promises(self, words):
+        """A command is about to be carried out: it may send a core or a domain elsewhere, or pin one."""
+        rest = options_of(words)[1]
+        try:
+            if words[0] == "cpupool-cpu-remove":
+                self.promises.core_leaves(self.processors[f"p{int(rest[1])}"].core)
+            elif words[0] == "cpupool-migrate":
+                self.promises.domain_moves(domain_of(self, rest[0]))
+            elif words[0] == "vcpu-pin":
+                self.promises.pins(domain_of(self, rest[0]))
+        except (IndexError, KeyError, ValueError):
+            # that the command cannot have been done is said where it is carried out
+            return
 
     # pools and what they promise
 
@@ -379,6 +415,8 @@ class Study(Follower):
         visit.at_most = None if at_most is None or visit.at_most is None else visit.at_most + at_most * span
 
     def joined(self, subject, home):
+        if self.promises:
+            self.promises.joined(subject)
         if not isinstance(subject, Domain):
             return
         subject.tally.visit.leave(self.now)
@@ -438,6 +476,8 @@ class Study(Follower):
             waited = unit.waited_by(self.now) - max(term.waited, unit.waited_when_ready)
             missing = min(term.budget - had, waited)
         terms.add(term, had, ran - had, missing, self.now)
+        if self.promises:
+            self.promises.term_over(unit, term, ran, self.now)
         if self.each:
             self.each("term", unit.name, term.begin, self.now, term.budget, had=had, missing=missing, extra=ran - had, late=late)
 
@@ -449,12 +489,19 @@ class Study(Follower):
         self._pass_boundaries(self.now)
 
     def moment_comes(self, moment):
+        if self.promises:
+            self.promises.time_passes(self.now, moment)
         if self.next_boundary is not None and self.next_boundary <= moment:
             self._pass_boundaries(moment)
+        if self.promises:
+            for frame in self.frames:
+                self.promises.window_passes(frame, moment)
 
     def _pass_boundaries(self, moment):
         for frame in self.frames:
             while frame.next <= moment:
+                if self.promises:
+                    self.promises.window_passes(frame, frame.next)
                 at, ended = frame.next, frame.step()
                 if ended and self.each:
                     window, had, lost = ended

@@ -208,6 +208,9 @@ class Follower:
         """Told that the processor does this from now on."""
         processor.doing = doing
 
+    def decided(self, core, unit):
+        """Told that the core decides for the unit, or to idle (None); what it had before is still its own."""
+
     def stay_over(self, core):
         """Told that the core's unit leaves it, or that the run ends."""
 
@@ -295,6 +298,7 @@ class Follower:
         core = self.cores[words[2]]
         unit = None if words[3] == "idle" else self.units[words[3]]
         before = core.unit
+        self.decided(core, unit)
         core.decides += 1
         core.due, core.last_late = words[5], words[7]
         if words[7] != "0":

@@ -62,7 +62,7 @@ def figure(study, column):
         return WHOLE[column](study)
     table, _, rest = column.partition(".")
     name, _, key = rest.rpartition(".")
-    if table not in tables.TABLES or not name:
+    if table not in tables.USUAL or not name:
         raise Refused(f"{column!r} is no column: it is one of {', '.join(WHOLE)}, or TABLE.ROW.KEY of a study, as domains.web.share")
     made = tables.TABLES[table](study)
     if key not in [it.full_key for it in made.columns]:

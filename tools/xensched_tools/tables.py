@@ -193,6 +193,16 @@ def cores(study):
     return Table("cores", "Cores, and the lateness of their decisions", columns, rows)
 
 
+def promises(study):
+    columns = texts("unit", "name", "pool") + [Column("promise", "promise", "text"), Column("by", "by the law, or why none is made", "text"), Column("claimed", "claimed"), Column("asleep", "not runnable"),
+                                               Column("unusable", "core not usable"), Column("promised", "promised"), Column("had", "had"), Column("above", "above"), Column("owed", "owed")]
+    rows = []
+    for unit, visit, promise, law, claim in study.promises.rows() if study.promises else []:
+        times = [claim.claimed, claim.asleep, claim.unusable, claim.promised, claim.had, claim.had - claim.promised, claim.owed] if claim and law.startswith("law_") else [None] * 7
+        rows.append([unit.name, unit.domain.name, visit.name, promise, law, *times])
+    return Table("promises", "What each unit is promised at least, and what it had", columns, rows, 3)
+
+
 def limits(study, asked):
     columns = texts("vcpu", "name", "kind") + [Column("limit", "limit"), Column("met", "met", "count"), Column("missed", "missed", "count"), Column("first_missed", "first missed at")]
     rows = [[it.vcpu.name, it.vcpu.domain.name, it.kind, it.span, it.met, it.missed, it.first_missed] for it in asked]
@@ -200,10 +210,12 @@ def limits(study, asked):
 
 
 TABLES = {"pools": pools, "domains": domains, "units": units, "vcpus": vcpus, "waits": waits, "jobs": jobs, "releases": releases,
-          "terms": terms, "windows": windows, "caps": caps, "cores": cores}
+          "terms": terms, "windows": windows, "caps": caps, "cores": cores, "promises": promises}
+# Those that are made where nobody asks for others.
+USUAL = [name for name in TABLES if name != "promises"]
 
 
-def tables_of(study, names=TABLES):
+def tables_of(study, names=USUAL):
     """The tables of a study that have rows."""
     made = [TABLES[name](study) for name in names]
     return [table for table in made if table.rows]

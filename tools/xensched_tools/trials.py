@@ -11,7 +11,7 @@ from typing import NamedTuple
 from . import calls, faulty, spoiling
 from .machine import read_machine, read_work
 from .schedule import Follower
-from .measures import Reported
+from .measures import Reported, Study
 from .wild import WRONG_WORDS
 from .words import Refused
 
@@ -113,12 +113,26 @@ class Trial:
         self.claim(is_whole and entries <= limit if ended.status == 0 else entries == limit, f"{name} run: the entries are those of the status", f"status {ended.status}, {entries} entries")
         self.claim(ended.status == 0 or ended.err == b"xensched: full at %d entries\n" % limit, f"{name} run: the line names the limit", ended.err)
         self.answers(name, ended.out)
+        self.promises(name, ended.out)
         owed = (0, b"yes %d\n" % entries) if ended.status == 0 else (9, b"no %d Unfinished\n" % (entries + 1))
         taken = []
         for words in [[], ["--ordered"]] if name == "ordered" else [[]]:
             verdict = self.call("check", *words, "domains", "work", name)
             taken.append(self.claim(verdict[:2] == owed, " ".join(["check", *words, f"takes the {name} run"]), verdict[:2]))
         return all(taken)
+
+    def promises(self, name, out):
+        """No unit has less than a law promises it."""
+        try:
+            study = Study(read_machine(self.folder / "domains"), read_work(self.folder / "work"))
+            study.count_promises()
+            study.follow(out.decode().splitlines())
+        except Refused:
+            # that the tools can follow the schedule is claimed of the report
+            return
+        self.counts.update(f"promises by {law}" for _, _, _, law, claim in study.promises.rows() if law.startswith("law_") and claim is not None)
+        owed = list(study.promises.faults())
+        self.claim(not owed, f"{name} run: no unit has less than a law promises it", owed)
 
     def answers(self, name, out):
         """Words that are no command are answered with the place that the page gives."""
