@@ -4,6 +4,7 @@ import dataclasses
 import io
 import json
 
+from .machine import UNKNOWN
 from .measures import Distribution, capacity_of, said_of, since_release
 from .schedule import PAUSED, RUNS, SLEEPS, WAITS
 from .words import milliseconds, percent
@@ -236,6 +237,8 @@ def as_json(study, tables):
     """All of a study for programs."""
     run = {"entries": study.entries, "finished": study.finished, "last_entry_ns": study.last, "counted_to_ns": study.end, "horizon_ns": study.machine.horizon,
            "contradictions": study.fault_count, "refused": [number for number, _, _ in study.refused], "unreached": [command.number for command in study.unreached()]}
+    if any(vcpu.script is None for vcpu in study.vcpus.values()):
+        run["guests"] = UNKNOWN
     return json.dumps({"run": run, **{table.name: table.records() for table in tables}}, indent=1)
 
 
