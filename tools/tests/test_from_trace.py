@@ -261,8 +261,10 @@ class Spoiled(Written):
         lines = (DATA / "trace.txt").read_text().splitlines(keepends=True)
         at = [n for n, line in enumerate(lines) if "runstate_change" in line]
         first, last = at[200], at[240]
-        cut = lines[:first] + [lines[first].partition(" d")[0] + " d0v0 lost_records count 41 d0v0 (cur d0v0) first_tsc 5\n"] + ["               l| lost_records end ---\n"] + lines[last:]
-        trace = read_trace(self.file("".join(cut), "trace.txt"))
+        # xenalyze tells a loss behind the last record before it, with the moment of the first one after it, and has remarks
+        told = [lines[last].partition(" d")[0] + " d0v0 lost_records count 41 d0v0 (cur d0v0) first_tsc 5\n", "process_lost_records: setting d0v0 to RUNSTATE_LOST\n", *lines[first : first + 3],
+                "               x| lost_records end ---\n", "               x| lost_records end d0v0---\n", "runstate_change old_runstate runnable, d0v0 runstate running.  Possible tsc skew.\n"]
+        trace = read_trace(self.file("".join(lines[:first] + told + lines[last:]), "trace.txt"))
         moments = [int(lines[n].split()[0].replace(".", "")) for n in (at[199], last)]
         self.assertEqual((trace.lost, trace.gaps), (41, [tuple(moments)]))
 

@@ -152,7 +152,7 @@ def read_dump(path):
     trace, begun, deaf = Trace([], 0), None, 0
     with open(path, encoding="utf-8", errors="replace") as lines:
         for number, line in enumerate(lines, 1):
-            if "runstate_c" in line:
+            if "runstate_c" in line and line.startswith(" "):       # what xenalyze has to remark begins at once
                 found = CHANGE.match(line.rstrip("\r\n"))
                 if not found or found[7] not in STATES or found[8] not in STATES:
                     raise Refused(f"{path}: line {number} is no change of a state as xenalyze prints it: {line.strip()[:80]!r}")
