@@ -124,9 +124,14 @@ void wake_guest(struct vcpu *vcpu)
     present_cpu = TOOLSTACK;
 }
 
-/* Xen's own trace records of replenishments and resets. */
-void take_trace(u32 event, const void *record)
+/*
+ * Xen's own trace records: all of them to the file that was asked for, as xentrace writes it, and those of replenishments
+ * and resets to the log. What the toolstack brings about is on processor 0.
+ */
+void take_trace(u32 event, unsigned int size, const void *record)
 {
+    if ( is_begun )
+        host_trace(present_cpu == TOOLSTACK ? 0 : present_cpu, present_moment, event, size, record);
     if ( event == TRC_SCHED_CLASS_EVT(RTDS, 4) )
     {
         const struct __packed { u16 unit, domain; u32 level; u64 deadline, budget; } *it = record;

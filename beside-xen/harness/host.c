@@ -52,8 +52,61 @@ void host_complain(const char *format, ...)
     va_end(values);
 }
 
+/*
+ * Xen's trace file: for each processor a window of its records after a record that names the processor and the window's
+ * length in bytes. A record is a word of event (bits 0 to 27), count of values (28 to 30) and whether it has a moment (31),
+ * two words of cycles, the low one first, and the values. No time passes while Xen's code runs, and xenalyze orders the records
+ * of all processors by their cycles, so a nanosecond has 1024 cycles: the records of one moment stand at one cycle each, in order.
+ */
+enum { CYCLES = 1024, WINDOW = 1 << 15, CPU_CHANGE = 0x0001f003 };
+static struct window { unsigned int used; unsigned char bytes[WINDOW]; } windows[THREADS];
+static FILE *trace;
+
+static void write_windows(void)
+{
+    unsigned int processor;
+    for (processor = 0; processor < THREADS; processor++) {
+        struct window *it = &windows[processor];
+        unsigned int head[3] = { CPU_CHANGE | 2u << 28, processor, it->used };
+        if (!it->used)
+            continue;
+        fwrite(head, sizeof head, 1, trace);
+        fwrite(it->bytes, it->used, 1, trace);
+        it->used = 0;
+    }
+}
+
+void host_trace(unsigned int processor, unsigned long moment, unsigned int event, unsigned int size, const void *values)
+{
+    static int is_tried;
+    static unsigned long last, place;
+    unsigned long cycle = moment * CYCLES + (place = moment == last && place < CYCLES - 1 ? place + 1 : 0);
+    unsigned int words = (size + 3) / 4, head[3] = { event | words << 28 | 1u << 31, cycle, cycle >> 32 };
+    struct window *it = &windows[processor];
+    last = moment;
+    if (!is_tried++ && getenv("XENTRACE"))
+        trace = fopen(getenv("XENTRACE"), "w");
+    if (!trace)
+        return;
+    if (it->used + sizeof head + 4 * words > WINDOW)
+        write_windows();
+    memcpy(it->bytes + it->used, head, sizeof head);
+    memset(it->bytes + it->used + sizeof head, 0, 4 * words);
+    memcpy(it->bytes + it->used + sizeof head, values, size);
+    it->used += sizeof head + 4 * words;
+}
+
+void host_end_trace(void)
+{
+    if (!trace)
+        return;
+    write_windows();
+    fclose(trace);
+}
+
 void host_end(int status)
 {
+    host_end_trace();
     fflush(stdout);
     fflush(stderr);
     _Exit(status);

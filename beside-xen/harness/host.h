@@ -7,6 +7,10 @@ void host_entry(long moment, const char *format, ...) __attribute__((__format__(
 void host_complain(const char *format, ...) __attribute__((__format__(__printf__, 1, 2)));
 void host_end(int status) __attribute__((__noreturn__));
 
+/* A record of Xen's trace, into the file that the variable XENTRACE names. At the end what is left is written. */
+void host_trace(unsigned int processor, unsigned long moment, unsigned int event, unsigned int size, const void *values);
+void host_end_trace(void);
+
 /* The words of the input, which is a list of words parted by white space. */
 void host_open(const char *name);
 int host_word(char *word, int size);                /* whether there was one */

@@ -72,6 +72,14 @@ class Builder:
                 self.link(name, changes)
         return self.folder / name
 
+    def xenalyze(self):
+        """Xen's own reader of traces, from the same source package."""
+        tools, named = self.xen.parent / "tools", self.folder / "public"
+        named.mkdir(exist_ok=True)
+        if not (named / "xen").exists():
+            (named / "xen").symlink_to(self.xen / "include" / "public")
+        return self.made("xenalyze", "-O2", "-w", f"-I{named}", f"-I{tools / 'include'}", *(tools / "xentrace" / f"{name}.c" for name in ("xenalyze", "mread")))
+
     def link(self, name, changes):
         sources = {it: self.xen / "common" / "sched" / f"{it}.c" for it in SCHEDULERS}
         for change in changes:

@@ -1,5 +1,5 @@
 """What `--deadline`, `--latency` and `--share` ask of a study, and whether it was kept."""
-from .measures import Limit, capacity_of, ran_by
+from .measures import Limit, capacity_of, ran_by, since_release
 from .schedule import SLEEPS
 from .words import Refused, milliseconds, percent, time_of
 
@@ -34,7 +34,7 @@ def limits_of(study, deadlines, latencies):
         for text in texts:
             who, value = parted(text)
             # a guest that runs without end has no jobs
-            vcpus = [vcpu for vcpu in vcpus_of(study, who) if vcpu.script or kind == "latency"]
+            vcpus = [vcpu for vcpu in vcpus_of(study, who) if vcpu.script != [] or kind == "latency"]
             if not vcpus:
                 raise Refused(f"{who} has no jobs: its scripts are empty, and it runs without end")
             for vcpu in vcpus:
@@ -61,8 +61,9 @@ def judge_open(study, asked):
         vcpu = limit.vcpu
         if vcpu.state == SLEEPS or vcpu.job_from is None or (limit.kind == "latency" and vcpu.has_run):
             continue
-        if study.end - vcpu.job_from > limit.span:
-            limit.judge(study.end - vcpu.job_from, study.end)
+        age = since_release(vcpu, study.end)
+        if age > limit.span:
+            limit.judge(age, study.end)
 
 
 def broken_limits(asked):

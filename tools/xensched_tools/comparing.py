@@ -15,13 +15,17 @@ SMALL = 0.01
 # What the tables name a row by; a domain's pool may differ from machine to machine, and so may its number.
 NAMES = {"vcpus": ["vcpu", "name"], "limits": ["vcpu", "name", "kind"], "terms": ["unit", "name"], "windows": ["pool", "window", "name"], "waits": ["vcpu", "name"], "jobs": ["vcpu", "name", "job"], "domains": ["name"],
          "units": ["unit", "name"], "caps": ["name"], "pools": ["name"], "cores": ["core"]}
+# What the schedule of a host does not say: which job of a script a job is, and when a budget or a window begins.
+NOT_OF_A_HOST = ("jobs", "terms", "windows", "caps")
 
 
-def figures_of(records):
+def figures_of(records, left_out=()):
     """Each figure by its class, table, row and key, from the tables as JSON has them."""
     found = {}
     for rank, chosen in enumerate(CLASSES):
         for table, keys in chosen.items():
+            if table in left_out:
+                continue
             for record, name in named(table, records.get(table, [])):
                 for key in keys:
                     full = key if key in record else f"{key}_ns"
@@ -65,7 +69,8 @@ def as_text(names, rows):
 
 def compared(all_records):
     """A row for each figure that differs: table, name, key, the values, and how much they differ, as a part of the greatest value that any row has for that key. The classes come in their order, in each the greatest difference first."""
-    each = [figures_of(records) for records in all_records]
+    of_a_host = any("guests" in records.get("run", {}) for records in all_records)
+    each = [figures_of(records, NOT_OF_A_HOST if of_a_host else ()) for records in all_records]
     names = dict.fromkeys(name for figures in each for name in figures)
     greatest = {}
     for figures in each:

@@ -8,6 +8,7 @@ from .words import Refused
 SCHEDULERS = ("credit2", "rtds", "arinc653", "null")
 POOL_KEYS = {"credit2": ("ratelimit_us",), "rtds": (), "arinc653": ("major_ns", "frame"), "null": ()}
 DOMAIN_KEYS = {"credit2": ("weight", "cap"), "rtds": ("period_us", "budget_us", "extratime"), "arinc653": (), "null": ()}
+UNKNOWN = "unknown"         # in place of a script: the schedule alone says what the vCPU did
 DEFAULTS = {"ratelimit_us": 1000, "weight": 256, "cap": 0, "period_us": 10000, "budget_us": 4000, "extratime": True}
 
 
@@ -23,7 +24,7 @@ class Pool:
 
 @dataclasses.dataclass
 class Domain:
-    """A domain of the domain file; `settings` are the keys of its pool's scheduler that the file has."""
+    """A domain of the domain file; `settings` are the keys of its pool's scheduler that the file has. A script that is not known is None."""
 
     name: str
     pool: str
@@ -73,7 +74,8 @@ class Machine:
             lines += table("pool", {"name": pool.name, "sched": pool.sched, "cpus": pool.cpus, **pool.settings})
         for domain in self.domains:
             pins = {} if domain.pins is None else {"pins": domain.pins}
-            lines += table("domain", {"name": domain.name, "pool": domain.pool, **domain.settings, "guests": domain.guests, **pins})
+            guests = [UNKNOWN if script is None else script for script in domain.guests]
+            lines += table("domain", {"name": domain.name, "pool": domain.pool, **domain.settings, "guests": guests, **pins})
         return "\n".join(lines) + "\n"
 
 
@@ -103,8 +105,8 @@ def read_domain(found, pools, where):
     pool = next((pool for pool in pools if pool.name == home), None)
     if pool is None:
         raise Refused(f"{where}: there is no pool {home!r}")
-    guests = value_of(found, "guests", list, where)
-    if not all(isinstance(script, list) and all(isinstance(span, int) for span in script) for script in guests):
+    guests = [None if script == UNKNOWN else script for script in value_of(found, "guests", list, where)]
+    if not all(script is None or isinstance(script, list) and all(isinstance(span, int) for span in script) for script in guests):
         raise Refused(f"{where}: `guests` is no list of lists of numbers")
     return Domain(name, home, guests, found.get("pins"), {key: found[key] for key in DOMAIN_KEYS[pool.sched] if key in found})
 

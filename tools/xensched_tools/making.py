@@ -75,6 +75,9 @@ def get_ready():
 
 def run(machine, work_path=None, prepare=lambda study: None):
     """The study of the machine's ordered run with this work file, None for none; `prepare` is told the study before it begins."""
+    for domain in machine.domains:
+        if None in domain.guests:
+            raise Refused(f"what the vCPUs of {domain.name} do is not known, so there is nothing to run: its schedule can be studied (tools/study --json)")
     with tempfile.TemporaryDirectory(prefix="xensched-") as folder:
         domains, empty, schedule = (pathlib.Path(folder) / name for name in ("domains.toml", "work.txt", "schedule.txt"))
         domains.write_text(machine.text())

@@ -2,7 +2,7 @@
 from .commands import domain_of, setting
 from .machine import options_of
 from .promises import Promises
-from .schedule import Domain, Follower
+from .schedule import PAUSED, Domain, Follower
 
 CAP_PERIOD = 10_000_000
 
@@ -99,12 +99,13 @@ class Limit:
 class VcpuTally:
     """What is summed up of a vCPU: its waits, its jobs, and how far its releases have drifted."""
 
-    __slots__ = ("waits", "jobs", "due", "delayed", "releases", "drifted", "drift", "deadlines", "latencies")
+    __slots__ = ("waits", "jobs", "due", "delayed", "releases", "drifted", "drift", "deadlines", "latencies", "paused_before")
 
     def __init__(self, vcpu):
-        self.waits, self.jobs = Distribution(), [Distribution() for _ in vcpu.script[::2]]
-        self.due = self.delayed = self.drifted = self.drift = 0
-        self.releases, self.deadlines, self.latencies = 1, [], []
+        # of a script that is not known all jobs are of one kind
+        self.waits, self.jobs = Distribution(), [Distribution() for _ in ([None] if vcpu.script is None else vcpu.script[::2])]
+        self.due = self.delayed = self.drifted = self.drift = self.paused_before = 0
+        self.releases, self.deadlines, self.latencies = int(vcpu.job_from is not None), [], []
 
 
 class Term:
@@ -255,6 +256,12 @@ class PoolTally:
         self.settled, self.frames = begin, []
 
 
+def since_release(vcpu, at):
+    """The time since the vCPU's release, without that in which its domain was paused though it could have run."""
+    paused = vcpu.times[PAUSED] + (at - vcpu.since if vcpu.state == PAUSED else 0)
+    return at - vcpu.job_from - (paused - vcpu.tally.paused_before)
+
+
 def ran_by(domain, at):
     """The time of the domain's units on cores."""
     return sum(unit.ran_by(at) for unit in domain.units)
@@ -386,9 +393,9 @@ class Study(Follower):
             unit.tally = [self._first_term(unit), terms]
 
     def _first_term(self, unit):
-        """A unit that joins an RTDS pool has its budget at once."""
+        """A unit that joins an RTDS pool has its budget at once. Where it is not known what the domain does, the schedule begins within a term."""
         domain = unit.domain
-        if domain.home.sched != "rtds":
+        if domain.home.sched != "rtds" or any(vcpu.script is None for vcpu in domain.vcpus):
             return None
         period, budget = (setting(domain, key) * 1000 for key in ("period_us", "budget_us"))
         return Term(self.now, self.now + period, budget, unit)
@@ -427,31 +434,35 @@ class Study(Follower):
     # waits and jobs
 
     def began(self, vcpu):
-        tally, wait = vcpu.tally, self.now - vcpu.job_from
+        tally, wait = vcpu.tally, since_release(vcpu, self.now)
         tally.waits.add(wait, self.now)
         for limit in tally.latencies:
             limit.judge(wait, self.now)
 
     def job_done(self, vcpu):
-        script, tally, place = vcpu.script, vcpu.tally, 2 * vcpu.jobs % (len(vcpu.script) or 1)
-        if not script:
+        script, tally, work, place = vcpu.script, vcpu.tally, None, 0
+        if script == []:
             self.fault(f"{vcpu.name} blocks, and its script never does")
             return
-        tally.due += script[place] + script[place + 1]
+        if script:
+            place = 2 * vcpu.jobs % len(script)
+            work = script[place]
+            tally.due += work + script[place + 1]
         if vcpu.job_from is None:
             return
-        response = self.now - vcpu.job_from
+        response = since_release(vcpu, self.now)
         tally.jobs[place // 2].add(response, self.now)
-        tally.delayed += response > script[place]
+        tally.delayed += work is not None and response > work
         for limit in tally.deadlines:
             limit.judge(response, self.now)
         if self.each:
-            self.each("job", vcpu.name, vcpu.job_from, self.now, script[place], response=response)
+            self.each("job", vcpu.name, vcpu.job_from, self.now, work, response=response)
 
     def released(self, vcpu):
         tally = vcpu.tally
         tally.releases += 1
-        tally.drift = self.now - tally.due
+        tally.paused_before = vcpu.times[PAUSED]
+        tally.drift = self.now - tally.due - tally.paused_before
         tally.drifted += tally.drift > 0
 
     # RTDS

@@ -154,7 +154,10 @@ class Promises:
             for unit in domain.units:
                 homes = {visit.home.index: visit for visit in self.study.visits if visit.domain is domain}
                 for index, visit in homes.items():
-                    yield unit, visit, *PROMISES.get(visit.home.sched, unknown)(self, unit, visit.home), self.claims.get((unit, index))
+                    promise, law = PROMISES.get(visit.home.sched, unknown)(self, unit, visit.home)
+                    if any(vcpu.script is None for vcpu in self.study.vcpus.values()):
+                        law = "the schedule is that of a host"
+                    yield unit, visit, promise, law, self.claims.get((unit, index))
 
     def faults(self):
         """A sentence for each unit that had less than it was promised."""
@@ -165,7 +168,7 @@ class Promises:
 
 def never_sleeps(study, unit):
     """Some vCPU of it runs for ever."""
-    return any(not vcpu.script for vcpu in unit.domain.vcpus if vcpu.unit is unit)
+    return any(vcpu.script == [] for vcpu in unit.domain.vcpus if vcpu.unit is unit)
 
 
 def disturbed(promises, home):

@@ -13,7 +13,7 @@ MOST_FAULTS = 100
 
 
 class Vcpu:
-    """A vCPU: what it does since when, and its present job."""
+    """A vCPU: what it does since when, and its present job. Where its script is not known (None), it sleeps until a line speaks of it."""
 
     __slots__ = ("name", "domain", "unit", "index", "script", "state", "since", "times", "job_from", "has_run", "jobs", "tally")
 
@@ -21,6 +21,12 @@ class Vcpu:
         self.name, self.domain, self.unit, self.index, self.script = f"d{domain.index}v{index}", domain, unit, index, script
         self.state, self.since, self.times = WAITS, 0, [0, 0, 0, 0]
         self.job_from, self.has_run, self.jobs, self.tally = 0, False, 0, None
+        if script is None:
+            self.state, self.job_from, self.has_run = SLEEPS, None, True
+
+    def may_be_anything(self):
+        """Whether no line has said yet what it does."""
+        return self.script is None and self.job_from is None and not self.jobs
 
 
 class Unit:
@@ -129,7 +135,7 @@ class Follower:
             domain.units = [Unit(domain, u) for u in range(self.machine.units_of(described))]
             for v, script in enumerate(described.guests):
                 unit = domain.units[v // self.machine.granularity]
-                unit.awake += 1
+                unit.awake += script is not None
                 domain.vcpus.append(Vcpu(domain, unit, v, script))
             self.domain_list.append(domain)
             self.units.update((unit.name, unit) for unit in domain.units)
@@ -270,7 +276,8 @@ class Follower:
 
     def _run(self, processor, vcpu):
         if vcpu.state == SLEEPS:
-            self.fault(f"{vcpu.name} runs, and no line says that it woke")
+            if not vcpu.may_be_anything():
+                self.fault(f"{vcpu.name} runs, and no line says that it woke")
             vcpu.job_from, vcpu.has_run = None, True
             vcpu.unit.awake += 1
         elif vcpu.state == RUNS:
@@ -340,7 +347,8 @@ class Follower:
 
     def _block(self, words):
         processor, vcpu = self.processors[words[2]], self.vcpus[words[3]]
-        if processor.doing is not vcpu:
+        runs = processor.doing is vcpu
+        if not runs and vcpu.script is not None:
             self.fault(f"{vcpu.name} blocks on p{processor.index}, which does not run it")
         if vcpu.state == SLEEPS:
             return
@@ -349,7 +357,8 @@ class Follower:
         self.change(vcpu, SLEEPS)
         vcpu.unit.awake -= 1
         self._settle(vcpu.unit)
-        self.turn(processor, IDLE)
+        if runs or vcpu.script is not None:
+            self.turn(processor, IDLE)
 
     def _wake(self, words):
         vcpu = self.vcpus[words[2]]

@@ -4,7 +4,8 @@ import dataclasses
 import io
 import json
 
-from .measures import Distribution, capacity_of, said_of
+from .machine import UNKNOWN
+from .measures import Distribution, capacity_of, said_of, since_release
 from .schedule import PAUSED, RUNS, SLEEPS, WAITS
 from .words import milliseconds, percent
 
@@ -124,12 +125,12 @@ def waits(study):
 
 def open_wait(study, vcpu):
     """How long a vCPU that has not run since its release waits at the end, None where it does not."""
-    return study.end - vcpu.job_from if not vcpu.has_run and vcpu.state != SLEEPS else None
+    return since_release(vcpu, study.end) if not vcpu.has_run and vcpu.state != SLEEPS else None
 
 
 def open_job(study, vcpu):
     """How long the job that is not done is old at the end, None where there is none."""
-    return study.end - vcpu.job_from if vcpu.script and vcpu.state != SLEEPS and vcpu.job_from is not None else None
+    return since_release(vcpu, study.end) if vcpu.script != [] and vcpu.state != SLEEPS and vcpu.job_from is not None else None
 
 
 def jobs(study):
@@ -137,8 +138,9 @@ def jobs(study):
     rows = []
     for vcpu in study.vcpus.values():
         for place, spans in enumerate(vcpu.tally.jobs):
-            present = 2 * vcpu.jobs % len(vcpu.script) // 2 == place
-            rows.append([vcpu.name, vcpu.domain.name, str(place), vcpu.script[2 * place], *spread_of(spans), open_job(study, vcpu) if present else None])
+            present = not vcpu.script or 2 * vcpu.jobs % len(vcpu.script) // 2 == place
+            work = vcpu.script[2 * place] if vcpu.script else None
+            rows.append([vcpu.name, vcpu.domain.name, str(place), work, *spread_of(spans), open_job(study, vcpu) if present else None])
     return Table("jobs", "Jobs: from release to block", columns, rows, 3)
 
 
@@ -247,6 +249,8 @@ def as_json(study, tables):
     """All of a study for programs."""
     run = {"entries": study.entries, "finished": study.finished, "last_entry_ns": study.last, "counted_to_ns": study.end, "horizon_ns": study.machine.horizon,
            "contradictions": study.fault_count, "refused": [number for number, _, _ in study.refused], "unreached": [command.number for command in study.unreached()]}
+    if any(vcpu.script is None for vcpu in study.vcpus.values()):
+        run["guests"] = UNKNOWN
     return json.dumps({"run": run, **{table.name: table.records() for table in tables}}, indent=1)
 
 
