@@ -3,11 +3,10 @@ import dataclasses
 import json
 import tomllib
 
+from . import checking
+from .checking import DOMAIN_KEYS, POOL_KEYS, SCHEDULERS
 from .words import Refused
 
-SCHEDULERS = ("credit2", "rtds", "arinc653", "null")
-POOL_KEYS = {"credit2": ("ratelimit_us",), "rtds": (), "arinc653": ("major_ns", "frame"), "null": ()}
-DOMAIN_KEYS = {"credit2": ("weight", "cap"), "rtds": ("period_us", "budget_us", "extratime"), "arinc653": (), "null": ()}
 UNKNOWN = "unknown"         # in place of a script: the schedule alone says what the vCPU did
 DEFAULTS = {"ratelimit_us": 1000, "weight": 256, "cap": 0, "period_us": 10000, "budget_us": 4000, "extratime": True}
 
@@ -112,7 +111,7 @@ def read_domain(found, pools, where):
 
 
 def machine_of(found, name):
-    """The machine of a parsed domain file. The program itself checks the ranges; here only what the tools stand on is looked at."""
+    """The machine of a parsed domain file. Its ranges `checking` has; here only what the tools stand on is looked at."""
     processors, horizon = value_of(found, "processors", int, name), value_of(found, "horizon_ns", int, name)
     tables = [value_of(found, key, list, name) if key in found else [] for key in ("pool", "domain")]
     if not all(isinstance(it, dict) for it in tables[0] + tables[1]):
@@ -126,12 +125,30 @@ def machine_of(found, name):
 
 
 def read_machine(path):
-    """The machine of a domain file."""
+    """The machine of a domain file; what the program would refuse is refused."""
     with open(path, "rb") as file:
         try:
-            return machine_of(tomllib.load(file), path)
-        except (tomllib.TOMLDecodeError, UnicodeDecodeError) as error:
+            found = tomllib.loads(file.read().decode("utf-8-sig"))
+        except RecursionError:
+            raise Refused(f"{path} is no domain file: its values stand too deep in others") from None
+        except ValueError as error:
             raise Refused(f"{path} is no domain file: {error}") from None
+    fault = checking.fault_of(with_scripts(found))
+    if fault:
+        raise Refused(f"{path}: {checking.sentence(fault, found)}")
+    return machine_of(found, path)
+
+
+def with_scripts(found):
+    """The same with an empty script in place of each that is not known: such a file the tools read, and the program does not."""
+    domains = found.get("domain")
+    if not isinstance(domains, list):
+        return found
+    return {**found, "domain": [with_scripts_in(it) if isinstance(it, dict) and isinstance(it.get("guests"), list) else it for it in domains]}
+
+
+def with_scripts_in(domain):
+    return {**domain, "guests": [[] if script == UNKNOWN else script for script in domain["guests"]]}
 
 
 @dataclasses.dataclass

@@ -4,7 +4,9 @@ import os
 import pathlib
 import subprocess
 import tempfile
+import tomllib
 
+from . import checking
 from .machine import DOMAIN_KEYS, POOL_KEYS, SCHEDULERS, read_machine, read_work
 from .measures import Study
 from .words import Refused
@@ -90,3 +92,28 @@ def run(machine, work_path=None, prepare=lambda study: None):
         prepare(study)
         with open(schedule, encoding="ascii") as lines:
             return study.follow(lines)
+
+
+def program_here():
+    """The program where it is built or named, None where it is not: nothing is built for a question that can be answered without it."""
+    named = os.environ.get("XENSCHED_PROGRAM")
+    known = [pathlib.Path(named)] if named else [TOP / "crates" / "xensched" / "out" / name for name in ("xensched", "trial/xensched")]
+    return next((path.resolve() for path in known if path.is_file() and os.access(path, os.X_OK)), None)
+
+
+def refuse(domains, work):
+    """Refuses texts of a domain file and a work file that the program would refuse: by its checks, and by the program itself where there is one."""
+    found = tomllib.loads(domains)
+    fault = checking.fault_of(found)
+    if fault:
+        raise Refused(f"nothing is written, since {checking.sentence(fault, found)}")
+    program = program_here()
+    if program is None:
+        return
+    with tempfile.TemporaryDirectory(prefix="xensched-") as folder:
+        paths = [pathlib.Path(folder) / name for name in ("domains.toml", "work.txt")]
+        for path, text in zip(paths, (domains, work)):
+            path.write_text(text)
+        done = subprocess.run([program, "run", "--ordered", "--events", "1", *paths], stdout=subprocess.DEVNULL, stderr=subprocess.PIPE, text=True)
+    if done.returncode not in (0, 7):
+        raise Refused(f"nothing is written, since the program refuses it: {done.stderr.strip()}")

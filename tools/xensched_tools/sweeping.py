@@ -5,8 +5,8 @@ import pathlib
 import subprocess
 import tempfile
 
-from . import making, tables
-from .machine import read_machine
+from . import making, premises, tables
+from .machine import read_machine, read_work
 from .measures import Distribution
 from .words import Refused
 
@@ -88,10 +88,26 @@ def studied(job):
         with tempfile.TemporaryDirectory(prefix="xensched-") as folder:
             domains, work = made_files(folder, job["seed"], job["processors"], job["domains"])
             return making.run(read_machine(domains), work)
-    machine = making.machine_from(job["machine"])
-    for path, value in job["settings"].items():
+    return making.run(varied(making.machine_from(job["machine"]), job["settings"]), job["work"])
+
+
+def varied(machine, settings):
+    """The machine with these values of keys."""
+    for path, value in settings.items():
         machine = making.with_setting(machine, path, value)
-    return making.run(machine, job["work"])
+    return machine
+
+
+def premises_of(jobs):
+    """What holds of the answers for these machines, each line once. Made machines differ in no pool, so one of them is looked at."""
+    if "seed" in jobs[0]:
+        with tempfile.TemporaryDirectory(prefix="xensched-") as folder:
+            domains, _ = made_files(folder, jobs[0]["seed"], jobs[0]["processors"], jobs[0]["domains"])
+            machines, work = [read_machine(domains)], None
+    else:
+        base, work = making.machine_from(jobs[0]["machine"]), jobs[0]["work"] and read_work(jobs[0]["work"])
+        machines = (varied(base, job["settings"]) for job in jobs)
+    return list(dict.fromkeys(text for machine in machines for text in premises.of(machine, work)))
 
 
 def value_of(text):

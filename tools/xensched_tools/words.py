@@ -2,11 +2,14 @@
 import os
 import re
 import sys
+import traceback
 
 UNITS = {"ns": 1, "us": 1_000, "µs": 1_000, "ms": 1_000_000, "s": 1_000_000_000}
 TIME = re.compile(r"(\d+(?:\.\d+)?)(ns|us|µs|ms|s)?")
 
-WRONG_WORDS, CONTRADICTION = 2, 3
+WRONG_WORDS, CONTRADICTION, FAILED = 2, 3, 70
+# How a line begins that tells of a fault of the tool itself.
+FAULT = "this is a fault of the tool, and not of what it was given"
 
 
 class Refused(Exception):
@@ -61,4 +64,12 @@ def end_with(name, main):
             status = WRONG_WORDS
     except KeyboardInterrupt:
         status = 130
+    except MemoryError:
+        warn(name, "there is not enough memory for it")
+        status = WRONG_WORDS
+    except Exception as fault:
+        # a fault of the tool itself: where it is, in one line
+        at = traceback.extract_tb(fault.__traceback__)[-1]
+        warn(name, f"{FAULT}: {type(fault).__name__} in {os.path.basename(at.filename)}, line {at.lineno}: {fault}".splitlines()[0])
+        status = FAILED
     sys.exit(status)
