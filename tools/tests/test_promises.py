@@ -160,6 +160,20 @@ class Reservations(unittest.TestCase):
         part_of(self, row(study, "promises", "d1u0"), promised_ns=6 * MS, had_ns=5 * MS, above_ns=-MS, owed_ns=MS)
         self.assertEqual(len(list(study.promises.faults())), 1)
 
+    def test_what_was_never_seen_to_fail(self):
+        # b sleeps, and may ask for 1 ms of each 10 at once: 1 - 1/10 of it fits into the tenth of the period that nobody reserved, not so with 2 ms
+        for budget, by in [(1000, "no law, never seen to fail"), (2000, "guests that sleep")]:
+            described = self.fitting(budget, [MS, MS])
+            described["domain"][0]["budget_us"] = 8000
+            study = promised(described, self.TERMS + "10000000 finish")
+            part_of(self, row(study, "promises", "d0u0"), by=by)
+            part_of(self, row(study, "promises", "d1u0"), by="guests that sleep")
+        # two cores: 0.8 and 0.6 and 0.6 is 2, and 2 - 0.8 is 1.2
+        units = [(name, [[]], {"period_us": 10000, "budget_us": budget}) for name, budget in [("a", 8000), ("b", 6000), ("c", 6000)]]
+        part_of(self, row(promised(machine("rtds", units, processors=2), "0 finish"), "promises", "d0u0"), by="2 cores")
+        units = [(name, [[]], {"period_us": 10000, "budget_us": budget}) for name, budget in [("a", 8000), ("b", 2000), ("c", 2000)]]
+        part_of(self, row(promised(machine("rtds", units, processors=2), "0 finish"), "promises", "d0u0"), by="no law, never seen to fail")
+
     def test_why_none_is_promised(self):
         for described, cause in [(self.fitting(7000), "1.1 cores reserved"), (self.fitting(6000, [MS, MS]), "guests that sleep")]:
             study = promised(described, self.TERMS + "10000000 finish")

@@ -3,6 +3,8 @@ from fractions import Fraction
 
 from .commands import setting
 
+# In place of a law, where none is proved and no run was found that breaks the promise.
+SEEN = "no law, never seen to fail"
 # The longest slice of Credit2 under a rate limit that is not longer.
 LONGEST_SLICE = 10_000_000
 
@@ -159,11 +161,16 @@ class Promises:
                         law = "the schedule is that of a host"
                     yield unit, visit, promise, law, self.claims.get((unit, index))
 
-    def faults(self):
-        """A sentence for each unit that had less than it was promised."""
+    def faults(self, also_seen=False):
+        """A sentence for each unit that had less than a law promises it; if that is asked, also less than what was never seen to fail."""
         for unit, visit, promise, law, claim in self.rows():
-            if law.startswith("law_") and claim is not None and claim.owed:
+            if is_kept(law, also_seen) and claim is not None and claim.owed:
                 yield f"{unit.name} had {claim.owed} ns less than {law} promises it in {visit.name} ({promise}), first at {claim.owed_at}"
+
+
+def is_kept(law, also_seen=True):
+    """Whether the words name a law, and no reason why nothing is promised."""
+    return law.startswith("law_") or also_seen and law == SEEN
 
 
 def never_sleeps(study, unit):
@@ -204,15 +211,37 @@ def own_core(promises, unit, home):
 
 def budgets_of(promises, unit, home):
     """RTDS: the budget of each term, on one core whose guests never sleep and whose reservations fit it."""
-    domains = next((domains for pool, domains, _ in promises.begun_with if pool is home), [])
+    domains, cores = next(((domains, cores) for pool, domains, cores in promises.begun_with if pool is home), ([], set()))
     period, budget = (setting(unit.domain, key) for key in ("period_us", "budget_us"))
     reasons = list(disturbed(promises, home))
-    if not all(never_sleeps(promises.study, other) for domain in domains for other in domain.units):
+    reservations = Reservations(promises.study, domains)
+    if reservations.sleepers:
         reasons.append("guests that sleep")
-    reserved = sum((len(domain.units) * Fraction(setting(domain, "budget_us"), setting(domain, "period_us")) for domain in domains), Fraction(0))
-    if reserved > 1:
-        reasons.append(f"{float(reserved):.6g} cores reserved")
-    return f"{budget} us of each {period} us", ", ".join(reasons) or "law_reservations"
+    if reservations.sum > max(1, len(cores)):
+        reasons.append(f"{float(reservations.sum):.6g} cores reserved")
+    is_seen = (reasons == ["guests that sleep"] and reservations.fit_beside_sleepers(unit)
+               or reasons == [f"{len(cores)} cores"] and len(cores) > 1 and reservations.fit_cores(len(cores)))
+    return f"{budget} us of each {period} us", SEEN if is_seen else ", ".join(reasons) or "law_reservations"
+
+
+class Reservations:
+    """The reservations of the units of some domains; times in microseconds."""
+
+    def __init__(self, study, domains):
+        self.study, self.units = study, [unit for domain in domains for unit in domain.units]
+        self.parts = {unit: Fraction(setting(unit.domain, "budget_us"), setting(unit.domain, "period_us")) for unit in self.units}
+        self.sum = sum(self.parts.values(), Fraction(0))
+        self.sleepers = [unit for unit in self.units if not never_sleeps(study, unit)]
+
+    def fit_beside_sleepers(self, unit):
+        """Whether the unit never sleeps, and has time for what sleepers may ask for at once: they keep their budgets while they sleep."""
+        at_once = sum(setting(it.domain, "budget_us") * (1 - self.parts[it]) for it in self.sleepers)
+        return unit not in self.sleepers and at_once <= setting(unit.domain, "period_us") * (1 - self.sum)
+
+    def fit_cores(self, cores):
+        """Whether no unit is pinned, and the reservations leave as much as the greatest of them on all cores but one."""
+        pinned = any(self.study.machine.domains[unit.domain.index].pins for unit in self.units)
+        return not pinned and self.sum <= cores - (cores - 1) * max(self.parts.values(), default=0)
 
 
 def share_of(promises, unit, home):

@@ -6,6 +6,7 @@ import json
 
 from .machine import UNKNOWN
 from .measures import Distribution, capacity_of, said_of, since_release
+from .promises import is_kept
 from .schedule import PAUSED, RUNS, SLEEPS, WAITS
 from .words import milliseconds, percent
 
@@ -200,7 +201,7 @@ def promises(study):
                                                Column("unusable", "core not usable"), Column("promised", "promised"), Column("had", "had"), Column("above", "above"), Column("owed", "owed")]
     rows = []
     for unit, visit, promise, law, claim in study.promises.rows() if study.promises else []:
-        times = [claim.claimed, claim.asleep, claim.unusable, claim.promised, claim.had, claim.had - claim.promised, claim.owed] if claim and law.startswith("law_") else [None] * 7
+        times = [claim.claimed, claim.asleep, claim.unusable, claim.promised, claim.had, claim.had - claim.promised, claim.owed] if claim and is_kept(law) else [None] * 7
         rows.append([unit.name, unit.domain.name, visit.name, promise, law, *times])
     return Table("promises", "What each unit is promised at least, and what it had", columns, rows, 3)
 

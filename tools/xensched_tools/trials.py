@@ -12,6 +12,7 @@ from . import calls, faulty, spoiling
 from .machine import read_machine, read_work
 from .schedule import Follower
 from .measures import Reported, Study
+from .promises import is_kept
 from .wild import WRONG_WORDS
 from .words import Refused
 
@@ -130,9 +131,9 @@ class Trial:
         except Refused:
             # that the tools can follow the schedule is claimed of the report
             return
-        self.counts.update(f"promises by {law}" for _, _, _, law, claim in study.promises.rows() if law.startswith("law_") and claim is not None)
-        owed = list(study.promises.faults())
-        self.claim(not owed, f"{name} run: no unit has less than a law promises it", owed)
+        self.counts.update(f"promises by {law}" for _, _, _, law, claim in study.promises.rows() if is_kept(law) and claim is not None)
+        owed = list(study.promises.faults(also_seen=True))
+        self.claim(not owed, f"{name} run: no unit has less than it is promised", owed)
 
     def answers(self, name, out):
         """Words that are no command are answered with the place that the page gives."""

@@ -4,6 +4,7 @@ docs/FORMATS-domain.md and docs/FORMATS-work.md have the keys, the ranges and th
 """
 import dataclasses
 import random
+from fractions import Fraction
 
 from .machine import DEFAULTS, SCHEDULERS, Domain, Machine, Pool
 
@@ -39,7 +40,10 @@ KINDS = {
     "siblings": Profile(0.1, (2, 4), 8, 4, 12, 12, 12),
     "sixteen pools": Profile(0.1, (1, 1, 2, 4), 24, 16, 24, 24, 8),
     "stalls": Profile(0.2, (1, 1, 2, 4), 6, 4, 8, 4, 60),
+    "undisturbed": Profile(0.0, (1, 1, 2, 4), 4, 4, 12, 0, 0),
 }
+# Periods of RTDS, in microseconds: some divide one another, some have no divisor in common.
+PERIODS = ([10, 20, 30, 40, 60, 70, 110], [100, 150, 200, 250, 300, 400], [1000, 1500, 2000, 7000, 9000, 12000], [97, 101, 103, 211, 307])
 
 
 class Maker(random.Random):
@@ -280,8 +284,57 @@ class Names:
         self.sched_of_domain = {domain.name: self.sched_of[domain.pool] for domain in machine.domains}
 
 
+class QuietMaker(Maker):
+    """Machines to which nothing happens from outside, most pools with one core, reservations that fit it, and guests that mostly never sleep."""
+
+    def pools(self, cores, siblings):
+        """Mostly a core for each pool."""
+        pools = []
+        for core in range(cores):
+            if pools and self.often(0.25) and pools[-1].sched != "arinc653":
+                pools[-1].cpus.append(core * siblings)
+                continue
+            pools.append(Pool(self.name([pool.name for pool in pools]), self.choice(["credit2", "rtds", *SCHEDULERS]), [core * siblings]))
+            if pools[-1].sched == "credit2" and self.often(0.5):
+                pools[-1].settings["ratelimit_us"] = self.choice([0, self.randint(100, 3_000), 20_000])
+        return pools
+
+    def domains(self, pools, processors, siblings):
+        domains = super().domains(pools, processors, siblings)
+        for pool in pools:
+            own = [domain for domain in domains if domain.pool == pool.name]
+            for domain in own:
+                domain.pins = None
+                if pool.sched == "credit2" and self.often(0.8):
+                    domain.settings.pop("cap", None)
+            if self.often(0.7):
+                for domain in own:
+                    domain.guests = [[] for _ in domain.guests]
+            if pool.sched == "rtds":
+                gone = self.reserve(own, siblings)
+                domains = [domain for domain in domains if domain not in gone]
+        return domains
+
+    def reserve(self, domains, siblings):
+        """Gives the domains reservations that fit one core together, often exactly. Those for which nothing is left are told."""
+        left, periods, gone = Fraction(1), self.choice(PERIODS), []
+        for domain in domains:
+            units, period = -(-len(domain.guests) // siblings), self.choice(periods)
+            most = int(left / units * period)
+            if most < 10:
+                gone.append(domain)
+                continue
+            budget = most if self.often(0.35) else self.randint(10, most)
+            domain.settings = {"period_us": period, "budget_us": budget, "extratime": self.often(0.4)}
+            left -= units * Fraction(budget, period)
+        return gone
+
+    def work(self, machine):
+        return ""
+
+
 def made(seed, kind):
     """The domain file and the work file of the seed, and the most entries of its runs."""
-    maker = Maker(seed, kind)
+    maker = (QuietMaker if kind == "undisturbed" else Maker)(seed, kind)
     machine = maker.machine()
     return machine.text(), maker.work(machine), maker.choice([2_000, 4_000, 4_000, 8_000, maker.randint(1, 300)])
