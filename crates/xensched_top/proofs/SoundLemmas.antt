@@ -26,12 +26,12 @@ module _ (whole : (m : Machine) → IsChecked m → (entries : List Entry) → I
   told_sound m checked ordered (Some bytes) v judged accepted = accepted_sound m checked ordered bytes v judged accepted
 
   pub sound_puts : (held : BytesOf) (before after : Option (List ℕ)) (task : Task) → PutsAll held before after task → PutsSound held before after task
-  sound_puts held before after (runs r) (m, made, put) = (m, made, put, whole m made.checked put.entries put.ends.whole)
+  sound_puts held before after (runs r) (m, made, put) = (m, made, (put, whole m made.checked put.entries put.ends.whole))
   sound_puts held before after (writes text) put = tt
-  sound_puts held before after (judges ordered names schedule) (m, v, made, judged, accepted, put) = (m, made, told_sound m made.checked ordered (held schedule) v judged accepted)
+  sound_puts held before after (judges ordered names schedule) (m, v, made, judged, (accepted, put)) = (m, made, told_sound m made.checked ordered (held schedule) v judged accepted)
 
 module _ (begun : (m : Machine) → IsChecked m → (entries : List Entry) → IsRun m entries → IsSoundThroughout m entries) where
   pub sound_first : (n : ℕ) (held : BytesOf) (before after : Option (List ℕ)) (task : Task) → PutsLimit n held before after task → PutsSoundFirst n held before after task
-  sound_first n held before after (runs r) (m, made, full) = (m, made, full, begun m made.checked full.1.entries full.1.fills.due.run)
+  sound_first n held before after (runs r) (m, made, full) = (m, made, (full, begun m made.checked full.1.entries full.1.fills.due.run))
   sound_first n held before after (writes text) put = absurd put
   sound_first n held before after (judges ordered names schedule) put = absurd put
