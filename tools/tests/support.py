@@ -1,7 +1,11 @@
 """What the tests share: the stored runs, small machines, and calls of the tools."""
+import contextlib
+import io
 import os
 import pathlib
 import re
+import runpy
+import signal
 import subprocess
 import sys
 
@@ -65,3 +69,31 @@ def part_of(test, record, **wanted):
 def call(tool, *words, text="", timeout=120):
     """A call of a tool by its path below the top folder."""
     return subprocess.run([sys.executable, TOP / tool, *map(str, words)], input=text, capture_output=True, text=True, cwd=TOP, timeout=timeout, env={**os.environ, "COLUMNS": "80", "XENSCHED_PROGRAM": str(PROGRAM)})
+
+
+class Late(Exception):
+    """A call that does not end in time."""
+
+
+def _late(*_):
+    raise Late
+
+
+def called(tool, *words, seconds=120):
+    """A call of a tool within this process, which takes a tenth of the time: its status (None where it is not over in time), what it writes, and what on standard error."""
+    out, err = io.StringIO(), io.StringIO()
+    argv, handler, status = sys.argv, signal.signal(signal.SIGALRM, _late), 0
+    sys.argv = [tool, *map(str, words)]
+    signal.alarm(seconds)
+    try:
+        with contextlib.redirect_stdout(out), contextlib.redirect_stderr(err):
+            runpy.run_path(str(TOP / tool), run_name="__main__")
+    except SystemExit as end:
+        status = end.code or 0
+    except Late:
+        status = None
+    finally:
+        signal.alarm(0)
+        signal.signal(signal.SIGALRM, handler)
+        sys.argv = argv
+    return status, out.getvalue(), err.getvalue()

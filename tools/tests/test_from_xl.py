@@ -8,7 +8,7 @@ import tomllib
 import unittest
 
 import xl_prints
-from support import PROGRAM, TOP, call
+from support import PROGRAM, TOP, call, called
 from xensched_tools import checking, from_xl, premises, xl_files
 from xensched_tools.machine import Command, machine_of, read_machine
 from xensched_tools.words import Refused
@@ -349,9 +349,9 @@ class WrongWords(unittest.TestCase):
 
     def refused(self, *words):
         with self.subTest(words=words), tempfile.TemporaryDirectory() as folder:
-            done = call("tools/from-xl", "--out", f"{folder}/out", *words)
-            self.assertEqual((done.returncode, done.stdout), (2, ""))
-            self.assertRegex(done.stderr, r"\Afrom-xl: (?!this is a fault)[^\n]*\n\Z")
+            status, out, err = called("tools/from-xl", "--out", f"{folder}/out", *words)
+            self.assertEqual((status, out), (2, ""))
+            self.assertRegex(err, r"\Afrom-xl: (?!this is a fault)[^\n]*\n\Z")
             self.assertFalse(pathlib.Path(folder, "out").exists())
 
     def test_a_pattern_that_fits_no_file(self):
