@@ -87,7 +87,7 @@ static bool (*rule_of(int scheduler))(unsigned int processor)
 }
 
 /* Whether a processor of the core is to schedule already. */
-static bool is_asked(unsigned int first)
+bool is_asked(unsigned int first)
 {
     unsigned int processor;
     for ( processor = first; processor < first + core_size; processor++ )
