@@ -20,8 +20,19 @@ long set_credit2(int domain, int weight, int cap)
     return sched_adjust(domains[domain], &op);
 }
 
-/* The newest period and extra time of each unit, which its next replenishment brings into force. */
+/* The newest period and extra time of each unit, which its next replenishment brings into force. A domain that moves has Xen's defaults. */
+enum { DEFAULT_PERIOD = 10000 };
 static struct { long period; bool extra; } newest[MAX_DOMAINS][MAX_GUESTS];
+
+static void forget_newest(int domain)
+{
+    int unit;
+    for ( unit = 0; unit < MAX_GUESTS; unit++ )
+    {
+        newest[domain][unit].period = DEFAULT_PERIOD;
+        newest[domain][unit].extra = true;
+    }
+}
 
 long period_of(int domain, int unit) { return newest[domain][unit].period * 1000; }
 bool has_extra_time(int domain, int unit) { return newest[domain][unit].extra; }
@@ -185,7 +196,10 @@ static void tell_moved(const struct line *line, int home)
     else if ( line->what == REMOVE )
         tell("moved c%ld free", value[1] / core_size);
     else if ( line->what == MIGRATE && home != value[1] )
+    {
+        forget_newest(value[0]);
         tell("dom-moved d%ld pool %ld", value[0], value[1]);
+    }
 }
 
 void carry_out(const struct line *line)

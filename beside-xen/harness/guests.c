@@ -17,11 +17,6 @@ static void tell_arrival(unsigned int processor)
     tell("arrive p%u", processor);
 }
 
-void note_due(unsigned int core, long due)
-{
-    dues[core] = due;
-}
-
 /* When the core asks again, -1 where it does not. */
 static long due_of(const struct sched_resource *core)
 {
@@ -91,8 +86,13 @@ void hold_guest(unsigned int processor)
     if ( !is_held[processor] )
         count_work(current_vcpus[processor]);
     is_held[processor] = true;
-    if ( get_sched_res(processor)->curr->rendezvous_in_cnt )
-        tell_arrival(processor);
+}
+
+/* It waits for its siblings, who are to decide with it. */
+void wait_for_siblings(unsigned int processor)
+{
+    hold_guest(processor);
+    tell_arrival(processor);
 }
 
 /* It goes on. */

@@ -114,6 +114,6 @@ void stand_at(unsigned int processor, enum place place);
 /* guests.c */
 long done_at(unsigned int processor);
 void hold_guest(unsigned int processor);
+void wait_for_siblings(unsigned int processor);
 void block_guest(unsigned int processor);
 void wake_guest(struct vcpu *vcpu);
-void note_due(unsigned int core, long due);

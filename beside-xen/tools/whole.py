@@ -78,7 +78,7 @@ def checks(setting):
     chosen = [row for row in table_rows.EQUALITY if setting.rows in row.name]
     for number, row in enumerate(chosen, 1):
         setting.tell(f"checks, row {number} of {len(chosen)}")
-        beside = setting.builder.program(row.changes)
+        beside = setting.builder.program((*row.changes, *table_rows.CHECKED))
         # the written machine starts all vCPUs in one moment, so not `apart`
         options = [option for option in row.options if option not in table_rows.BY_RANK]
         found = list(setting.pool.map(outcome, [(setting.program, beside, row.machine(seed), options) for seed in seeds]))
