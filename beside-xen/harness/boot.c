@@ -216,6 +216,17 @@ static void start_domain(struct domain *domain)
         domain_unpause(domain);
 }
 
+/* A run of xensched begins with each core of a pool about to decide, once. */
+static void ask_each_core(void)
+{
+    unsigned int processor;
+    for ( processor = 0; processor < plan.processors; processor++ )
+        clear_bit(SCHEDULE_SOFTIRQ, &softirq_pending(processor));
+    for ( processor = 0; processor < plan.processors; processor += core_size )
+        if ( get_sched_res(processor)->cpupool )
+            cpu_raise_softirq(processor, SCHEDULE_SOFTIRQ);
+}
+
 /* The frames are set and the domains started at the moment 0. */
 void begin(void)
 {
@@ -234,5 +245,7 @@ void begin(void)
     for ( number = 0; number < plan.domain_count; number++ )
         start_domain(domains[number]);
     run_timers();
+    if ( plan.whole )
+        ask_each_core();
     settle();
 }

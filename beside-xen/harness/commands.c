@@ -20,6 +20,23 @@ long set_credit2(int domain, int weight, int cap)
     return sched_adjust(domains[domain], &op);
 }
 
+/* The newest period and extra time of each unit, which its next replenishment brings into force. A domain that moves has Xen's defaults. */
+enum { DEFAULT_PERIOD = 10000 };
+static struct { long period; bool extra; } newest[MAX_DOMAINS][MAX_GUESTS];
+
+static void forget_newest(int domain)
+{
+    int unit;
+    for ( unit = 0; unit < MAX_GUESTS; unit++ )
+    {
+        newest[domain][unit].period = DEFAULT_PERIOD;
+        newest[domain][unit].extra = true;
+    }
+}
+
+long period_of(int domain, int unit) { return newest[domain][unit].period * 1000; }
+bool has_extra_time(int domain, int unit) { return newest[domain][unit].extra; }
+
 long set_rtds(int domain, int vcpu, long period, long budget, int extra)
 {
     struct xen_domctl_schedparam_vcpu values = { .vcpuid = vcpu };
@@ -40,7 +57,13 @@ long set_rtds(int domain, int vcpu, long period, long budget, int extra)
         values.u.rtds.flags |= XEN_DOMCTL_SCHEDRT_extra;
     if ( extra == 0 )
         values.u.rtds.flags &= ~XEN_DOMCTL_SCHEDRT_extra;
-    return sched_adjust(domains[domain], &op);
+    answer = sched_adjust(domains[domain], &op);
+    if ( !answer )
+    {
+        newest[domain][vcpu / core_size].period = values.u.rtds.period;
+        newest[domain][vcpu / core_size].extra = values.u.rtds.flags & XEN_DOMCTL_SCHEDRT_extra;
+    }
+    return answer;
 }
 
 /* All vCPUs of the domain, or the one that is named. */
@@ -164,17 +187,42 @@ static int pool_of_line(const struct line *line)
     }
 }
 
+/* What xensched has as an event of its own: a core or a domain has come to its new pool. */
+static void tell_moved(const struct line *line, int home)
+{
+    const long *value = line->values;
+    if ( line->what == ADD )
+        tell("moved c%ld pool %ld", value[1] / core_size, value[0]);
+    else if ( line->what == REMOVE )
+        tell("moved c%ld free", value[1] / core_size);
+    else if ( line->what == MIGRATE && home != value[1] )
+    {
+        forget_newest(value[0]);
+        tell("dom-moved d%ld pool %ld", value[0], value[1]);
+    }
+}
+
 void carry_out(const struct line *line)
 {
     static int number;
     long answer;
-    int pool;
+    int pool, home;
     present_cpu = TOOLSTACK;
     if ( line->what == STALL )
         return stall(line->values[0], line->values[1]);
-    pool = pool_of_line(line);
+    pool = home = pool_of_line(line);
+    if ( plan.whole )
+        host_keep_back();
     answer = answer_to(line);
+    if ( plan.whole )
+    {
+        if ( !answer )
+            tell_moved(line, home);
+        host_go_ahead();
+    }
     tell("xl %d %s %ld", ++number, answer ? "refused" : "ok", answer);
+    if ( plan.whole )
+        host_follow();
     if ( !answer && pool >= 0 )
         look(pool);
     if ( line->what == MIGRATE )

@@ -2,18 +2,74 @@
 #include "harness.h"
 #include <xen/trace.h>
 
-/* A decision as xensched prints it, told by the processor that has the core's timer. */
+static bool has_arrived[NR_CPUS];       /* told since the processor ran a guest or idled */
+static long dues[NR_CPUS];              /* of each core, when it was to ask again; 0 where it was not */
+static unsigned int resets;             /* of the present decision */
+static unsigned int to_leave[NR_CPUS];  /* of each core, its processors that have not left since it decided */
+static const struct sched_unit *to_save[NR_CPUS];       /* and the unit that it is switching out */
+
+/* The processor waits for its siblings from now on. */
+static void tell_arrival(unsigned int processor)
+{
+    if ( !plan.whole || has_arrived[processor] )
+        return;
+    has_arrived[processor] = true;
+    tell("arrive p%u", processor);
+}
+
+/* When the core asks again, -1 where it does not. */
+static long due_of(const struct sched_resource *core)
+{
+    return timer_is_active(&core->s_timer) ? core->s_timer.expires - plan.origin : -1;
+}
+
+static void tell_whole_decision(unsigned int core, const char *unit, long due)
+{
+    char asks[24] = "none";
+    long late = dues[core] ? max(0l, present_moment - dues[core]) : 0;
+    if ( due >= 0 )
+        host_write(asks, sizeof(asks), "%ld", due);
+    tell("decide c%u %s due %s late %ld reset %u", core, unit, asks, late, resets);
+    dues[core] = due >= 0 ? due + plan.origin : 0;
+    resets = 0;
+}
+
+/* The unit that the processor's core is switching out, or none. */
+static struct sched_unit *saved_unit(unsigned int processor)
+{
+    struct sched_unit *unit = get_sched_res(processor)->prev;
+    return unit && !is_idle_unit(unit) ? unit : NULL;
+}
+
+/* A decision as xensched prints it, told by the processor that has the core's timer; with whole entries by the first that leaves. */
 static void tell_decision(unsigned int processor)
 {
     struct sched_resource *core = get_sched_res(processor);
-    long due = timer_is_active(&core->s_timer) ? core->s_timer.expires - plan.origin : -1;
-    if ( core->master_cpu != processor )
+    unsigned int first = processor / core_size * core_size, sibling;
+    char unit[24] = "idle";
+    if ( plan.whole ? to_leave[first] : core->master_cpu != processor )
         return;
-    if ( is_idle_unit(core->curr) )
-        tell("decide c%u idle due %ld", processor / core_size, due);
+    for ( sibling = first; sibling < first + core_size; sibling++ )
+        tell_arrival(sibling);
+    if ( !is_idle_unit(core->curr) )
+        host_write(unit, sizeof(unit), "d%du%u", core->curr->domain->domain_id, core->curr->unit_id / core_size);
+    to_leave[first] = core_size;
+    to_save[first] = saved_unit(processor);
+    if ( plan.whole )
+        tell_whole_decision(first / core_size, unit, due_of(core));
     else
-        tell("decide c%u d%du%u due %ld", processor / core_size, core->curr->domain->domain_id,
-             core->curr->unit_id / core_size, due);
+        tell("decide c%u %s due %ld", first / core_size, unit, due_of(core));
+}
+
+/* The processor goes on after a decision of its core. */
+static void tell_leave(unsigned int processor, const struct vcpu *vcpu)
+{
+    to_leave[processor / core_size * core_size]--;
+    has_arrived[processor] = false;
+    if ( is_idle_vcpu(vcpu) )
+        tell("leave p%u idle", processor);
+    else
+        tell("leave p%u d%dv%d", processor, vcpu->domain->domain_id, vcpu->vcpu_id);
 }
 
 static bool is_held[NR_CPUS];           /* the processor is in Xen's code, and its guest stands still */
@@ -32,6 +88,13 @@ void hold_guest(unsigned int processor)
     is_held[processor] = true;
 }
 
+/* It waits for its siblings, who are to decide with it. */
+void wait_for_siblings(unsigned int processor)
+{
+    hold_guest(processor);
+    tell_arrival(processor);
+}
+
 /* It goes on. */
 static void release_guest(unsigned int processor)
 {
@@ -39,20 +102,35 @@ static void release_guest(unsigned int processor)
     is_held[processor] = false;
 }
 
-static void start_guest(unsigned int processor, struct vcpu *vcpu)
+/* With each entry told, a vCPU that starts beside its siblings is none. */
+static void start_guest(unsigned int processor, struct vcpu *vcpu, bool is_told)
 {
     current_vcpus[processor] = vcpu;
     release_guest(processor);
-    if ( is_idle_vcpu(vcpu) )
-        tell("leave p%u idle", processor);
-    else
-        tell("leave p%u d%dv%d", processor, vcpu->domain->domain_id, vcpu->vcpu_id);
+    if ( is_told )
+        tell_leave(processor, vcpu);
 }
 
-static bool is_saving(unsigned int processor)
+/* Whether a vCPU of the unit is awake, and its domain not paused. Xen's own mark counts a budget that is used up too. */
+static bool could_run(const struct sched_unit *unit)
 {
-    const struct sched_unit *unit = get_sched_res(processor)->prev;
-    return unit && !is_idle_unit(unit);
+    struct vcpu *vcpu;
+    bool any = false;
+    for_each_sched_unit_vcpu ( unit, vcpu )
+        any |= vcpu->arch.wakes < 0;
+    return any && !atomic_read(&unit->domain->pause_count);
+}
+
+/* The unit is put away, and all of the core's processors have gone on. */
+static void tell_saved(unsigned int processor)
+{
+    unsigned int first = processor / core_size * core_size;
+    const struct sched_unit **unit = &to_save[first];
+    if ( plan.whole && *unit && !get_sched_res(processor)->prev && !to_leave[first] )
+    {
+        tell("save c%u d%du%u %s", processor / core_size, (*unit)->domain->domain_id, (*unit)->unit_id / core_size, could_run(*unit) ? "queued" : "off");
+        *unit = NULL;
+    }
 }
 
 /* Whether one processor alone changes its vCPU, because that sleeps or wakes while its siblings go on. */
@@ -65,27 +143,42 @@ static bool is_alone(const struct vcpu *to)
 void context_switch(struct vcpu *from, struct vcpu *to)
 {
     unsigned int processor = present_cpu;
+    bool is_told = !plan.whole || !is_alone(to);
     if ( !is_alone(to) )
     {
         tell_decision(processor);
         stand_at(processor, BEFORE_LEAVING);
     }
     hold_guest(processor);
-    start_guest(processor, to);
-    if ( is_saving(processor) )
+    start_guest(processor, to, is_told);
+    if ( saved_unit(processor) )
         stand_at(processor, BEFORE_SAVING);
     sched_context_switched(from, to);
+    tell_saved(processor);
     stand_at(processor, AT_REST);
+}
+
+/* A processor that keeps its vCPU waits for its siblings before Xen says so, but not before it leaves a record. */
+static void take_continuing(unsigned int processor)
+{
+    if ( !plan.whole )
+        return;
+    tell_decision(processor);
+    tell_leave(processor, current_vcpus[processor]);
 }
 
 /* Called where the processor keeps its vCPU. */
 void continue_running(struct vcpu *vcpu)
 {
     unsigned int processor = present_cpu;
-    tell_decision(processor);
+    if ( !plan.whole )
+        tell_decision(processor);
     stand_at(processor, BEFORE_LEAVING);
+    if ( plan.whole )
+        hold_guest(processor);
     if ( is_held[processor] )
-        start_guest(processor, vcpu);
+        start_guest(processor, vcpu, !plan.whole);
+    tell_saved(processor);
     stand_at(processor, AT_REST);
 }
 
@@ -132,14 +225,32 @@ void take_trace(u32 event, unsigned int size, const void *record)
 {
     if ( is_begun )
         host_trace(present_cpu == TOOLSTACK ? 0 : present_cpu, present_moment, event, size, record);
-    if ( event == TRC_SCHED_CLASS_EVT(RTDS, 4) )
+    if ( event == TRC_SCHED_SWITCH_INFCONT )
+        take_continuing(present_cpu);
+    else if ( event == TRC_SCHED_CLASS_EVT(RTDS, 4) )
     {
         const struct __packed { u16 unit, domain; u32 level; u64 deadline, budget; } *it = record;
-        tell("repl d%uu%u deadline %ld budget %ld", it->domain, it->unit / core_size, (long)it->deadline - plan.origin, (long)it->budget);
+        unsigned int unit = it->unit / core_size;
+        long deadline = (long)it->deadline - plan.origin;
+        if ( !plan.whole )
+            tell("repl d%uu%u deadline %ld budget %ld", it->domain, unit, deadline, (long)it->budget);
+        else if ( is_timer_running && present_moment > plan.origin )      /* at 0 each unit has its first term */
+            tell("repl d%uu%u start %ld deadline %ld budget %ld extra %d", it->domain, unit, deadline - period_of(it->domain, unit), deadline, (long)it->budget,
+                 has_extra_time(it->domain, unit));
     }
     else if ( event == TRC_SCHED_CLASS_EVT(CSCHED2, 7) )
     {
         const struct { u16 unit, domain; int from, to; } *it = record;
-        tell("reset d%uu%u from %d to %d", it->domain, it->unit / core_size, it->from, it->to);
+        if ( !plan.whole )
+            tell("reset d%uu%u from %d to %d", it->domain, it->unit / core_size, it->from, it->to);
+        else                            /* the chosen unit has all of it, the others up to the most that one may have */
+            resets = max(resets, (unsigned int)((it->to - it->from) / MILLISECS(10)));
     }
+}
+
+/* Told by a change of Xen's code: the whole periods since a domain's budget was refilled before, and its budget after it. */
+void tell_refill(unsigned int domain, long periods, long budget)
+{
+    if ( plan.whole )
+        tell("refill d%u periods %ld budget %ld", domain, periods, budget);
 }

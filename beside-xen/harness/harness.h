@@ -53,6 +53,7 @@ struct plan {
     long origin;                        /* Xen's clock at the moment 0 of the files */
     bool apart;                         /* the vCPUs start one after the other, all at 0 */
     bool by_rank;                       /* the order of a moment is that of xensched's ordered run */
+    bool whole;                         /* the log has each entry of a schedule, with its fields */
     long most_late;                     /* how late a timer may be noticed */
     unsigned long seed;
     struct pool_plan pools[MAX_POOLS];
@@ -73,6 +74,7 @@ extern bool is_begun;
 #define tell(...) do { if ( is_begun ) host_entry(present_moment - plan.origin, __VA_ARGS__); } while (0)
 
 /* services.c */
+extern bool is_timer_running;           /* what happens now, a timer brought about */
 extern struct domain *domains[MAX_DOMAINS];
 void start_processor(unsigned int number);
 long chance_of_lateness(void);
@@ -84,6 +86,8 @@ void boot(void);
 void begin(void);
 
 /* commands.c */
+bool has_extra_time(int domain, int unit);
+long period_of(int domain, int unit);
 long set_credit2(int domain, int weight, int cap);
 long set_rtds(int domain, int vcpu, long period, long budget, int extra);
 long set_frame(int pool, const struct frame *frame);
@@ -96,6 +100,7 @@ void carry_out(const struct line *line);
 extern long stalled_until[NR_CPUS];
 void settle(void);
 void look(int pool);
+bool is_asked(unsigned int first);
 bool run_timers(void);
 void run_moment(void);
 long next_moment(void);
@@ -109,5 +114,6 @@ void stand_at(unsigned int processor, enum place place);
 /* guests.c */
 long done_at(unsigned int processor);
 void hold_guest(unsigned int processor);
+void wait_for_siblings(unsigned int processor);
 void block_guest(unsigned int processor);
 void wake_guest(struct vcpu *vcpu);

@@ -1,4 +1,5 @@
 /* The one file that is compiled with the host's headers and none of Xen's. */
+#define _GNU_SOURCE
 #include <stdarg.h>
 #include <stdio.h>
 #include <stdlib.h>
@@ -33,13 +34,44 @@ void host_print(const char *format, ...)
     va_end(values);
 }
 
+/* Entries that are kept back. */
+static FILE *behind;
+static char *kept;
+static size_t kept_size;
+
 void host_entry(long moment, const char *format, ...)
+{
+    FILE *out = behind ? behind : stdout;
+    va_list values;
+    va_start(values, format);
+    fprintf(out, "%ld ", moment);
+    vfprintf(out, format, values);
+    putc('\n', out);
+    va_end(values);
+}
+
+void host_keep_back(void)
+{
+    behind = open_memstream(&kept, &kept_size);
+}
+
+void host_go_ahead(void)
+{
+    fclose(behind);
+    behind = NULL;
+}
+
+void host_follow(void)
+{
+    fwrite(kept, kept_size, 1, stdout);
+    free(kept);
+}
+
+void host_write(char *text, int size, const char *format, ...)
 {
     va_list values;
     va_start(values, format);
-    printf("%ld ", moment);
-    vprintf(format, values);
-    putchar('\n');
+    vsnprintf(text, size, format, values);
     va_end(values);
 }
 
@@ -79,11 +111,10 @@ static void write_windows(void)
 void host_trace(unsigned int processor, unsigned long moment, unsigned int event, unsigned int size, const void *values)
 {
     static int is_tried;
-    static unsigned long last, place;
-    unsigned long cycle = moment * CYCLES + (place = moment == last && place < CYCLES - 1 ? place + 1 : 0);
+    static unsigned long last;
+    unsigned long cycle = last = moment * CYCLES > last ? moment * CYCLES : last + 1;
     unsigned int words = (size + 3) / 4, head[3] = { event | words << 28 | 1u << 31, cycle, cycle >> 32 };
     struct window *it = &windows[processor];
-    last = moment;
     if (!is_tried++ && getenv("XENTRACE"))
         trace = fopen(getenv("XENTRACE"), "w");
     if (!trace)

@@ -4,6 +4,10 @@ void *host_memory(unsigned long size);              /* filled with zeros */
 void host_release(void *memory);
 void host_print(const char *format, ...) __attribute__((__format__(__printf__, 1, 2)));
 void host_entry(long moment, const char *format, ...) __attribute__((__format__(__printf__, 2, 3)));
+void host_keep_back(void);                          /* entries from now on stand behind one that is not known yet */
+void host_go_ahead(void);                           /* it comes now */
+void host_follow(void);                             /* and those that were kept back follow */
+void host_write(char *text, int size, const char *format, ...) __attribute__((__format__(__printf__, 3, 4)));
 void host_complain(const char *format, ...) __attribute__((__format__(__printf__, 1, 2)));
 void host_end(int status) __attribute__((__noreturn__));
 

@@ -54,10 +54,13 @@ static void let_go_on(unsigned int processor)
     present_cpu = caller;
 }
 
+/* A late processor starts a vCPU, and is to do nothing else. */
+static bool is_starting;
+
 /* Where the order of a moment is that of the ranks, the processor stops here until its turn comes. */
 void stand_at(unsigned int processor, enum place place)
 {
-    if ( !plan.by_rank || !is_begun )
+    if ( !is_begun || !(plan.by_rank || (is_starting && place == AT_REST)) )
         return;
     places[processor] = place;
     host_stop(processor);
@@ -87,7 +90,7 @@ static bool (*rule_of(int scheduler))(unsigned int processor)
 }
 
 /* Whether a processor of the core is to schedule already. */
-static bool is_asked(unsigned int first)
+bool is_asked(unsigned int first)
 {
     unsigned int processor;
     for ( processor = first; processor < first + core_size; processor++ )
@@ -121,25 +124,24 @@ static bool may_decide(unsigned int processor)
     return is_up(processor) && places[processor] == AT_REST && (is_waiting[processor] || softirq_pending(processor));
 }
 
+/* Whether the processor is about to meet its siblings, or to decide where it has none. */
+static bool is_to_arrive(unsigned int processor)
+{
+    unsigned long asked = softirq_pending(processor);
+    return !is_waiting[processor] && (asked & (1ul << SCHEDULE_SOFTIRQ) || (asked & (1ul << SCHED_SLAVE_SOFTIRQ) && get_sched_res(processor)->curr->rendezvous_in_cnt));
+}
+
 /* The processor goes on, if it may, until it has nothing to do. Whether that brought anything about. */
 static bool step(unsigned int processor)
 {
     bool was_waiting = is_waiting[processor];
     if ( !may_decide(processor) )
         return false;
+    if ( plan.whole && !plan.by_rank && is_to_arrive(processor) )
+        look(pool_of(processor));       /* it arrives, which is an event of its own */
     let_go_on(processor);
     look(pool_of(processor));
     return !(was_waiting && is_waiting[processor]);
-}
-
-/* One pass over all processors. */
-static bool pass_by_number(void)
-{
-    unsigned int first = plan.most_late ? chance_of_lateness() % plan.processors : 0, place;
-    bool any = false;
-    for ( place = 0; place < plan.processors; place++ )
-        any |= step((first + place) % plan.processors);
-    return any;
 }
 
 /* What a change of Xen's code may bring: a processor that is not late begins where the one that was asked is. */
@@ -151,6 +153,17 @@ static void let_take_over(void)
     for ( processor = 0; take_over && processor < plan.processors; processor++ )
         if ( test_bit(SCHEDULE_SOFTIRQ, &softirq_pending(processor)) )
             take_over(processor);
+}
+
+/* One pass over all processors. */
+static bool pass_by_number(void)
+{
+    unsigned int first = plan.most_late ? chance_of_lateness() % plan.processors : 0, place;
+    bool any = false;
+    let_take_over();
+    for ( place = 0; place < plan.processors; place++ )
+        any |= step((first + place) % plan.processors);
+    return any;
 }
 
 /* The processors of the first core that has something to do, after a look for each that arrives. */
@@ -226,7 +239,7 @@ void let_others_run(void)
         return;
     is_waiting[processor] = true;
     if ( get_sched_res(processor)->curr->rendezvous_in_cnt )
-        hold_guest(processor);
+        wait_for_siblings(processor);
     host_stop(processor);
     is_waiting[processor] = false;
     present_cpu = processor;
@@ -257,7 +270,9 @@ static void start_beside_siblings(const struct vcpu *vcpu)
     if ( is_up(processor) || !vcpu->force_context_switch || places[processor] != AT_REST || is_waiting[processor] )
         return;
     softirq_pending(processor) &= ~asked;
+    is_starting = true;
     let_go_on(processor);
+    is_starting = false;
     if ( !get_sched_res(processor)->curr->rendezvous_in_cnt )
         clear_bit(SCHED_SLAVE_SOFTIRQ, &softirq_pending(processor));
     softirq_pending(processor) |= asked;

@@ -189,13 +189,20 @@ int run_timer(const long *stalled_until)
             struct timer *timer = timers[place];
             int processor = timer->cpu;
             stop_timer(timer);
+            if ( plan.whole && timer == &get_sched_res(processor)->s_timer && !get_sched_res(processor)->curr->rendezvous_in_cnt &&
+                 !is_asked(processor / core_size * core_size) )
+                tell("slice c%u", processor / core_size);
             present_cpu = processor;
+            is_timer_running = true;
             timer->function(timer->data);
+            is_timer_running = false;
             present_cpu = TOOLSTACK;
             return processor;
         }
     return -1;
 }
+
+bool is_timer_running;
 
 /* Domains */
 struct domain *domains[MAX_DOMAINS];

@@ -1,4 +1,5 @@
 """The table of traces: Xen's own records, in files as xentrace writes them, read by Xen's own xenalyze and by tools/from-trace."""
+import collections
 import os
 import pathlib
 import re
@@ -21,9 +22,9 @@ HZ = 1024 * 10**9           # the harness has 1024 cycles in a nanosecond, so th
 COMPLAINTS = re.compile(r"Strange, |FATAL|ERROR|not found|skew|Unknown|Unexpected|> MAX")
 
 
-def written(beside, texts, options, trace):
-    """The log of Xen's code on a machine, and its trace in a file; None where it stops."""
-    text = plan.input_for(*texts, options)
+def written(program, beside, texts, options, trace):
+    """The log of Xen's code on a machine, and its trace in a file; None where it stops. Which commands are refused, xensched says."""
+    text = plan.input_for(*texts, options, compare.Model(program, *texts).run.answers if " xl " in texts[1] else ())
     done = subprocess.run([beside, "-"], input=text, capture_output=True, text=True, env={**os.environ, "XENTRACE": str(trace)})
     return done.stdout if done.returncode == 0 else None
 
@@ -64,16 +65,18 @@ def read_back(trace, machine, log):
     (read, wakings), (told, told_wakings) = (stays_and_wakings(it, trace.end) for it in (lines, log.splitlines()))
     doings = from_trace.doings_of(changes)
     scripts = [(doings[d, v].script(), guest) for d, domain in enumerate(machine.domains) for v, guest in enumerate(domain.guests) if (d, v) in doings]
-    return {"ordered": not (order.mended or order.broken), "stays": read == told, "wakings": wakings == told_wakings,
+    # a moment with more records than a nanosecond has cycles goes on in the next ones
+    is_crowded = max(collections.Counter(it.at // 1000 for it in changes).values()) > 1000
+    return {"ordered": not (order.mended or order.broken), "crowded": is_crowded, "stays": read == told, "wakings": wakings == told_wakings,
             "found": sum(repeats for (_, repeats, _), _ in scripts), "wrong": [f"{script} for {guest}" for (script, repeats, _), guest in scripts if repeats and script != guest]}
 
 
 def tried(job):
     """One machine of a row: what its trace gives, None where Xen's code stops."""
-    beside, xenalyze, texts, options = job
+    program, beside, xenalyze, texts, options = job
     with tempfile.TemporaryDirectory() as name:
         file, dump = pathlib.Path(name) / "trace.bin", pathlib.Path(name) / "trace.txt"
-        log = written(beside, texts, options, file)
+        log = written(program, beside, texts, options, file)
         if log is None:
             return None
         complaints = dumped(xenalyze, file, dump)
@@ -93,7 +96,7 @@ def traces(setting):
     chosen = [row for row in table_rows.EQUALITY if setting.rows in row.name]
     for number, row in enumerate(chosen, 1):
         setting.tell(f"traces, row {number} of {len(chosen)}")
-        found = list(setting.pool.map(tried, [(beside, xenalyze, row.machine(seed), (*ALL, *row.own)) for seed in seeds]))
+        found = list(setting.pool.map(tried, [(setting.program, beside, xenalyze, row.machine(seed), (*ALL, *row.own)) for seed in seeds]))
         known = [it for it in found if it]
         said = sorted({re.sub(r"d\d+v\d+|\d+", "N", line)[:90] for it in known for line in it["complaints"]})
         print(f"| {row.name} | {len(known)} | {sum(it['stays'] for it in known)} | {sum(it['wakings'] for it in known)} | {sum(it['found'] for it in known)} | "
@@ -101,7 +104,7 @@ def traces(setting):
         for seed, it in zip(seeds, found):
             # Xen counts a vCPU as running from the decision of its core on, and a sibling that stalls begins later
             is_late = "granularity = 1" not in row.machine(seed)[0] and " stall " in row.machine(seed)[1]
-            if it and not (it["ordered"] and (it["stays"] or is_late)):
+            if it and not (it["ordered"] and (it["stays"] or is_late or it["crowded"])):
                 setting.fault(f"traces, {row.name}, machine {seed}: what is read back is not what the log says", row, seed)
             for wrong in it["wrong"] if it else []:
                 setting.fault(f"traces, {row.name}, machine {seed}: the script {wrong}", row, seed)
