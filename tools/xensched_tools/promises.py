@@ -253,8 +253,11 @@ def share_of(promises, unit, home):
     reasons = list(disturbed(promises, home))
     if any(setting(domain, "cap") for domain in domains):
         reasons.append("caps")
-    if not never_sleeps(promises.study, unit):
+    sleepers = [other for domain in domains for other in domain.units if not never_sleeps(promises.study, other)]
+    if unit in sleepers:
         reasons.append("it sleeps")
+    elif sleepers and promises.study.machine.granularity > 1 and home.settings.get("ratelimit_us", 1000):
+        reasons.append("guests that sleep on a core of several processors")
     if not reasons:
         end = promises.study.end
         claim = promises.claims[unit, home.index] = Claim()
