@@ -70,6 +70,18 @@ def outcome(job):
     return verdict[0].split(" ", 2)[2], f"{lines[number - 1] if number <= len(lines) else 'the end'}; due: {' '.join(verdict[1:]) or 'nothing'}"
 
 
+# Rules of Xen's that are left in, one at a time: then the checker is to say no on some machine of the row.
+PLANTED = ("arinc-grid", "null-keep", "rtds-tie", "rtds-replenish", "credit2-rate", "credit2-refill", "core-sibling", "core-once")
+PLANTED_ROWS = {"core-once": "Credit2, 2 cores of four, caps, stalls, pause"}
+
+
+def outcomes(setting, row, seeds, changes):
+    """The outcome of each machine, with these changes of Xen's code and in its own order. The written machine starts all vCPUs in one moment, so not `apart`."""
+    beside = setting.builder.program(changes)
+    options = [option for option in row.options if option not in table_rows.BY_RANK]
+    return list(setting.pool.map(outcome, [(setting.program, beside, row.machine(seed), options) for seed in seeds]))
+
+
 def checks(setting):
     """Xen with the changes of a row, in its own order: is what it does a run of the written machine?"""
     seeds = range(1, max(1, setting.machines // 10) + 1)
@@ -78,11 +90,27 @@ def checks(setting):
     chosen = [row for row in table_rows.EQUALITY if setting.rows in row.name]
     for number, row in enumerate(chosen, 1):
         setting.tell(f"checks, row {number} of {len(chosen)}")
-        beside = setting.builder.program((*row.changes, *table_rows.CHECKED))
-        # the written machine starts all vCPUs in one moment, so not `apart`
-        options = [option for option in row.options if option not in table_rows.BY_RANK]
-        found = list(setting.pool.map(outcome, [(setting.program, beside, row.machine(seed), options) for seed in seeds]))
+        found = outcomes(setting, row, seeds, (*row.changes, *table_rows.CHECKED))
         print(f"| {row.name} | {len(seeds)} | {sum(it[0] == 'yes' for it in found)} | {sum(it[1] for it in found if it[0] == 'yes')} |", flush=True)
         for seed, (verdict, where) in zip(seeds, found):
             if verdict != "yes":
                 setting.fault(f"checks, {row.name}, machine {seed}: {verdict}: {where}", row, seed, row.changes, row.options)
+    planted(setting, {row.name: row for row in chosen})
+
+
+def planted(setting, rows):
+    """With a rule of Xen's left in the checker says no, and at which line."""
+    print("\nThe same with one change left out, up to the first machine that is no run:\n\n| Without | Machines | machine | the line |\n|---|---|---|---|")
+    for change in PLANTED:
+        row = rows.get(PLANTED_ROWS.get(change) or table_rows.WITNESSES[change])
+        if not row:
+            continue
+        setting.tell(f"checks, without {change}")
+        changes = [it for it in (*row.changes, *table_rows.CHECKED) if it != change]
+        for seed in range(1, 11):
+            (verdict, where), = outcomes(setting, row, [seed], changes)
+            if verdict != "yes":
+                print(f"| {change} | {row.name} | {seed} | {verdict}: {where} |", flush=True)
+                break
+        else:
+            setting.fault(f"checks, without {change}: the checker says yes to ten machines of {row.name}")

@@ -216,16 +216,16 @@ def stretch_of(trace, begin, end):
     """The span of the schedule: what was asked for, or the longest without a gap."""
     edges = [0, *(edge for gap in trace.gaps for edge in gap), trace.end]
     whole = [(edges[n], edges[n + 1]) for n in range(0, len(edges), 2) if edges[n] < edges[n + 1]]
-    if not whole:
-        raise Refused("the trace has no stretch without lost records")
     if begin is None and end is None:
-        return max(whole, key=lambda it: it[1] - it[0])
+        begin, end = max(whole, key=lambda it: it[1] - it[0], default=(0, 0))
     begin, end = begin or 0, trace.end if end is None else end
     if begin >= end:
         raise Refused(f"from {milliseconds(begin)} to {milliseconds(end)} ms is no span; the trace goes to {milliseconds(trace.end)} ms")
     if any(begin < gap_end and gap_begin < end for gap_begin, gap_end in trace.gaps):
         told = ", ".join(f"{milliseconds(a)} to {milliseconds(b)}" for a, b in whole)
         raise Refused(f"between {milliseconds(begin)} and {milliseconds(end)} ms records were lost; without a loss are {told} ms")
+    if end - begin > loads.LONGEST:
+        raise Refused(f"{milliseconds(end - begin)} ms are more than a run may have: say --from and --to")
     return begin, end
 
 
@@ -288,6 +288,8 @@ class Teller:
         elif present is not None:
             self.hold(at, present)
         if not self.is_awake(vcpu, before) and self.is_awake(vcpu, it.new):
+            if self.size == 1:
+                self.take_back(at, vcpu)
             self.tell(at, f"wake d{vcpu[0]}v{vcpu[1]}")
         if it.new == RUNNING:
             self.to_run(at, self.processor_of(it), vcpu)
@@ -321,14 +323,18 @@ class Teller:
         self.left = None
         if self.size > 1 and core in self.units and self.units[core] == unit:
             return
-        for other, had in self.units.items():
-            if unit is not None and had == unit and other != core:
-                # by its processor's clock it has not decided yet
-                self.give(at, other, None)
+        if unit is not None:
+            self.take_back(at, unit, core)
         before = self.units.get(core)
         self.give(at, core, unit)
         if before not in (None, unit):
             self.left = before
+
+    def take_back(self, at, unit, core=None):
+        """No core has the unit, but maybe this one: another that has it has not decided yet by its processor's clock."""
+        for other, had in self.units.items():
+            if had == unit and other != core:
+                self.give(at, other, None)
 
     def give(self, at, core, unit):
         self.units[core] = unit
