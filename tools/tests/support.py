@@ -71,7 +71,7 @@ def call(tool, *words, text="", timeout=120):
     return subprocess.run([sys.executable, TOP / tool, *map(str, words)], input=text, capture_output=True, text=True, cwd=TOP, timeout=timeout, env={**os.environ, "COLUMNS": "80", "XENSCHED_PROGRAM": str(PROGRAM)})
 
 
-class Late(Exception):
+class Late(BaseException):
     """A call that does not end in time."""
 
 

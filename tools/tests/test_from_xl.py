@@ -136,6 +136,10 @@ class Outputs(unittest.TestCase):
         self.assertEqual([(it.name, it.cpus) for it in machine.pools], [("Pool-node0", [0, 1]), ("Pool-node1", [2, 3])])
         self.assertEqual(machine.domains[0].pool, "Pool-node1")
 
+    def test_a_name_that_can_be_written_stays(self):
+        machine, _, told = made(host_from(info=INFO, listed=LIST + list_row("a b", 1, 1, "Pool-0") + list_row("a-b", 2, 1, "Pool-0") + list_row("9" * 60, 3, 1, "Pool-0") + list_row("9" * 59, 4, 1, "Pool-0")))
+        self.assertEqual([it.name for it in machine.domains], ["a-b-2", "a-b", "g-" + "9" * 30, "g-" + "9" * 28 + "-2"])
+
     def test_who_goes_and_who_stands_still(self):
         rows = list_row("(null)", 3, 1, "Pool-0", "--ps-d") + list_row("old", 4, 1, "Pool-0", "---s-d") + list_row("web", 5, 1, "Pool-0", "--p---") + list_row("new", 6, 0, "Pool-0", "--p---")
         machine, lines, told = made(host_from(info=INFO, listed=LIST + rows))

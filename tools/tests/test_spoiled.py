@@ -21,7 +21,7 @@ from support import PROGRAM, call, called, files_of, stored_runs
 from xensched_tools import bad_files, checking, making, words
 
 CALLS = int(os.environ.get("SPOILED", "400"))
-MOST_SECONDS = 60
+MOST_SECONDS, MOST_ENTRIES = 60, 2000
 # Values at the ends of what 64 bits and Python hold.
 EXTREMES = ["9223372036854775807", "9223372036854775808", "-1", "0", "1000000000", "1" + "0" * 30, "9" * 5000, "1e400", "nan", "true", "''", "[]", "[[]]", "{}", "10000000000000", "1979-05-27"]
 
@@ -56,6 +56,8 @@ class Campaign:
         self.folder, self.counts = pathlib.Path(folder), collections.Counter()
         self.runs = [(*map(pathlib.Path.read_bytes, files_of(each)), "\n".join([*lines, ""]).encode()) for each, lines in stored_runs() if len(lines) < 400]
         self.program = making.program_here()
+        # long runs show nothing more, and would take minutes
+        making.MOST_ENTRIES = MOST_ENTRIES
 
     def one(self, seed):
         """One spoiled file in one tool; what is wrong with how that ended, or None."""

@@ -9,13 +9,14 @@ import tempfile
 import unittest
 
 from support import PROGRAM, TOP, call, part_of, row, stored, studied
-from xensched_tools import comparing, making, tables
+from xensched_tools import comparing, making, premises, tables
 from xensched_tools.machine import machine_of, read_machine
 from xensched_tools.words import Refused, milliseconds, time_of
 
 EXAMPLE = "examples/measures"
 FILES = (f"{EXAMPLE}/domains.toml", f"{EXAMPLE}/schedule.txt")
 MS = 1_000_000
+EXTRA = f"study: {premises.EXTRA} (Pool-0): {premises.PAGE}"
 BUILT = unittest.skipUnless(PROGRAM.exists(), "the program is not built")
 
 
@@ -95,12 +96,12 @@ class WrongInput(unittest.TestCase):
     def test_a_contradiction(self):
         lines = (TOP / FILES[1]).read_text().replace("20000000 wake d0v0\n", "")
         done = call("tools/study", FILES[0], "-", text=lines)
-        self.assertEqual((done.returncode, done.stderr), (3, "study: line 44: d0v0 runs, and no line says that it woke\n"))
+        self.assertEqual((done.returncode, done.stderr), (3, f"{EXTRA}\nstudy: line 44: d0v0 runs, and no line says that it woke\n"))
 
     def test_a_closed_output(self):
         import subprocess, sys
         done = subprocess.run(["bash", "-c", f"{sys.executable} tools/study {' '.join(FILES)} | head -n 1; exit ${{PIPESTATUS[0]}}"], cwd=TOP, capture_output=True, text=True)
-        self.assertEqual((done.returncode, done.stderr), (0, ""))
+        self.assertEqual((done.returncode, done.stderr), (0, f"{EXTRA}\n"))
 
 
 class Commands(unittest.TestCase):
@@ -110,10 +111,10 @@ class Commands(unittest.TestCase):
             work.write_text("# nothing\n5000000 xl sched-rtds -d zed -p 5000\n10000000 stall 0 1\n50000000 xl pause a\n")
             lines = (TOP / FILES[1]).read_text().replace("8000000 slice c0\n", "8000000 xl 1 refused 4 NoDomain\n8000000 slice c0\n", 1)
             done = call("tools/study", FILES[0], "-", "--work", work, text=lines)
-        self.assertEqual(done.stderr.splitlines(), ["study: command 1 `sched-rtds -d zed -p 5000` (line 2, 5000000 ns) was refused: NoDomain",
+        self.assertEqual(done.stderr.splitlines(), [EXTRA, "study: command 1 `sched-rtds -d zed -p 5000` (line 2, 5000000 ns) was refused: NoDomain",
                                                     "study: command 2 `pause a` (line 4, 50000000 ns) never came"])
         done = call("tools/study", FILES[0], "-", text=lines)
-        self.assertEqual(done.stderr, "study: command 1 was refused: NoDomain\n")
+        self.assertEqual(done.stderr, f"{EXTRA}\nstudy: command 1 was refused: NoDomain\n")
 
     def test_a_cap_that_a_command_sets(self):
         # in the stored run the command at 600 ms sets a cap of 100 % on batch1
@@ -226,11 +227,13 @@ class Sweeping(unittest.TestCase):
                 done = call("tools/sweep", *words)
                 self.assertEqual(done.returncode, 2)
                 self.assertNotIn("Traceback", done.stderr)
-        for words in (["--machine", "missing.toml", "--over", "a.cap=1"], [1, 2, 2, "--column", "zed"], ["--machine", FILES[0], "--over", "zed.cap=1"]):
+        for words in (["--machine", "missing.toml", "--over", "a.cap=1"], ["--machine", FILES[0], "--over", "zed.cap=1"]):
             with self.subTest(words=words):
                 done = call("tools/sweep", *words)
-                self.assertEqual((done.returncode, len(done.stdout.splitlines())), (2, 1))
-                self.assertNotIn("Traceback", done.stderr)
+                self.assertEqual((done.returncode, done.stdout, len(done.stderr.splitlines())), (2, "", 1))
+        done = call("tools/sweep", 1, 2, 2, "--column", "zed")
+        self.assertEqual((done.returncode, len(done.stdout.splitlines())), (2, 1))
+        self.assertNotIn("Traceback", done.stderr)
 
 
 class Drawing(unittest.TestCase):

@@ -31,8 +31,7 @@ class Maker:
             raise Refused("no file speaks of a domain")
         self.granularity = self.granularity_of()
         self.place = self.places()
-        taken = set()
-        self.domain_names = {name: self.plain_name(name, taken) for name in self.guests}
+        self.domain_names = self.plain_names(self.guests)
         self.lines = []
 
     def leave_out_empty(self):
@@ -41,16 +40,20 @@ class Maker:
             self.host.note("gone", f"{name}, no vCPU of which is online")
             del self.guests[name]
 
+    def plain_names(self, names):
+        """Each name in the form that the domain file has; one that has it stays."""
+        taken = {name for name in names if checking.NAME.fullmatch(name)}
+        return {name: name if checking.NAME.fullmatch(name) else self.plain_name(name, taken) for name in names}
+
     def plain_name(self, name, taken):
-        """The name in the form that the domain file has, which differs where Xen's has dots or blanks or begins with a digit."""
+        """Another name for one with dots or blanks, that begins with a digit, or is too long."""
         made = re.sub(r"[^A-Za-z0-9_-]", "-", name)
         made = (made if made[:1].isalpha() else f"g-{made}")[:32]
         base, count = made, 2
         while made in taken:
             made, count = f"{base[: 31 - len(str(count))]}-{count}", count + 1
         taken.add(made)
-        if made != name:
-            self.host.note("names", f"{name} is {made}")
+        self.host.note("names", f"{name} is {made}")
         return made
 
     @staticmethod
@@ -124,9 +127,9 @@ class Maker:
         if len(found) > checking.MOST_POOLS:
             raise Refused(f"the host has {len(found)} pools, and 16 are the most here")
         self.give_processors(found)
-        taken, made, cores = set(), {}, {}
+        names, made, cores = self.plain_names([pool.name for pool in found]), {}, {}
         for pool in found:
-            one = Pool(self.plain_name(pool.name, taken), self.scheduler(pool), [self.place[cpu] for cpu in pool.cpus if cpu in self.place])
+            one = Pool(names[pool.name], self.scheduler(pool), [self.place[cpu] for cpu in pool.cpus if cpu in self.place])
             if one.sched == "arinc653":
                 self.one_core(pool, one)
             for core in {cpu // self.granularity for cpu in one.cpus}:
@@ -243,7 +246,9 @@ class Maker:
     def set_parameters(self, domain, guest, sched, vcpus):
         """Gives the domain those of the guest's parameters that its pool's scheduler has, and the work file what a domain file cannot have."""
         if sched == "credit2":
-            domain.settings = {key: value for key, value in (("weight", guest.weight), ("cap", guest.cap)) if value not in (None, DEFAULTS[key])}
+            # no more than 64 cores can be had, so a greater cap bounds nothing
+            cap = None if guest.cap is None else min(guest.cap, checking.RANGES["cap"][1])
+            domain.settings = {key: value for key, value in (("weight", guest.weight), ("cap", cap)) if value not in (None, DEFAULTS[key])}
             return
         if guest.weight not in (None, DEFAULTS["weight"]) or guest.cap:
             self.host.tell(f"{guest.name}: its pool is one of {sched}, which has no weights and caps: left out")

@@ -77,7 +77,7 @@ class Core:
     def __init__(self, index):
         self.index, self.home, self.unit, self.since, self.ran, self.decides = index, None, None, 0, 0, 0
         self.late = self.lates = self.most_late = self.most_late_at = 0
-        self.due, self.last_late, self.processors = "none", "0", []
+        self.due, self.last_late, self.processors = None, 0, []
 
 
 class Processor:
@@ -307,9 +307,9 @@ class Follower:
         before = core.unit
         self.decided(core, unit)
         core.decides += 1
-        core.due, core.last_late = words[5], words[7]
-        if words[7] != "0":
-            self._count_late(core, int(words[7]))
+        core.due, core.last_late = None if words[5] == "none" else int(words[5]), int(words[7])
+        if core.last_late:
+            self._count_late(core, core.last_late)
         if unit is before:
             return
         if before is not None:

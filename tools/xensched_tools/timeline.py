@@ -30,7 +30,7 @@ class Timeline(Follower):
         before, begin = processor.doing, processor.since
         if before is not None and begin < self.now:
             core = processor.core
-            self.legs.append(Leg(processor.index, begin, self.now, before, None if core.due == "none" else int(core.due), int(core.last_late)))
+            self.legs.append(Leg(processor.index, begin, self.now, before, core.due, core.last_late))
         processor.since = self.now
         super().turn(processor, doing)
 

@@ -242,6 +242,7 @@ def steers(soft, hard):
 
 def read_vcpu_list(host, text, where):
     """`xl vcpu-list` (xl_vcpu.c, print_vcpuinfo: "%-32s %5u %5u", "%5u %3c%c- " or "%5c %3c%cp ", "%9.1f  ", "HARD / SOFT"): the vCPUs that are online, and their affinities."""
+    begun = set()
     for place, row in numbered_rows(text, where):
         found = VCPU_ROW.fullmatch(row)
         if not found:
@@ -250,7 +251,9 @@ def read_vcpu_list(host, text, where):
         guest = host.guest(name, int(found[2]), (where, place))
         if guest is None:
             continue
-        guest.online, guest.pins = guest.online or [], guest.pins or {}
+        if guest.number not in begun:
+            begun.add(guest.number)
+            guest.online, guest.pins, guest.soft = [], {}, False
         if found[4] == "-":
             host.note("offline", f"{name} {vcpu}")
             continue
