@@ -6,10 +6,11 @@ import subprocess
 import tempfile
 import tomllib
 import unittest
+import unittest.mock
 
 import xl_prints
 from support import PROGRAM, TOP, call, called
-from xensched_tools import checking, from_xl, premises, xl_files
+from xensched_tools import checking, from_xl, making, premises, xl_files
 from xensched_tools.machine import Command, machine_of, read_machine
 from xensched_tools.words import Refused
 
@@ -357,6 +358,18 @@ class WrongWords(unittest.TestCase):
             self.assertEqual((status, out), (2, ""))
             self.assertRegex(err, r"\Afrom-xl: (?!this is a fault)[^\n]*\n\Z")
             self.assertFalse(pathlib.Path(folder, "out").exists())
+
+    def test_what_the_program_refuses_is_not_written(self):
+        with tempfile.TemporaryDirectory() as folder:
+            rows = pathlib.Path(folder, "rtds")
+            rows.write_text("Cpupool rt: sched=RTDS\n%-33s %4s %9s %9s %10s\n" % ("Name", "ID", "Period", "Budget", "Extratime") + "%-33s %4d %9d %9d %10s\n" % ("audio", 3, 1000, 4000, "yes"))
+            self.refused(HOST / "info.txt", rows)
+            # by its own word, where its checks say nothing
+            program = pathlib.Path(folder, "program")
+            program.write_text("#!/bin/sh\necho xensched: domains: top 0 domain Range 7 >&2; exit 4\n")
+            program.chmod(0o755)
+            with unittest.mock.patch.object(making, "program_here", lambda: program):
+                self.refused(HOST / "info.txt", HOST / "list-c.txt")
 
     def test_a_pattern_that_fits_no_file(self):
         with tempfile.TemporaryDirectory() as folder:

@@ -207,6 +207,11 @@ class Comparing(unittest.TestCase):
         self.assertEqual(found["limits", "d0v0 audio latency", "missed"][0], 0)
         self.assertGreater(found["limits", "d0v0 audio latency", "missed"][1], 0)
 
+    @BUILT
+    def test_how_near_to_xen_is_said_once(self):
+        done = call("tools/compare", FILES[0], f"{FILES[0]}@credit2", FILES[0])
+        self.assertEqual(done.stderr, f"{EXTRA}\n".replace("study: ", "compare: "))
+
 
 @BUILT
 @unittest.skipUnless(shutil.which("parallel"), "GNU parallel is not installed")
@@ -220,6 +225,7 @@ class Sweeping(unittest.TestCase):
         done = call("tools/sweep", "--machine", "examples/answers/cap.toml", "--over", "web.cap=50,100", "--over", "horizon_ns=100000000", "--column", "domains.web.run_ns")
         # half and all of a processor for 100 ms
         self.assertEqual(done.stdout, "web.cap,horizon_ns,status,domains.web.run_ns\n50,100000000,0,50000000\n100,100000000,0,100000000\n")
+        self.assertIn(f"sweep: {premises.CAPS} (Pool-0): {premises.PAGE}", done.stderr.splitlines())
 
     def test_wrong_words(self):
         for words in ([], [2, 65, 8], [2, 8], ["--machine", FILES[0]], ["--machine", FILES[0], "--over", "a"], ["--machine", FILES[0], "--over", "a.budget_us=x"], ["--over", "a.b=1", 1, 1, 1]):

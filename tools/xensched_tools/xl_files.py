@@ -196,7 +196,7 @@ def the_one(found, row, where, printed, *likely):
 
 def numbered_rows(text, where):
     """The rows under the first line, each with words that name its place."""
-    return [(f"{where}, line {number},", line) for number, line in enumerate(text.splitlines(), 1) if number > 1 and line.strip()]
+    return [(f"{where}, line {number},", line) for number, line in enumerate(text.split("\n"), 1) if number > 1 and line.strip()]
 
 
 LIST_ROW = re.compile(r"\s+(\d+)\s+(\d+)\s+(\d+)\s+([r-][b-][p-][s-][-rscwS?][d-])\s+(\d+\.\d)")
@@ -220,7 +220,7 @@ def list_printed(way):
 
 def read_list(host, text, where):
     """`xl list`: the domains, how many vCPUs they have online, whether they are paused or going, with `-c` their pools."""
-    head = text.splitlines()[0]
+    head = text.split("\n")[0]
     more = "".join(pattern for words, pattern in LIST_MORE if words in head)
     for place, row in numbered_rows(text, where):
         names, pools = host.names(), host.pools
@@ -336,7 +336,7 @@ def section_of(host, line):
 def read_sched(host, text, where):
     """`xl sched-credit2`, `xl sched-credit` and `xl sched-rtds`, the latter also with `-v all`: parameters of pools, domains and vCPUs."""
     pool, form = None, None
-    for number, line in enumerate(text.splitlines(), 1):
+    for number, line in enumerate(text.split("\n"), 1):
         place = f"{where}, line {number},"
         head = HEADS.get(" ".join(line.split()))
         section = None if head else section_of(host, line)
