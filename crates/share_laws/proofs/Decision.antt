@@ -160,6 +160,10 @@ module _ (ask : Ask) (scheduler : Scheduler) (records : Credit2Records) where
   limit_reset zero rs = refl
   limit_reset (suc k) rs = refl
 
+  limit_off : (cur : Option UnitId) (rs : Credit2Records) → (off_records cur rs).limit ≡ rs.limit
+  limit_off None rs = refl
+  limit_off (Some u) rs = refl
+
   slice_low : (rs : Credit2Records) (q : UnitId) → chosen_slice ask scheduler rs q ≤ max 10000000 (rs.limit * 1000)
   slice_low rs q =
       let S : ℕ = max 10000000 (rs.limit * 1000) in
@@ -188,6 +192,13 @@ module _ (ask : Ask) (scheduler : Scheduler) (records : Credit2Records) where
 
       some : (due : Moment) × ((credit2_decision_for ask scheduler charged_records (Some q)).due ≡ Some due) × (due.0 ≤ ask.at.0 + max 10000000 (records.limit * 1000))
       some = (moment (ask.at.0 + chosen_slice ask scheduler (change_domain q.dom.0 (domain_after_take q.n) (reset_records ask.at.0 (reset_count ask.at.0 q charged_records) charged_records)) q), refl, (let l = low in omega (arith, l)))
+
+  -- the rate limit stays
+  pub limit_then : (o : Option UnitId) → (then o).limit ≡ records.limit
+  limit_then None = limit_off ask.cur charged_records ∙ limit_charged ask.cur
+  limit_then (Some q) =
+      limit_off ask.cur (change_domain q.dom.0 (domain_after_take q.n) (reset_records ask.at.0 (reset_count ask.at.0 q charged_records) charged_records))
+      ∙ limit_reset (reset_count ask.at.0 q charged_records) charged_records ∙ limit_charged ask.cur
 
   -- the greatest weight stays
   pub most_then : (o : Option UnitId) → most_weight (then o) ≡ most_weight records
