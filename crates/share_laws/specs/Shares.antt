@@ -1,12 +1,15 @@
 -- What a weight promises on a Credit2 pool of one core without caps.
-use Rattle.std.specs.Prelude.{ℕ, ◌+◌, ◌*◌, ◌^◌, ◌≡◌, ◌≤◌, ◌<◌, ◌⊎◌, Some, slice_get, max}
+use Rattle.std.specs.Prelude.{ℕ, ◌+◌, ◌*◌, ◌^◌, ◌≡◌, ◌≤◌, ◌<◌, ◌⊎◌, List, Some, slice_get, max}
 use Rattle.sched_base.specs.declared.UnitId.{UnitId}
 use Rattle.sched_model.specs.declared.config.PoolConfig.{PoolConfig}
 use Rattle.sched_model.specs.declared.config.DomConfig.{DomConfig}
 use Rattle.sched_model.specs.declared.config.PoolParams.TheVariants as pool_params
 use Rattle.sched_model.specs.declared.config.DomParams.TheVariants as dom_params
 use Rattle.sched_model.specs.declared.machine.Machine.{Machine}
+use Rattle.sched_model.specs.declared.event.Entry.{Entry}
 use Rattle.sched_model.specs.Actions.{configured_units}
+use Rattle.sched_model.specs.Runs.{run_start}
+use Rattle.service_laws.specs.Service.{has_unit, time_of}
 use Rattle.undisturbed_laws.specs.Undisturbed.{HasHome, IsUndisturbed, NeverSleeps}
 
 -- a Credit2 pool of the core r alone, with this rate limit in microseconds, and of domains without caps, on a machine to which nothing happens from outside
@@ -36,3 +39,9 @@ SleepsAreSeen m i rate = (m.config.granularity ≡ 1) ⊎ NobodySleeps m i ⊎ (
 -- the longest slice, in nanoseconds: 10 ms, or the rate limit (in microseconds) where that is more
 abbrev pub longest_slice : ℕ → ℕ
 longest_slice rate = max 10000000 (rate * 1000)
+
+-- the unit u had the core for no longer than its weight gives it beside the unit v, but for one longest slice and a nanosecond, for what is rounded:
+-- divided by both weights, u's time by its weight is at most v's time by its own and that slice by u's
+abbrev pub IsWithinShare : Machine → ℕ → ℕ → ℕ → UnitId → ℕ → UnitId → ℕ → List Entry → Type 0
+IsWithinShare m i r rate u wu v wv entries =
+    time_of m (has_unit i r u) (run_start m) entries * wv ≤ time_of m (has_unit i r v) (run_start m) entries * wu + (longest_slice rate + 1) * wv

@@ -131,7 +131,7 @@ heads_joined n pool_params.Null (NullPool kept) dom d count here = here
 heads_joined n params records dom d count here = absurd here
 
 -- the records of one domain
-abbrev rtds_at : Records → ℕ → Option (List RtdsUnit)
+abbrev pub rtds_at : Records → ℕ → Option (List RtdsUnit)
 rtds_at (RtdsPool domains) d = at_place domains d
 rtds_at (Credit2Pool records) d = None
 rtds_at (ArincPool records) d = None
@@ -150,9 +150,9 @@ rtds_other records dom d e count ne = refl
 
 -- what a domain that joins brings to its place
 credit2_brought : (config : Config) (kind : SchedKind) (limit n : ℕ) (records : Records) (dom : DomParams) (d count : ℕ) → Heads n (pool_params.Credit2 limit) records → PoolParamsPass config kind (pool_params.Credit2 limit) → DomParamsPass kind dom → d < n
-    → (x : Credit2Domain) × (domain_credit2_record (joined_records records dom d count 0) d ≡ Some x) × (dom ≡ dom_params.Credit2 x.weight x.cap) × (length x.units ≡ count)
+    → (x : Credit2Domain) × (domain_credit2_record (joined_records records dom d count 0) d ≡ Some x) × (dom ≡ dom_params.Credit2 x.weight x.cap) × (length x.units ≡ count) × (x ≡ fresh_credit2_domain x.weight x.cap count 0)
 credit2_brought config kinds.Credit2 limit n (Credit2Pool records) (dom_params.Credit2 weight percent) d count heads pass fits low =
-    (fresh_credit2_domain weight percent count 0, at_place-put_at d (fresh_credit2_domain weight percent count 0) records.domains (let e = heads.1 in omega (arith, e, low)), refl, length-replicate count _)
+    (fresh_credit2_domain weight percent count 0, at_place-put_at d (fresh_credit2_domain weight percent count 0) records.domains (let e = heads.1 in omega (arith, e, low)), refl, length-replicate count _, refl)
 credit2_brought config kinds.Credit2 limit n (Credit2Pool records) dom d count heads pass fits low = absurd fits
 credit2_brought config kinds.Credit2 limit n records dom d count heads pass fits low = absurd heads
 credit2_brought config kind limit n records dom d count heads pass fits low = absurd pass
@@ -161,11 +161,19 @@ each_replicate : {X : Type 0} (P : X → Type 0) (n : ℕ) (x : X) → P x → A
 each_replicate P zero x here = tt
 each_replicate P (suc n) x here = (here, each_replicate P n x here)
 
+-- the records of a domain's units as they are at the opening
+pub record IsFreshRtds (joining : DomConfig) (count : ℕ) (x : List RtdsUnit) : Type 0 where
+  pub period : ℕ
+  pub budget : ℕ
+  pub extra : Bool
+  pub params : joining.params ≡ dom_params.Rtds (span period) (span budget) extra
+  pub is : x ≡ fresh_rtds_units period budget extra count 0
+
 rtds_brought : (config : Config) (joining : DomConfig) (kind : SchedKind) (n : ℕ) (records : Records) (dom : DomParams) (d count : ℕ) → joining.params ≡ dom → Heads n pool_params.Rtds records → PoolParamsPass config kind pool_params.Rtds → DomParamsPass kind dom → d < n
-    → (x : List RtdsUnit) × (rtds_at (joined_records records dom d count 0) d ≡ Some x) × (length x ≡ count) × AllByRecursion (RtdsUnitStays joining) x
+    → (x : List RtdsUnit) × (rtds_at (joined_records records dom d count 0) d ≡ Some x) × (length x ≡ count) × AllByRecursion (RtdsUnitStays joining) x × IsFreshRtds joining count x
 rtds_brought config joining kinds.Rtds n (RtdsPool domains) (dom_params.Rtds period budget extra) d count is heads pass fits low =
     (fresh_rtds_units period.0 budget.0 extra count 0, at_place-put_at d (fresh_rtds_units period.0 budget.0 extra count 0) domains (omega (arith, heads, low)), length-replicate count _,
-    each_replicate (RtdsUnitStays joining) count _ (record { params = is; next = is }))
+    each_replicate (RtdsUnitStays joining) count _ (record { params = is; next = is }), record { period = period.0; budget = budget.0; extra = extra; params = is; is = refl })
 rtds_brought config joining kinds.Rtds n (RtdsPool domains) dom d count is heads pass fits low = absurd fits
 rtds_brought config joining kinds.Rtds n records dom d count is heads pass fits low = absurd heads
 rtds_brought config joining kind n records dom d count is heads pass fits low = absurd pass
@@ -268,21 +276,21 @@ module _ (m : Machine) (checked : IsChecked m) (i : ℕ) (p : PoolConfig) (is : 
   rtds_unseen e d joining q ne =
       ap (λ (r : Records). rtds_at r e) (configured_records m.config.granularity d joining q) ∙ rtds_other q.scheduler.records joining.params d e (domain_unit_count m.config.granularity (domain_at_opening joining)) ne
 
-  own_credit2 : (limit : ℕ) → p.params ≡ pool_params.Credit2 limit → (d : ℕ) (c : DomConfig) → HasHome m i d c → (x : Credit2Domain) × (credit2_seen d whole ≡ Some x) × Credit2DomainStays m.config.granularity c x
+  own_credit2 : (limit : ℕ) → p.params ≡ pool_params.Credit2 limit → (d : ℕ) (c : DomConfig) → HasHome m i d c → (x : Credit2Domain) × (credit2_seen d whole ≡ Some x) × Credit2DomainStays m.config.granularity c x × (x ≡ fresh_credit2_domain x.weight x.cap (configured_units m.config.granularity c) 0)
   own_credit2 limit kind d c home =
       let units : ℕ = domain_unit_count m.config.granularity (domain_at_opening c) in
       let r = seen_at m.config.granularity i d (credit2_seen d) (λ e joining q ne. credit2_unseen d e joining q ne) HasHeads heads_kept 0 d m.config.domains empty c (omega arith) home.there home.home (heads_empty p.params count (machine_core_count m.config)) in
       let before : Pool = r.0 in
       let x = credit2_brought m.config p.kind limit count before.scheduler.records c.params d units (subst (λ params. Heads count params before.scheduler.records) kind r.1) (subst (PoolParamsPass m.config p.kind) kind passed_pool.params) (passed_domain d c home) (get_below m.config.domains d c home.there) in
-      (x.0, r.2 ∙ ap (λ (s : Records). domain_credit2_record s d) (configured_records m.config.granularity d c before) ∙ x.1, record { params = x.2; units = x.3 ∙ opened_units m.config.granularity c })
+      (x.0, r.2 ∙ ap (λ (s : Records). domain_credit2_record s d) (configured_records m.config.granularity d c before) ∙ x.1, record { params = x.2; units = x.3 ∙ opened_units m.config.granularity c }, x.4 ∙ ap (λ n. fresh_credit2_domain x.0.weight x.0.cap n 0) (opened_units m.config.granularity c))
 
-  own_rtds : p.params ≡ pool_params.Rtds → (d : ℕ) (c : DomConfig) → HasHome m i d c → (x : List RtdsUnit) × (rtds_seen d whole ≡ Some x) × RtdsDomainStays m.config.granularity c x
+  own_rtds : p.params ≡ pool_params.Rtds → (d : ℕ) (c : DomConfig) → HasHome m i d c → (x : List RtdsUnit) × (rtds_seen d whole ≡ Some x) × RtdsDomainStays m.config.granularity c x × IsFreshRtds c (configured_units m.config.granularity c) x
   own_rtds kind d c home =
       let units : ℕ = domain_unit_count m.config.granularity (domain_at_opening c) in
       let r = seen_at m.config.granularity i d (rtds_seen d) (λ e joining q ne. rtds_unseen d e joining q ne) HasHeads heads_kept 0 d m.config.domains empty c (omega arith) home.there home.home (heads_empty p.params count (machine_core_count m.config)) in
       let before : Pool = r.0 in
       let x = rtds_brought m.config c p.kind count before.scheduler.records c.params d units refl (subst (λ params. Heads count params before.scheduler.records) kind r.1) (subst (PoolParamsPass m.config p.kind) kind passed_pool.params) (passed_domain d c home) (get_below m.config.domains d c home.there) in
-      (x.0, r.2 ∙ ap (λ (s : Records). rtds_at s d) (configured_records m.config.granularity d c before) ∙ x.1, record { count = x.2 ∙ opened_units m.config.granularity c; units = x.3 })
+      (x.0, r.2 ∙ ap (λ (s : Records). rtds_at s d) (configured_records m.config.granularity d c before) ∙ x.1, record { count = x.2 ∙ opened_units m.config.granularity c; units = x.3 }, subst (λ n. IsFreshRtds c n x.0) (opened_units m.config.granularity c) x.4)
 
   -- the domain's home is here, or what is seen of it is what was seen of the empty pool
   at_home_or : {Y : Type 0} (d : ℕ) (look : Pool → Y) → ((e : ℕ) (joining : DomConfig) (q : Pool) → e ≢ d → look (pool_with_configured m.config.granularity e joining q) ≡ look q) → IsAtHome m i d ⊎ (look whole ≡ look empty)
@@ -297,6 +305,13 @@ module _ (m : Machine) (checked : IsChecked m) (i : ℕ) (p : PoolConfig) (is : 
             (λ k x at there2 home. (let e : d ≡ k = omega (arith, at) in let s : slice_get m.config.domains d ≡ Some x = subst (λ n. slice_get m.config.domains n ≡ Some x) (sym e) there2 in let same : c ≡ x = cc in away (ap (λ (y : DomConfig). y.home.0) same ∙ home))))
       ]
 
+  -- what the scheduler keeps of a domain at the opening
+  pub fresh_credit2 : (limit : ℕ) → p.params ≡ pool_params.Credit2 limit → (d : ℕ) (c : DomConfig) → HasHome m i d c → (x : Credit2Domain) × (domain_credit2_record (pool_at_opening m.config i p).scheduler.records d ≡ Some x) × Credit2DomainStays m.config.granularity c x × (x ≡ fresh_credit2_domain x.weight x.cap (configured_units m.config.granularity c) 0)
+  fresh_credit2 = own_credit2
+
+  pub fresh_rtds : p.params ≡ pool_params.Rtds → (d : ℕ) (c : DomConfig) → HasHome m i d c → (x : List RtdsUnit) × (rtds_at (pool_at_opening m.config i p).scheduler.records d ≡ Some x) × RtdsDomainStays m.config.granularity c x × IsFreshRtds c (configured_units m.config.granularity c) x
+  fresh_rtds = own_rtds
+
   others_credit2 : (d : ℕ) (x : Credit2Domain) → credit2_seen d whole ≡ Some x → IsAtHome m i d
   others_credit2 d x at = elim (at_home_or d (credit2_seen d) (λ e joining q ne. credit2_unseen d e joining q ne)) [
     | inl home ↦ home
@@ -310,8 +325,8 @@ module _ (m : Machine) (checked : IsChecked m) (i : ℕ) (p : PoolConfig) (is : 
   ]
 
   records_by_kind : (params : PoolParams) (records : Records) → Heads count params records
-      → ((limit : ℕ) → params ≡ pool_params.Credit2 limit → (d : ℕ) (c : DomConfig) → HasHome m i d c → (x : Credit2Domain) × (domain_credit2_record records d ≡ Some x) × Credit2DomainStays m.config.granularity c x)
-      → (params ≡ pool_params.Rtds → (d : ℕ) (c : DomConfig) → HasHome m i d c → (x : List RtdsUnit) × (rtds_at records d ≡ Some x) × RtdsDomainStays m.config.granularity c x)
+      → ((limit : ℕ) → params ≡ pool_params.Credit2 limit → (d : ℕ) (c : DomConfig) → HasHome m i d c → (x : Credit2Domain) × (domain_credit2_record records d ≡ Some x) × Credit2DomainStays m.config.granularity c x × (x ≡ fresh_credit2_domain x.weight x.cap (configured_units m.config.granularity c) 0))
+      → (params ≡ pool_params.Rtds → (d : ℕ) (c : DomConfig) → HasHome m i d c → (x : List RtdsUnit) × (rtds_at records d ≡ Some x) × RtdsDomainStays m.config.granularity c x × IsFreshRtds c (configured_units m.config.granularity c) x)
       → ((d : ℕ) (x : Credit2Domain) → domain_credit2_record records d ≡ Some x → IsAtHome m i d) → ((d : ℕ) (x : List RtdsUnit) → rtds_at records d ≡ Some x → IsAtHome m i d) → RecordsStay m i params records
   records_by_kind (pool_params.Credit2 limit) (Credit2Pool records) head of_credit2 of_rtds in_credit2 in_rtds = record {
     limit = head.0;
