@@ -1,9 +1,9 @@
 -- A decision of Credit2 for its only core: what it leaves of a unit's record, and whom it chooses.
-use Rattle.std.proofs.Common.{◌≡◌, ◌≢◌, ◌<◌, ◌≤◌, ◌+◌, ◌-◌, ◌*◌, ℕ, zero, suc, Bool, true, false, List, [], ◌∷◌, refl, arith, cond, subst, sym, ap, ◌∙◌, ◌⊎◌, inl, inr}
+use Rattle.std.proofs.Common.{◌≡◌, ◌≢◌, ◌<◌, ◌≤◌, ◌+◌, ◌-◌, ◌*◌, ◌/◌, ℕ, zero, suc, Bool, true, false, List, [], ◌∷◌, refl, arith, cond, subst, sym, ap, ◌∙◌, ◌⊎◌, inl, inr}
 use Rattle.std.specs.Prelude.{Option, Some, None, is_some, slice_get, ℤ, pos, int_lt, max, min, ◌==◌, ◌&&◌, ◌||◌}
 use Rattle.std.proofs.lemmas.Bool.{and_from}
 use Rattle.sched_base.specs.Numbers.{moment}
-use Rattle.sched_base.specs.Credit2Numbers.{called_resets, raised_credit, slice_length, positive_part}
+use Rattle.sched_base.specs.Credit2Numbers.{called_resets, raised_credit, slice_length, positive_part, undivided_charge}
 use Rattle.sched_base.specs.declared.Moment.{Moment}
 use Rattle.sched_base.specs.declared.UnitId.{UnitId}
 use Rattle.sched_base.proofs.Bools.{or_left, or_more}
@@ -44,18 +44,18 @@ pub record PaysNoMore (most given w ran : ℕ) (x : Credit2Unit) : Type 0 where
 -- a charge for a span
 pub all_charged : (most given w ran t from : ℕ) (x y : Credit2Unit) → 0 < w → IsCharged most w t from x y → PaysAll most given w ran x → PaysAll most given w (ran + (t - from)) y
 all_charged most given w ran t from x y some charged here = record {
-  paid = here.paid + _;
+  paid = here.paid + undivided_charge x.residual most (t - from) / w;
   has = charged.credit ∙ burned_has x.credit given here.paid x.residual w most (t - from) here.has;
   low = (let e = charged.residual in let l = residual_low x.residual w most (t - from) some in subst (λ k. k < w) (sym e) l);
-  least = subst (λ k. most * (ran + (t - from)) ≤ w * _ + k) (sym charged.residual) (charge_more here.paid x.residual w most (t - from) ran here.least);
+  least = subst (λ k. most * (ran + (t - from)) ≤ w * (here.paid + undivided_charge x.residual most (t - from) / w) + k) (sym charged.residual) (charge_more here.paid x.residual w most (t - from) ran here.least);
 }
 
 pub no_more_charged : (most given w ran t from : ℕ) (x y : Credit2Unit) → 0 < w → IsCharged most w t from x y → PaysNoMore most given w ran x → PaysNoMore most given w (ran + (t - from)) y
 no_more_charged most given w ran t from x y some charged here = record {
-  paid = here.paid + _;
+  paid = here.paid + undivided_charge x.residual most (t - from) / w;
   has = charged.credit ∙ burned_has x.credit given here.paid x.residual w most (t - from) here.has;
   low = (let e = charged.residual in let l = residual_low x.residual w most (t - from) some in subst (λ k. k < w) (sym e) l);
-  most_paid = subst (λ k. w * _ + k ≤ most * (ran + (t - from))) (sym charged.residual) (charge_less here.paid x.residual w most (t - from) ran here.most_paid);
+  most_paid = subst (λ k. w * (here.paid + undivided_charge x.residual most (t - from) / w) + k ≤ most * (ran + (t - from))) (sym charged.residual) (charge_less here.paid x.residual w most (t - from) ran here.most_paid);
 }
 
 -- k resets at once
@@ -181,14 +181,11 @@ module _ (ask : Ask) (scheduler : Scheduler) (records : Credit2Records) where
   pub due_then : (q : UnitId) → chosen ≡ Some q → (due : Moment) × ((credit2_decision ask scheduler records).due ≡ Some due) × (due.0 ≤ ask.at.0 + max 10000000 (records.limit * 1000))
   due_then q is = subst (λ (o : Option UnitId). (due : Moment) × ((credit2_decision_for ask scheduler charged_records o).due ≡ Some due) × (due.0 ≤ ask.at.0 + max 10000000 (records.limit * 1000))) (sym is) some
     where
-      taken : Credit2Records
-      taken = change_domain q.dom.0 (domain_after_take q.n) (reset_records ask.at.0 (reset_count ask.at.0 q charged_records) charged_records)
-
       same_limit : (change_domain q.dom.0 (domain_after_take q.n) (reset_records ask.at.0 (reset_count ask.at.0 q charged_records) charged_records)).limit ≡ records.limit
       same_limit = limit_reset (reset_count ask.at.0 q charged_records) charged_records ∙ limit_charged ask.cur
 
       low : chosen_slice ask scheduler (change_domain q.dom.0 (domain_after_take q.n) (reset_records ask.at.0 (reset_count ask.at.0 q charged_records) charged_records)) q ≤ max 10000000 (records.limit * 1000)
-      low = subst (λ k. chosen_slice ask scheduler (change_domain q.dom.0 (domain_after_take q.n) (reset_records ask.at.0 (reset_count ask.at.0 q charged_records) charged_records)) q ≤ max 10000000 (k * 1000)) same_limit (slice_low _ q)
+      low = subst (λ k. chosen_slice ask scheduler (change_domain q.dom.0 (domain_after_take q.n) (reset_records ask.at.0 (reset_count ask.at.0 q charged_records) charged_records)) q ≤ max 10000000 (k * 1000)) same_limit (slice_low (change_domain q.dom.0 (domain_after_take q.n) (reset_records ask.at.0 (reset_count ask.at.0 q charged_records) charged_records)) q)
 
       some : (due : Moment) × ((credit2_decision_for ask scheduler charged_records (Some q)).due ≡ Some due) × (due.0 ≤ ask.at.0 + max 10000000 (records.limit * 1000))
       some = (moment (ask.at.0 + chosen_slice ask scheduler (change_domain q.dom.0 (domain_after_take q.n) (reset_records ask.at.0 (reset_count ask.at.0 q charged_records) charged_records)) q), refl, (let l = low in omega (arith, l)))

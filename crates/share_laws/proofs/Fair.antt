@@ -310,8 +310,8 @@ module _ (i r rate most : ℕ) (u v : UnitId) (wu wv : ℕ) where
   counted : (test : ℕ → Bool) (b : Bool) (from n : ℕ) → ((k : ℕ) → test k ≡ b) → count_from test from n ≡ cond b n 0
   counted test true from zero same = refl
   counted test false from zero same = refl
-  counted test true from (suc n) same = (let e = counted test true (suc from) n same in let f : cond (test from) 1 0 ≡ 1 = ap (λ b. cond b 1 0) (same from) in omega (arith, e, f))
-  counted test false from (suc n) same = (let e = counted test false (suc from) n same in let f : cond (test from) 1 0 ≡ 0 = ap (λ b. cond b 1 0) (same from) in omega (arith, e, f))
+  counted test true from (suc n) same = (let e = counted test true (suc from) n same in let f : ◌≡◌ {A = ℕ} (cond (test from) 1 0) 1 = ap (λ b. cond b 1 0) (same from) in omega (arith, e, f))
+  counted test false from (suc n) same = (let e = counted test false (suc from) n same in let f : ◌≡◌ {A = ℕ} (cond (test from) 1 0) 0 = ap (λ b. cond b 1 0) (same from) in omega (arith, e, f))
 
   passed : (nu nv : ℕ) (s : State) (here : Fair nu nv s) (w : UnitId) (next : ℕ) → time_until (has_unit i r w) s (Some next) ≡ cond (is_unit here.core.cur w) (next - s.now) 0
   passed nu nv s here w next =

@@ -41,7 +41,7 @@ paid_less a b given p q has_a has_b not_less = grind (arith, ints)
 -- the resets that a credit calls for lift one that is no greater to that of one reset at most
 below_zero : (a b : ℤ) (given paid : ℕ) → Has b given paid → int_lt a b ≡ false → int_lt (pos 0) a ≡ false → given + negative_part a ≤ paid
 below_zero (pos zero) b given paid has less none = grind (arith, ints)
-below_zero (pos (suc n)) b given paid has less none = absurd (cc)
+below_zero (pos (suc n)) b given paid has less none = grind (arith, ints)
 below_zero (negsuc n) b given paid has less none = grind (arith, ints)
 
 pub called_low : (a b : ℤ) (given paid : ℕ) → Has b given paid → int_lt a b ≡ false → int_lt (pos 0) a ≡ false → given + called_resets a * 10000000 ≤ paid + 10000000

@@ -10,12 +10,17 @@ use Rattle.sched_model.specs.declared.state.Credit2Domain.{Credit2Domain}
 use Rattle.sched_model.specs.declared.state.Credit2Records.{Credit2Records}
 use Rattle.sched_model.specs.declared.state.Credit2Unit.{Credit2Unit}
 use Rattle.sched_model.specs.Credit2.{burn_all, burned_domain, burned_unit, change_domain, change_unit, domain_after_return, domain_after_take, has_domain_budget, most_weight, off_records, own_burned_records, reset_records, running_records, unit_credit}
-use Rattle.sched_model.specs.Places.{at_place, change_at, change_each, change_item}
+use Rattle.sched_model.specs.Places.{at_place, change_at, change_each, change_item, same_unit}
 use Rattle.sched_model.proofs.PlaceLemmas.{at_place-change_at_other}
-use Rattle.sched_laws.proofs.EachPlace.{at_place-change_at, at_place-change_each}
+use Rattle.sched_laws.proofs.EachPlace.{at_place-change_at, at_place-change_each, by_cond}
 use Rattle.sched_laws.proofs.Lists.{slice_get-change_item, slice_get-change_item_other}
-use Rattle.sched_laws.proofs.OnePlace.{same_or_other}
+use Rattle.sched_laws.proofs.Choices.{same_unit_same}
+use Rattle.sched_laws.proofs.Counts.{same_unit_other}
 use Rattle.moment_laws.proofs.Credit2Steps.{burn_same}
+
+-- the same unit, or another
+pub same_or_other : (u w : UnitId) → (u ≡ w) ⊎ (u ≢ w)
+same_or_other u w = elim (same_unit u w) as (λ b. same_unit u w ≡ b → (u ≡ w) ⊎ (u ≢ w)) [ true ↦ λ is. inl (same_unit_same u w is) | false ↦ λ is. inr (same_unit_other u w is) ] refl
 
 -- the unit has this record, in a domain of this weight without a cap
 pub record Sees (records : Credit2Records) (u : UnitId) (w : ℕ) (x : Credit2Unit) : Type 0 where
@@ -105,7 +110,7 @@ returned_same : (n : ℕ) (d : Credit2Domain) → d.cap ≡ 0 → cond (d.cap ==
 returned_same n d free = ap (λ b. cond b d (domain_after_return n d)) (is_zero d.cap free)
 
 taken_same : (n : ℕ) (d : Credit2Domain) → d.cap ≡ 0 → domain_after_take n d ≡ d
-taken_same n d free = ap (λ b. cond b d _) (is_zero d.cap free)
+taken_same n d free = by_cond (λ (y : Credit2Domain). y ≡ d) (d.cap == 0) d _ (λ is. refl) (λ is. absurd (let zero_is = is_zero d.cap free in cc))
 
 -- the core's own unit is charged
 pub sees_charged : (t from : ℕ) (records : Credit2Records) (u : UnitId) (w : ℕ) (x : Credit2Unit) → x.burned ≡ Some from → Sees records u w x → (y : Credit2Unit) × Sees (own_burned_records (Some u) t records) u w y × IsCharged (most_weight records) w t from x y

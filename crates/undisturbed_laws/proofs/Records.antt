@@ -35,7 +35,7 @@ terms_stay : (g : ℕ) (config : DomConfig) (x y : Credit2Domain) → SameTerms 
 terms_stay g config x y same here = (let a = same.0 in let b = same.1 in let p = here.params in record { params = cc; units = same.2 ∙ here.units })
 
 module _ (m : Machine) (i limit : ℕ) where
-  abbrev C : Credit2Records → Type 0
+  abbrev pub C : Credit2Records → Type 0
   C records = Credit2Stays m i limit records
 
   c_domain : (d : ℕ) (f : Credit2Domain → Credit2Domain) (records : Credit2Records) → ((x : Credit2Domain) → SameTerms x (f x)) → C records → C (credit2.change_domain d f records)
@@ -50,7 +50,7 @@ module _ (m : Machine) (i limit : ℕ) where
   given_back : (n : ℕ) (d : Credit2Domain) → SameTerms d (credit2.domain_after_return n d)
   given_back n d = by_option (SameTerms d) (slice_get d.units n) d _ (λ is. (refl, refl, refl)) (λ u is. (refl, refl, length_change_item n _ d.units))
 
-  c_own : (cur : Option UnitId) (t : ℕ) (records : Credit2Records) → C records → C (credit2.own_burned_records cur t records)
+  pub c_own : (cur : Option UnitId) (t : ℕ) (records : Credit2Records) → C records → C (credit2.own_burned_records cur t records)
   c_own None t records here = here
   c_own (Some u) t records here =
       let burned : Credit2Records = credit2.change_unit u (credit2.burned_unit (credit2.most_weight records) t) records in
@@ -58,7 +58,7 @@ module _ (m : Machine) (i limit : ℕ) where
       (λ d. by_cond (SameTerms d) (d.cap == 0) d (credit2.domain_after_return u.n d) (λ is. (refl, refl, refl)) (λ is. given_back u.n d))
       (c_unit u (credit2.burned_unit (credit2.most_weight records) t) records here)
 
-  c_reset : (t k : ℕ) (records : Credit2Records) → C records → C (credit2.reset_records t k records)
+  pub c_reset : (t k : ℕ) (records : Credit2Records) → C records → C (credit2.reset_records t k records)
   c_reset t zero records here = here
   c_reset t (suc k) records here = record {
     limit = here.limit;
@@ -66,7 +66,7 @@ module _ (m : Machine) (i limit : ℕ) where
         (keeps_change_each m i (Credit2DomainStays m.config.granularity) _ records.domains (λ n config x. terms_stay m.config.granularity config x _ (refl, refl, length-map x.units _)) here.domains);
   }
 
-  c_take : (u : UnitId) (records : Credit2Records) → C records → C (credit2.change_domain u.dom.0 (credit2.domain_after_take u.n) records)
+  pub c_take : (u : UnitId) (records : Credit2Records) → C records → C (credit2.change_domain u.dom.0 (credit2.domain_after_take u.n) records)
   c_take u records = c_domain u.dom.0 (credit2.domain_after_take u.n) records (λ d. by_cond (SameTerms d) (d.cap == 0) d _ (λ is. (refl, refl, refl)) (λ is. (refl, refl, length_change_item u.n _ d.units)))
 
   c_off : (cur : Option UnitId) (records : Credit2Records) → C records → C (credit2.off_records cur records)
