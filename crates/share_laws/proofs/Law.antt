@@ -23,6 +23,7 @@ use Rattle.service_laws.proofs.Passing.{NextMomentLaw}
 use Rattle.undisturbed_laws.specs.Undisturbed.{Credit2Stays, NeverSleeps}
 use Rattle.share_laws.specs.Shares.{HasWeight, IsPlainCredit2, IsWithinShare, SleepsAreSeen, longest_slice}
 use Rattle.share_laws.proofs.Decision.{is_kept}
+use Rattle.share_laws.proofs.PacedRuns.{nobody_kept as paced_kept}
 use Rattle.share_laws.proofs.Runs.{NobodyIsKept, OnTimeLaw, pool_stays, shared}
 use Rattle.share_laws.proofs.Start.{first_books, opens_fair, some_weight}
 
@@ -45,8 +46,8 @@ unlimited m checked i r rate plain none s reached pool at c has on books is =
     records_same a b same = cc
 
 nobody_kept : (m : Machine) (checked : IsChecked m) → NextMomentLaw m → OnTimeLaw m → (i r rate : ℕ) (plain : IsPlainCredit2 m i r rate) → SleepsAreSeen m i rate → NobodyIsKept m checked i r rate plain
-nobody_kept m checked law on_time i r rate plain (inl single) = ?
-nobody_kept m checked law on_time i r rate plain (inr (inl nobody)) = ?
+nobody_kept m checked law on_time i r rate plain (inl single) = paced_kept m checked i r rate plain law on_time (inl single)
+nobody_kept m checked law on_time i r rate plain (inr (inl nobody)) = paced_kept m checked i r rate plain law on_time (inr nobody)
 nobody_kept m checked law on_time i r rate plain (inr (inr none)) = unlimited m checked i r rate plain none
 
 pub within_share : (m : Machine) → IsChecked m → NextMomentLaw m → OnTimeLaw m → (i r rate : ℕ) → IsPlainCredit2 m i r rate → SleepsAreSeen m i rate → (u v : UnitId) (wu wv : ℕ) → HasWeight m i u wu → HasWeight m i v wv → NeverSleeps m v
