@@ -63,13 +63,13 @@ pub of_reached : (m : Machine) (P : State → Type 0) → ((entries : List Entry
 of_reached m P each s reached = subst P (ap (λ (x : Reached). x.state) reached.leads) (each reached.before reached.run)
 
 -- an event of an action names no next moment
-names_none : (e : Event) (action : Action) → event_action e ≡ Some action → named_next_moment e ≡ None
+pub names_none : (e : Event) (action : Action) → event_action e ≡ Some action → named_next_moment e ≡ None
 names_none (event.End at) action is = absurd (cc)
 names_none event.Finish action is = absurd (cc)
 names_none e action is = refl
 
 -- no processor of an unstalled core is stalled
-unstalled_up : (t : ℕ) (ps : List Processor) → AllByRecursion (λ (p : Processor). p.stall_end.0 ≡ 0) ps → list_all (is_not_stalled t) ps ≡ true
+pub unstalled_up : (t : ℕ) (ps : List Processor) → AllByRecursion (λ (p : Processor). p.stall_end.0 ≡ 0) ps → list_all (is_not_stalled t) ps ≡ true
 unstalled_up t [] each = refl
 unstalled_up t (p ∷ ps) each = and_from (is_not_stalled t p) (list_all (is_not_stalled t) ps) (up p.stall_end.0 t each.0) (unstalled_up t ps each.1)
   where
