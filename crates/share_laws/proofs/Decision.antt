@@ -1,5 +1,5 @@
 -- A decision of Credit2 for its only core: what it leaves of a unit's record, and whom it chooses.
-use Rattle.std.proofs.Common.{◌≡◌, ◌≢◌, ◌<◌, ◌≤◌, ◌+◌, ◌-◌, ◌*◌, ◌/◌, ℕ, zero, suc, Bool, true, false, List, [], ◌∷◌, refl, arith, cond, subst, sym, ap, ◌∙◌, ◌⊎◌, inl, inr}
+use Rattle.std.proofs.Common.{◌≡◌, ◌<◌, ◌≤◌, ◌+◌, ◌-◌, ◌*◌, ◌/◌, ℕ, zero, suc, Bool, true, false, List, refl, arith, cond, subst, sym, ap, ◌∙◌, ◌⊎◌, inl, inr}
 use Rattle.std.specs.Prelude.{Option, Some, None, is_some, slice_get, ℤ, pos, int_lt, max, min, ◌==◌, ◌&&◌, ◌||◌}
 use Rattle.std.proofs.lemmas.Bool.{and_from}
 use Rattle.sched_base.specs.Numbers.{moment}
@@ -11,22 +11,21 @@ use Rattle.sched_model.specs.declared.ask.Ask.{Ask}
 use Rattle.sched_model.specs.declared.state.Credit2Domain.{Credit2Domain}
 use Rattle.sched_model.specs.declared.state.Credit2Records.{Credit2Records}
 use Rattle.sched_model.specs.declared.state.Credit2Unit.{Credit2Unit}
-use Rattle.sched_model.specs.declared.state.Records.{Records}
 use Rattle.sched_model.specs.declared.state.Records.TheVariants.{Credit2Pool}
 use Rattle.sched_model.specs.declared.state.Scheduler.{Scheduler}
 use Rattle.sched_model.specs.Credit2.{best_other_credit, change_domain, chosen_slice, credit2_candidate, credit2_choice, credit2_decision, credit2_decision_for, domain_after_take, has_domain_budget, is_rate_limited, most_weight, off_records, own_burned_records, reset_count, reset_records, richest_unit, running_records, unit_credit}
-use Rattle.sched_model.specs.EligibleUnits.{Decision, eligible_units, has_cap_budget, is_unit_allowed, is_unit_eligible}
+use Rattle.sched_model.specs.EligibleUnits.{eligible_units, has_cap_budget, is_unit_allowed, is_unit_eligible}
 use Rattle.sched_model.specs.Places.{at_place, has_listed_unit, is_unit, same_unit}
 use Rattle.sched_laws.proofs.Choices.{same_unit_same}
-use Rattle.sched_laws.proofs.Counts.{same_unit_refl, same_unit_other}
+use Rattle.sched_laws.proofs.Counts.{same_unit_other}
 use Rattle.sched_laws.proofs.EachPlace.{by_option, by_cond}
 use Rattle.settle_laws.proofs.Views.{most_burned, most_off, most_reset, most_running, most_taken}
 use Rattle.moment_laws.proofs.BestUnits.{is_best}
 use Rattle.moment_laws.proofs.Credit2Faces.{credit_order, greatest_scan}
 use Rattle.moment_laws.proofs.Credit2Numbers.{lt_irrefl}
 use Rattle.moment_laws.proofs.Waiting.{filter_has}
-use Rattle.share_laws.proofs.Numbers.{Has, burned_has, called_low, charge_less, charge_more, less_not, paid_less, raised_has, raised_uncut, residual_low, slice_least, slice_most}
-use Rattle.share_laws.proofs.Records.{IsCharged, IsSwitched, Sees, sees_credit, sees_off, sees_on, sees_reset, sees_still, sees_taken}
+use Rattle.share_laws.proofs.Numbers.{Has, burned_has, called_low, charge_less, charge_more, less_not, raised_has, raised_uncut, residual_low, slice_most}
+use Rattle.share_laws.proofs.Records.{IsCharged, Sees, sees_off, sees_on, sees_reset, sees_still, sees_taken}
 
 -- the unit paid for the time for which it ran, and perhaps more; and no more than for that
 pub record PaysAll (most given w ran : ℕ) (x : Credit2Unit) : Type 0 where

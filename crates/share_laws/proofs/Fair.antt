@@ -1,13 +1,12 @@
 -- What is kept of each state: the accounts of two units, of which the second never sleeps, and their times so far.
-use Rattle.std.proofs.Common.{◌≡◌, ◌≢◌, ◌<◌, ◌≤◌, ◌+◌, ◌-◌, ◌*◌, ℕ, zero, suc, Bool, true, false, List, [], ◌∷◌, refl, arith, cond, subst, sym, ap, ◌∙◌, ◌⊎◌, inl, inr}
-use Rattle.std.specs.Prelude.{Option, Some, None, option_map, max, ◌&&◌, int_lt}
-use Rattle.std.proofs.Math.Decide.{ℕ_discrete}
-use Rattle.sched_base.specs.Numbers.{core as core_number, has_moment_come}
+use Rattle.std.proofs.Common.{◌≡◌, ◌≢◌, ◌<◌, ◌≤◌, ◌+◌, ◌-◌, ◌*◌, ℕ, zero, suc, Bool, true, false, List, refl, arith, cond, subst, sym, ap, ◌∙◌, ◌⊎◌, inl, inr}
+use Rattle.std.specs.Prelude.{Option, Some, None, option_map, max, int_lt}
+use Rattle.sched_base.specs.Numbers.{has_moment_come}
 use Rattle.sched_base.specs.declared.Moment.{Moment}
 use Rattle.sched_base.specs.declared.UnitId.{UnitId}
 use Rattle.sched_base.proofs.Bools.{and_left}
 use Rattle.sched_model.specs.declared.action.Action.{Action}
-use Rattle.sched_model.specs.declared.action.Action.TheVariants.{Decide, Refill, Wake, Block, Slice, Repl, Arrive, Leave, Save, Stall, Xl, Moved, DomMoved}
+use Rattle.sched_model.specs.declared.action.Action.TheVariants.{Decide, Refill}
 use Rattle.sched_model.specs.declared.ask.Ask.{Ask}
 use Rattle.sched_model.specs.declared.state.Credit2Domain.{Credit2Domain}
 use Rattle.sched_model.specs.declared.state.Credit2Records.{Credit2Records}
@@ -20,7 +19,7 @@ use Rattle.sched_model.specs.declared.state.State.{State}
 use Rattle.sched_model.specs.Actions.{change_pool}
 use Rattle.sched_model.specs.Credit2.{credit2_decision, most_weight, own_burned_records, unit_credit}
 use Rattle.sched_model.specs.EligibleUnits.{Decision}
-use Rattle.sched_model.specs.Places.{at_place, change_at, is_unit, put_at}
+use Rattle.sched_model.specs.Places.{at_place, change_at, is_unit}
 use Rattle.sched_model.specs.Policy as policy
 use Rattle.sched_model.specs.Policy.{after_decision, decision_by, decision_of, unit_rtds_record}
 use Rattle.sched_model.specs.Pool as pools
@@ -34,7 +33,7 @@ use Rattle.service_laws.specs.Passing.{at_moment}
 use Rattle.service_laws.specs.Service.{count_from, has_unit, time_until}
 use Rattle.share_laws.specs.Shares.{longest_slice}
 use Rattle.share_laws.proofs.Decision.{MayBeChosen, PaysAll, PaysNoMore, all_charged, all_then, charged_records, chosen, due_then, is_kept, limit_then, most_then, no_more_charged, no_more_then, not_poorer, records_then, resets, sees_then, then, uncut, unit_then}
-use Rattle.share_laws.proofs.Numbers.{Has, fair, more_time, paid_less, slice_more}
+use Rattle.share_laws.proofs.Numbers.{fair, more_time, paid_less, slice_more}
 use Rattle.share_laws.proofs.Records.{Sees, sees_charged, sees_credit, sees_uncharged}
 use Rattle.share_laws.proofs.Refills.{NoRefills, none_then, weight_most}
 

@@ -1,28 +1,21 @@
 -- The law, from what is kept of each state.
-use Rattle.std.proofs.Common.{◌≡◌, ◌≤◌, ◌+◌, ◌*◌, ℕ, Bool, true, false, List, refl, arith, subst, sym, ap, ◌∙◌, ◌⊎◌, inl, inr}
+use Rattle.std.proofs.Common.{◌≡◌, ◌≤◌, ◌+◌, ◌*◌, ℕ, false, List, refl, arith, subst, sym, ap, ◌∙◌, inl, inr}
 use Rattle.std.specs.Prelude.{Option, Some, None, is_some, ◌&&◌, nat_lt, ◌-◌}
-use Rattle.sched_base.specs.Numbers.{core as core_number}
 use Rattle.sched_base.specs.declared.UnitId.{UnitId}
 use Rattle.sched_base.proofs.Bools.{and_false}
-use Rattle.sched_model.specs.declared.action.Action.TheVariants.{Decide}
 use Rattle.sched_model.specs.declared.event.Entry.{Entry}
 use Rattle.sched_model.specs.declared.machine.Machine.{Machine}
 use Rattle.sched_model.specs.declared.state.Credit2Records.{Credit2Records}
-use Rattle.sched_model.specs.declared.state.Pool.{Pool}
 use Rattle.sched_model.specs.declared.state.Records.TheVariants.{Credit2Pool}
-use Rattle.sched_model.specs.declared.state.Resource.{Resource}
-use Rattle.sched_model.specs.declared.state.State.{State}
 use Rattle.sched_model.specs.CheckedMachine.{IsChecked}
 use Rattle.sched_model.specs.Credit2.{credit2_candidate, own_burned_records}
-use Rattle.sched_model.specs.Places.{at_place}
-use Rattle.sched_model.specs.Pool.{core_ask, enabled_in}
+use Rattle.sched_model.specs.Pool.{core_ask}
 use Rattle.sched_model.specs.Runs.{IsRun, run_start}
-use Rattle.term_laws.proofs.ReachedStates.{IsReached, reached_opening}
+use Rattle.term_laws.proofs.ReachedStates.{reached_opening}
 use Rattle.service_laws.specs.Service.{has_unit, time_of}
 use Rattle.service_laws.proofs.Passing.{NextMomentLaw}
-use Rattle.undisturbed_laws.specs.Undisturbed.{Credit2Stays, NeverSleeps}
+use Rattle.undisturbed_laws.specs.Undisturbed.{NeverSleeps}
 use Rattle.share_laws.specs.Shares.{HasWeight, IsPlainCredit2, IsWithinShare, SleepsAreSeen, longest_slice}
-use Rattle.share_laws.proofs.Decision.{is_kept}
 use Rattle.share_laws.proofs.PacedRuns.{nobody_kept as paced_kept}
 use Rattle.share_laws.proofs.Runs.{NobodyIsKept, OnTimeLaw, pool_stays, shared}
 use Rattle.share_laws.proofs.Start.{first_books, opens_fair, some_weight}

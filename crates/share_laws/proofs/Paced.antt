@@ -1,30 +1,24 @@
 -- A core of a Credit2 pool is pending only where its unit ran for the rate limit, or sleeps beyond this moment; and its due comes no earlier.
-use Rattle.std.proofs.Common.{◌≡◌, ◌≢◌, ◌<◌, ◌≤◌, ◌+◌, ◌-◌, ◌*◌, ◌/◌, ◌%◌, ℕ, zero, suc, Bool, true, false, not, List, [], ◌∷◌, refl, arith, cond, subst, sym, ap, ◌∙◌, ◌⊎◌, inl, inr, length, take, drop}
-use Rattle.std.specs.Prelude.{Option, Some, None, is_some, is_none, option_map, map, slice_get, slice_index_or, min, max, nat_lt, nat_le, ◌&&◌, ◌||◌, ◌==◌}
-use Rattle.std.specs.List.{list_any, list_all, AllByRecursion}
-use Rattle.std.proofs.Math.Decide.{ℕ_discrete}
-use Rattle.std.proofs.lemmas.Bool.{cases_Bool, or_cases}
+use Rattle.std.proofs.Common.{◌≡◌, ◌<◌, ◌≤◌, ◌+◌, ◌-◌, ◌*◌, ◌/◌, ◌%◌, ℕ, zero, suc, Bool, true, false, not, List, [], ◌∷◌, refl, arith, subst, sym, ap, ◌∙◌, ◌⊎◌, inl, inr, length, take, drop}
+use Rattle.std.specs.Prelude.{Option, Some, None, is_none, option_map, slice_get, slice_index_or, nat_le, ◌&&◌}
+use Rattle.std.specs.List.{list_any, AllByRecursion}
+use Rattle.std.proofs.lemmas.Bool.{or_cases}
 use Rattle.std.proofs.lemmas.List.{length-map}
 use Rattle.std.proofs.lemmas.List.Elements.{recursion_from_All}
 use Rattle.std.proofs.lemmas.Nat.{div-mul-add, le-div, div-add-mod'}
 use Rattle.std.proofs.lemmas.Option.{slice_get_cases, slice_get_within}
-use Rattle.sched_base.specs.Numbers.{moment, span, core as core_number, domain as domain_number, processor, has_moment_come}
-use Rattle.sched_base.specs.Credit2Numbers.{slice_length, positive_part}
+use Rattle.sched_base.specs.Numbers.{moment, span, processor, has_moment_come}
 use Rattle.sched_base.specs.declared.Moment.{Moment}
 use Rattle.sched_base.specs.declared.Span.{Span}
 use Rattle.sched_base.specs.declared.UnitId.{UnitId}
 use Rattle.sched_base.specs.declared.VcpuId.{VcpuId}
-use Rattle.sched_base.proofs.Bools.{and_left, and_right, clash, not_false}
+use Rattle.sched_base.proofs.Bools.{and_left, and_right, clash}
 use Rattle.sched_base.proofs.Lists.{each_get}
-use Rattle.sched_model.specs.declared.action.Action.{Action}
-use Rattle.sched_model.specs.declared.action.Action.TheVariants.{Stall, Xl, Moved, DomMoved, Wake, Block, Slice, Repl, Refill, Arrive, Decide, Leave, Save}
-use Rattle.sched_model.specs.declared.ask.Ask.{Ask}
+use Rattle.sched_model.specs.declared.action.Action.TheVariants.{Wake, Block}
 use Rattle.sched_model.specs.declared.config.DomConfig.{DomConfig}
 use Rattle.sched_model.specs.declared.machine.Machine.{Machine}
-use Rattle.sched_model.specs.declared.state.Credit2Domain.{Credit2Domain}
 use Rattle.sched_model.specs.declared.state.Credit2Records.{Credit2Records}
-use Rattle.sched_model.specs.declared.state.Credit2Unit.{Credit2Unit}
-use Rattle.sched_model.specs.declared.state.Doing.TheVariants.{Guest, Idle, Held}
+use Rattle.sched_model.specs.declared.state.Doing.TheVariants.{Guest, Idle}
 use Rattle.sched_model.specs.declared.state.Domain.{Domain}
 use Rattle.sched_model.specs.declared.state.Pool.{Pool}
 use Rattle.sched_model.specs.declared.state.Processor.{Processor}
@@ -32,40 +26,28 @@ use Rattle.sched_model.specs.declared.state.Records.{Records}
 use Rattle.sched_model.specs.declared.state.Records.TheVariants.{Credit2Pool}
 use Rattle.sched_model.specs.declared.state.Resource.{Resource}
 use Rattle.sched_model.specs.declared.state.Scheduler.{Scheduler}
-use Rattle.sched_model.specs.declared.state.State.{State}
 use Rattle.sched_model.specs.declared.state.Vcpu.{Vcpu}
 use Rattle.sched_model.specs.Actions.{configured_units}
 use Rattle.sched_model.specs.CheckedMachine.{IsChecked, IsCheckedDomain, IsCheckedScript, IsWithin, most_span}
-use Rattle.sched_model.specs.Credit2.{best_other_credit, change_domain, chosen_slice, credit2_decision, credit2_decision_for, domain_after_take, is_rate_limited, most_weight, own_burned_records, reset_count, reset_records}
-use Rattle.sched_model.specs.EligibleUnits.{Decision, is_unit_allowed, is_unit_eligible}
-use Rattle.sched_model.specs.Places.{at_place, change_at, change_item, put_at, test_at}
+use Rattle.sched_model.specs.Places.{at_place, change_at, change_item}
 use Rattle.sched_model.specs.Policy as policy
 use Rattle.sched_model.specs.Policy.{decision_by, decision_of, has_better_waiting, is_unit_better, unit_rtds_record}
 use Rattle.sched_model.specs.Pool as pools
 use Rattle.sched_model.specs.Pool.{after_decide, after_in, change_among, change_core, change_processor, change_vcpu, core_ask, decided_core, done_moment, domain_unit_count, enabled_in, is_first_processor_up, pool_core_set, pool_vcpu, queue_unit, reconsidered_core, running_guest, same_choice, settled_pool, started_on, vcpu_among, vcpu_unit, with_doing, with_records}
 use Rattle.sched_model.specs.State.{is_awake, may_unit_run, runnable_among, unit_runnable, vcpus_of_unit}
-use Rattle.sched_laws.specs.EachPlace.{EachPlace}
 use Rattle.sched_laws.specs.PoolFacts.{CoreIsSound, OnePlace, UnitsAreOwn}
-use Rattle.sched_laws.proofs.Awake.{part_past}
-use Rattle.sched_laws.proofs.Choices.{decision_has}
-use Rattle.sched_laws.proofs.EachPlace.{at_place-change_at, at_place-change_each, at_place-put_at, by_cond, by_option, by_test, place_below, read_change_at, vcpu_is}
+use Rattle.sched_laws.proofs.EachPlace.{at_place-change_at, by_cond, by_option, by_test, read_change_at, vcpu_is}
 use Rattle.sched_laws.proofs.Events.{LikePlaces, like_change_at, like_is, vcpu_after}
-use Rattle.sched_laws.proofs.Lists.{item_below, read_change_item, some-test_at}
-use Rattle.sched_laws.proofs.OnePlace.{decided_cur}
+use Rattle.sched_laws.proofs.Lists.{read_change_item, some-test_at}
 use Rattle.sched_laws.proofs.SiblingsLaw.{some_processor}
 use Rattle.sched_laws.proofs.Sound.{guest_of_is}
 use Rattle.state_ranges.proofs.RangesWalk.{DomFits, PoolFits}
 use Rattle.state_ranges.proofs.Vcpus.{VcpuFits}
-use Rattle.moment_laws.proofs.AllowedAlone.{allowed_alone}
-use Rattle.moment_laws.proofs.Waiting.{any_has}
-use Rattle.undisturbed_laws.specs.Undisturbed.{CoreStays, Credit2DomainStays, Credit2Stays, DomainStays, HasHome, NeverSleeps, PoolStays}
-use Rattle.undisturbed_laws.proofs.Records.{c_own, c_reset, c_take}
+use Rattle.undisturbed_laws.specs.Undisturbed.{Credit2Stays, DomainStays, HasHome, NeverSleeps, PoolStays}
 use Rattle.undisturbed_laws.proofs.Steps.{stays_after}
 use Rattle.undisturbed_laws.proofs.Units.{never_sleeps, only_core}
 use Rattle.share_laws.specs.Shares.{IsPlainCredit2, NobodySleeps}
-use Rattle.share_laws.proofs.Decision.{charged_records, chosen, unit_then}
-use Rattle.share_laws.proofs.Numbers.{slice_least}
-use Rattle.share_laws.proofs.Start.{books_of, first_books}
+use Rattle.share_laws.proofs.Start.{first_books}
 
 -- the vCPU is another one than v, or it is v changed
 vcpu_read : (v w : VcpuId) (f : Vcpu → Vcpu) (domains : List (Option Domain)) (y : Vcpu) → vcpu_among (change_among v f domains) w ≡ Some y

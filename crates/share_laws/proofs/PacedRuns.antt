@@ -1,16 +1,13 @@
 -- In every state of a run the core keeps its pace, so no choice is kept by the rate limit.
-use Rattle.std.proofs.Common.{◌≡◌, ◌≢◌, ◌<◌, ◌≤◌, ◌+◌, ◌-◌, ◌*◌, ℕ, Bool, true, false, List, [], ◌∷◌, refl, arith, cond, subst, sym, ap, ◌∙◌, ◌⊎◌, inl, inr}
-use Rattle.std.specs.Prelude.{Option, Some, None, option_map, is_some, nat_lt, replicate, ◌&&◌}
+use Rattle.std.proofs.Common.{◌≡◌, ◌<◌, ◌≤◌, ◌+◌, ◌-◌, ◌*◌, ℕ, Bool, true, false, List, [], ◌∷◌, refl, arith, subst, sym, ap, ◌∙◌, ◌⊎◌, inl, inr}
+use Rattle.std.specs.Prelude.{Option, Some, None, option_map, is_some, nat_lt, ◌&&◌}
 use Rattle.std.specs.List.{list_all}
-use Rattle.std.specs.Option.{IfSome}
 use Rattle.std.proofs.Math.Decide.{ℕ_discrete}
-use Rattle.std.proofs.lemmas.Bool.{cases_Bool}
-use Rattle.sched_base.specs.Numbers.{core as core_number, moment}
+use Rattle.sched_base.specs.Numbers.{moment}
 use Rattle.sched_base.specs.declared.Moment.{Moment}
 use Rattle.sched_base.specs.declared.UnitId.{UnitId}
-use Rattle.sched_base.proofs.Bools.{and_false, and_left, and_right}
+use Rattle.sched_base.proofs.Bools.{and_left, and_right}
 use Rattle.sched_model.specs.declared.action.Action.{Action}
-use Rattle.sched_model.specs.declared.action.Action.TheVariants.{Decide}
 use Rattle.sched_model.specs.declared.ask.Ask.{Ask}
 use Rattle.sched_model.specs.declared.event.Entry.{Entry}
 use Rattle.sched_model.specs.declared.machine.Machine.{Machine}
@@ -24,8 +21,8 @@ use Rattle.sched_model.specs.CheckedMachine.{IsChecked}
 use Rattle.sched_model.specs.Credit2.{credit2_candidate, has_domain_budget, is_rate_limited, own_burned_records}
 use Rattle.sched_model.specs.EligibleUnits.{is_unit_allowed}
 use Rattle.sched_model.specs.Machine.{is_action_enabled, after}
-use Rattle.sched_model.specs.Opening.{joined_core, opening}
-use Rattle.sched_model.specs.Places.{at_place, change_at, test_at}
+use Rattle.sched_model.specs.Opening.{opening}
+use Rattle.sched_model.specs.Places.{at_place, test_at}
 use Rattle.sched_model.specs.Pool.{after_in, core_ask, enabled_in, is_first_processor_up, is_gathering, is_held_back, settled_pool}
 use Rattle.sched_model.specs.Runs.{Reached, IsNext, IsNextEvent, IsRunFrom, after_entries, after_entry, after_event, after_quiet, event_action, named_next_moment, run_start}
 use Rattle.sched_model.specs.State.{may_unit_run}
@@ -42,13 +39,11 @@ use Rattle.service_laws.specs.OnTime.{IsOnTime}
 use Rattle.service_laws.proofs.ChosenInRuns.{fresh_core}
 use Rattle.service_laws.proofs.EndsSums.{next_rises}
 use Rattle.service_laws.proofs.Passing.{NextMomentLaw}
-use Rattle.undisturbed_laws.specs.Undisturbed.{PoolStays}
 use Rattle.undisturbed_laws.proofs.Opened.{configured_opening}
 use Rattle.undisturbed_laws.proofs.Runs.{after_pool, enabled_pool, only_pools}
 use Rattle.undisturbed_laws.proofs.Steps.{stays_after}
 use Rattle.undisturbed_laws.proofs.Units.{core_there}
 use Rattle.share_laws.specs.Shares.{IsPlainCredit2, NobodySleeps}
-use Rattle.share_laws.proofs.Decision.{is_kept}
 use Rattle.share_laws.proofs.Paced.{Gone, IsKnown, Paced, gone_stops}
 use Rattle.share_laws.proofs.PacedSteps.{paced_after, paced_settled}
 use Rattle.share_laws.proofs.Runs.{NobodyIsKept, OnTimeLaw, configured, core_on_time, of_reached, one, passes_before, pool_stays, sound}

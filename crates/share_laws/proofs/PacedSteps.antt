@@ -1,13 +1,12 @@
 -- Each event of the pool, and the look at its core after it, keeps the pace of the core.
-use Rattle.std.proofs.Common.{◌≡◌, ◌<◌, ◌≤◌, ◌+◌, ◌-◌, ◌*◌, ◌/◌, ◌%◌, ℕ, zero, suc, Bool, true, false, not, List, [], ◌∷◌, refl, arith, cond, subst, sym, ap, ◌∙◌, ◌⊎◌, inl, inr, length}
-use Rattle.std.specs.Prelude.{Option, Some, None, option_map, is_none, slice_get, min, nat_lt, nat_le, ◌&&◌, ◌||◌, ◌==◌}
-use Rattle.std.specs.List.{list_any, list_all}
+use Rattle.std.proofs.Common.{◌≡◌, ◌<◌, ◌≤◌, ◌+◌, ◌-◌, ◌*◌, ◌/◌, ◌%◌, ℕ, Bool, true, false, not, refl, arith, subst, sym, ap, ◌∙◌, ◌⊎◌, inl, inr, length}
+use Rattle.std.specs.Prelude.{Option, Some, None, option_map, is_none, slice_get, min, nat_lt, nat_le, ◌&&◌, ◌==◌}
+use Rattle.std.specs.List.{list_any}
 use Rattle.std.proofs.lemmas.Bool.{not-true, or_cases}
-use Rattle.sched_base.specs.Numbers.{moment, core as core_number, processor, has_moment_come}
+use Rattle.sched_base.specs.Numbers.{moment, core as core_number, has_moment_come}
 use Rattle.sched_base.specs.Credit2Numbers.{slice_length, positive_part}
 use Rattle.sched_base.specs.declared.Moment.{Moment}
 use Rattle.sched_base.specs.declared.UnitId.{UnitId}
-use Rattle.sched_base.specs.declared.VcpuId.{VcpuId}
 use Rattle.sched_base.proofs.Bools.{and_left, and_right, clash}
 use Rattle.sched_model.specs.declared.action.Action.{Action}
 use Rattle.sched_model.specs.declared.action.Action.TheVariants.{Wake, Block, Slice, Repl, Refill, Arrive, Decide, Leave, Save}
@@ -16,8 +15,7 @@ use Rattle.sched_model.specs.declared.machine.Machine.{Machine}
 use Rattle.sched_model.specs.declared.state.Credit2Domain.{Credit2Domain}
 use Rattle.sched_model.specs.declared.state.Credit2Records.{Credit2Records}
 use Rattle.sched_model.specs.declared.state.Credit2Unit.{Credit2Unit}
-use Rattle.sched_model.specs.declared.state.Doing.TheVariants.{Guest, Idle, Held}
-use Rattle.sched_model.specs.declared.state.Domain.{Domain}
+use Rattle.sched_model.specs.declared.state.Doing.TheVariants.{Idle, Held}
 use Rattle.sched_model.specs.declared.state.Pool.{Pool}
 use Rattle.sched_model.specs.declared.state.Records.{Records}
 use Rattle.sched_model.specs.declared.state.Records.TheVariants.{Credit2Pool}
@@ -27,8 +25,7 @@ use Rattle.sched_model.specs.Actions.{configured_units}
 use Rattle.sched_model.specs.CheckedMachine.{IsChecked}
 use Rattle.sched_model.specs.Credit2.{best_other_credit, change_domain, chosen_slice, credit2_decision, credit2_decision_for, domain_after_take, is_rate_limited, most_weight, own_burned_records, reset_count, reset_records}
 use Rattle.sched_model.specs.EligibleUnits.{Decision, is_unit_allowed, is_unit_eligible}
-use Rattle.sched_model.specs.Places.{at_place, change_at, put_at}
-use Rattle.sched_model.specs.Policy as policy
+use Rattle.sched_model.specs.Places.{at_place, change_at}
 use Rattle.sched_model.specs.Policy.{decision_by, decision_of, has_better_waiting, is_unit_better}
 use Rattle.sched_model.specs.Pool as pools
 use Rattle.sched_model.specs.Pool.{after_decide, after_in, change_core, change_processor, change_vcpu, core_ask, decided_core, enabled_in, is_first_processor_up, pool_core_set, reconsidered_core, running_guest, same_choice, settled_pool, with_doing}
@@ -48,7 +45,7 @@ use Rattle.undisturbed_laws.proofs.Units.{only_core}
 use Rattle.share_laws.specs.Shares.{IsPlainCredit2, NobodySleeps}
 use Rattle.share_laws.proofs.Decision.{chosen, unit_then}
 use Rattle.share_laws.proofs.Numbers.{slice_least}
-use Rattle.share_laws.proofs.Paced.{Gone, IsKnown, Paced, SamePace, books_are, count_of, home_of, only, opened_pace, paced_block, paced_core, paced_processor, paced_replenish, paced_scheduler, paced_started, paced_vcpu, paced_wake, stopped_asleep, unit_low}
+use Rattle.share_laws.proofs.Paced.{IsKnown, Paced, books_are, count_of, home_of, only, opened_pace, paced_block, paced_core, paced_processor, paced_replenish, paced_scheduler, paced_started, paced_vcpu, paced_wake, stopped_asleep, unit_low}
 
 -- a slice is as long as the rate limit at least, where the unit has a record without a cap
 slice_high : (ask : Ask) (scheduler : Scheduler) (books : Credit2Records) (w : UnitId) (d : Credit2Domain) (x : Credit2Unit) → at_place books.domains w.dom.0 ≡ Some d → d.cap ≡ 0 → slice_get d.units w.n ≡ Some x → books.limit * 1000 ≤ chosen_slice ask scheduler books w

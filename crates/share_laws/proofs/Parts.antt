@@ -4,8 +4,8 @@ use Rattle.sched_base.specs.declared.UnitId.{UnitId}
 use Rattle.sched_model.specs.declared.event.Entry.{Entry}
 use Rattle.sched_model.specs.declared.machine.Machine.{Machine}
 use Rattle.sched_model.specs.declared.state.State.{State}
-use Rattle.sched_model.specs.Runs.{Reached, after_entries, after_entry, named_next_moment, run_start}
-use Rattle.service_laws.specs.Service.{has_unit, time_of, time_until}
+use Rattle.sched_model.specs.Runs.{Reached, after_entries, after_entry, run_start}
+use Rattle.service_laws.specs.Service.{has_unit, time_of}
 use Rattle.share_laws.specs.Shares.{IsNearShare, IsWithinShare, longest_slice}
 
 pub time_append : (m : Machine) (test : State → Bool) (from : Reached) (before entries : List Entry) → time_of m test from (before ++ entries) ≡ time_of m test from before + time_of m test (after_entries m from before) entries

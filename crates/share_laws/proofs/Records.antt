@@ -1,6 +1,6 @@
 -- The record of one unit of a Credit2 pool without caps, through the parts of a decision.
-use Rattle.std.proofs.Common.{◌≡◌, ◌≢◌, ◌<◌, ◌≤◌, ◌+◌, ◌-◌, ◌*◌, ◌/◌, ℕ, zero, suc, Bool, true, false, List, [], ◌∷◌, refl, arith, cond, subst, sym, ap, ◌∙◌, ◌⊎◌, inl, inr, length}
-use Rattle.std.specs.Prelude.{Option, Some, None, is_some, option_map, map, slice_get, ◌==◌, ℤ, pos, ◌-ℤ◌, ◌+ℤ◌}
+use Rattle.std.proofs.Common.{◌≡◌, ◌≢◌, ◌<◌, ◌+◌, ◌-◌, ℕ, suc, true, false, refl, arith, cond, subst, sym, ap, ◌∙◌, ◌⊎◌, inl, inr}
+use Rattle.std.specs.Prelude.{Option, Some, None, option_map, map, slice_get, ◌==◌, ℤ, pos, ◌-ℤ◌}
 use Rattle.std.proofs.Math.Decide.{ℕ_discrete}
 use Rattle.std.proofs.lemmas.Option.{slice_get-map}
 use Rattle.sched_base.specs.Numbers.{domain as domain_number}
@@ -9,7 +9,7 @@ use Rattle.sched_base.specs.Credit2Numbers.{burned_credit, burned_residual, rais
 use Rattle.sched_model.specs.declared.state.Credit2Domain.{Credit2Domain}
 use Rattle.sched_model.specs.declared.state.Credit2Records.{Credit2Records}
 use Rattle.sched_model.specs.declared.state.Credit2Unit.{Credit2Unit}
-use Rattle.sched_model.specs.Credit2.{burn_all, burned_domain, burned_unit, change_domain, change_unit, domain_after_return, domain_after_take, has_domain_budget, most_weight, off_records, own_burned_records, reset_records, running_records, unit_credit}
+use Rattle.sched_model.specs.Credit2.{burned_domain, burned_unit, change_domain, change_unit, domain_after_return, domain_after_take, most_weight, off_records, own_burned_records, reset_records, running_records, unit_credit}
 use Rattle.sched_model.specs.Places.{at_place, change_at, change_each, change_item, same_unit}
 use Rattle.sched_model.proofs.PlaceLemmas.{at_place-change_at_other}
 use Rattle.sched_laws.proofs.EachPlace.{at_place-change_at, at_place-change_each, by_cond}

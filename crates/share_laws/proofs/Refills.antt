@@ -1,5 +1,5 @@
 -- No domain of a Credit2 pool without caps is ever refilled; and the greatest weight is the greatest.
-use Rattle.std.proofs.Common.{◌≡◌, ◌≤◌, ℕ, zero, suc, List, [], ◌∷◌, refl, arith, cond, subst, sym, ap, ◌∙◌}
+use Rattle.std.proofs.Common.{◌≡◌, ◌≤◌, ℕ, zero, suc, List, [], ◌∷◌, arith, cond, ap}
 use Rattle.std.specs.Prelude.{Option, Some, None, slice_get, map, fold, max, ◌==◌}
 use Rattle.sched_base.specs.declared.UnitId.{UnitId}
 use Rattle.sched_model.specs.declared.ask.Ask.{Ask}
@@ -7,7 +7,7 @@ use Rattle.sched_model.specs.declared.state.Credit2Domain.{Credit2Domain}
 use Rattle.sched_model.specs.declared.state.Credit2Records.{Credit2Records}
 use Rattle.sched_model.specs.declared.state.Credit2Unit.{Credit2Unit}
 use Rattle.sched_model.specs.declared.state.Scheduler.{Scheduler}
-use Rattle.sched_model.specs.Credit2.{burn_all, burned_unit, change_domain, change_unit, domain_after_return, domain_after_take, most_weight, off_records, own_burned_records, reset_count, reset_records, running_records}
+use Rattle.sched_model.specs.Credit2.{burn_all, burned_unit, change_domain, change_unit, domain_after_return, domain_after_take, most_weight, off_records, own_burned_records, reset_count, reset_records}
 use Rattle.sched_model.specs.Places.{at_place, change_item, numbered_items}
 use Rattle.sched_laws.specs.EachPlace.{EachPlace}
 use Rattle.sched_laws.proofs.EachPlace.{EachPlace-change_at, EachPlace-change_each, by_option, by_cond}

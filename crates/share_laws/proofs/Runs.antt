@@ -1,9 +1,9 @@
 -- The accounts of two units through a run.
-use Rattle.std.proofs.Common.{◌≡◌, ◌≢◌, ◌<◌, ◌≤◌, ◌+◌, ◌-◌, ◌*◌, ℕ, zero, suc, Bool, true, false, List, [], ◌∷◌, ◌++◌, refl, arith, cond, subst, sym, ap, ◌∙◌, ◌⊎◌, inl, inr}
-use Rattle.std.specs.Prelude.{Option, Some, None, option_map, is_some, slice_set, nat_le, ◌&&◌}
-use Rattle.std.specs.List.{list_all, list_any, AllByRecursion}
+use Rattle.std.proofs.Common.{◌≡◌, ◌<◌, ◌≤◌, ◌+◌, ◌-◌, ◌*◌, ℕ, Bool, true, false, List, [], ◌∷◌, ◌++◌, refl, arith, subst, sym, ap, ◌∙◌, inl, inr}
+use Rattle.std.specs.Prelude.{Option, Some, None, option_map, slice_set, nat_le, ◌&&◌}
+use Rattle.std.specs.List.{list_all, AllByRecursion}
 use Rattle.std.specs.Option.{IfSome}
-use Rattle.std.proofs.Math.Decide.{ℕ_discrete, dec_le}
+use Rattle.std.proofs.Math.Decide.{ℕ_discrete}
 use Rattle.std.proofs.lemmas.Bool.{cases_Bool, and_from}
 use Rattle.sched_base.specs.Numbers.{core as core_number}
 use Rattle.sched_base.specs.declared.Moment.{Moment}
@@ -24,14 +24,13 @@ use Rattle.sched_model.specs.declared.state.Resource.{Resource}
 use Rattle.sched_model.specs.declared.state.State.{State}
 use Rattle.sched_model.specs.Actions.{home_pool_of_action, change_pool}
 use Rattle.sched_model.specs.CheckedMachine.{IsChecked}
-use Rattle.sched_model.specs.Machine.{is_action_enabled, after, next_in_horizon}
-use Rattle.sched_model.specs.Places.{at_place, change_at, has_listed_unit, is_unit, test_at}
-use Rattle.sched_model.specs.Pool as pools
+use Rattle.sched_model.specs.Machine.{is_action_enabled, after}
+use Rattle.sched_model.specs.Places.{at_place, has_listed_unit, test_at}
 use Rattle.sched_model.specs.Pool.{after_decide, after_in, core_ask, enabled_in, is_held_back, is_gathering, is_first_processor_up, settled_pool}
 use Rattle.sched_model.specs.Runs.{Reached, IsNext, IsNextEvent, IsRun, IsRunFrom, after_entries, after_entry, after_event, after_quiet, event_action, named_next_moment, run_start}
 use Rattle.sched_model.specs.State.{is_not_stalled, may_unit_run}
 use Rattle.sched_model.proofs.RunLemmas.{IsRunFrom-append}
-use Rattle.sched_laws.specs.Counts.{total, one_at, times}
+use Rattle.sched_laws.specs.Counts.{one_at, times}
 use Rattle.sched_laws.specs.PoolFacts.{CoreIsSound, OnePlace, core_places, places}
 use Rattle.sched_laws.specs.StateLaws.{state_after}
 use Rattle.sched_laws.proofs.Counts.{times_none, total_some}
@@ -47,7 +46,7 @@ use Rattle.service_laws.specs.Passing.{IsBeforeNext, Passes, at_moment}
 use Rattle.service_laws.specs.Service.{has_unit, time_of, time_until}
 use Rattle.service_laws.proofs.EndsSums.{next_rises}
 use Rattle.service_laws.proofs.Passing.{NextMomentLaw}
-use Rattle.undisturbed_laws.specs.Undisturbed.{CoreStays, HasHome, IsAsConfigured, IsUndisturbed, NeverSleeps, PoolStays}
+use Rattle.undisturbed_laws.specs.Undisturbed.{IsAsConfigured, NeverSleeps, PoolStays}
 use Rattle.undisturbed_laws.proofs.Runs.{after_pool, configured_in_runs, enabled_pool, only_pools, pool_as_configured}
 use Rattle.undisturbed_laws.proofs.Units.{never_sleeps, only_core}
 use Rattle.share_laws.specs.Shares.{IsPlainCredit2, HasWeight, longest_slice}

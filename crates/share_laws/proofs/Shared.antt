@@ -1,11 +1,9 @@
 -- The core of a pool with a unit that never sleeps is never idle, so the times of its units add up to all time; and so each has its share.
-use Rattle.std.proofs.Common.{◌≡◌, ◌≤◌, ◌<◌, ◌+◌, ◌-◌, ◌*◌, ℕ, zero, suc, Bool, true, false, not, List, [], ◌∷◌, ◌++◌, refl, arith, cond, subst, sym, ap, ◌∙◌, ◌⊎◌, inl, inr, length}
-use Rattle.std.specs.Prelude.{Option, Some, None, is_none, is_some, slice_get, ◌&&◌, ◌||◌, ◌==◌}
+use Rattle.std.proofs.Common.{◌≡◌, ◌≤◌, ◌<◌, ◌+◌, ◌-◌, ◌*◌, ℕ, zero, suc, Bool, true, false, not, List, [], ◌∷◌, ◌++◌, refl, arith, cond, subst, sym, ap, ◌∙◌, inl, inr, length}
+use Rattle.std.specs.Prelude.{Option, Some, None, is_none, ◌&&◌, ◌||◌, ◌==◌}
 use Rattle.std.specs.List.{list_all, list_any, AllByRecursion}
-use Rattle.std.specs.Option.{IfSome}
 use Rattle.std.proofs.lemmas.Bool.{and_from, cases_Bool, or_cases}
 use Rattle.std.proofs.lemmas.List.{length-map}
-use Rattle.sched_base.specs.declared.Moment.{Moment}
 use Rattle.sched_base.specs.declared.UnitId.{UnitId}
 use Rattle.sched_base.proofs.Bools.{and_right, clash, or_more}
 use Rattle.sched_base.proofs.Lists.{AllByRecursion-map}
@@ -13,8 +11,6 @@ use Rattle.sched_model.specs.declared.action.Action.{Action}
 use Rattle.sched_model.specs.declared.event.Entry.{Entry}
 use Rattle.sched_model.specs.declared.machine.Machine.{Machine}
 use Rattle.sched_model.specs.declared.state.Credit2Domain.{Credit2Domain}
-use Rattle.sched_model.specs.declared.state.Credit2Records.{Credit2Records}
-use Rattle.sched_model.specs.declared.state.Domain.{Domain}
 use Rattle.sched_model.specs.declared.state.Pool.{Pool}
 use Rattle.sched_model.specs.declared.state.Records.{Records}
 use Rattle.sched_model.specs.declared.state.Records.TheVariants.{Credit2Pool}
@@ -31,7 +27,7 @@ use Rattle.sched_model.specs.Runs.{Reached, IsNext, IsNextEvent, IsRun, IsRunFro
 use Rattle.sched_model.specs.State.{is_awake, is_not_stalled, may_unit_run, unit_runnable, vcpus_of_unit}
 use Rattle.sched_model.proofs.RunLemmas.{IsRunFrom-append}
 use Rattle.sched_laws.specs.Laws.{is_more_urgent, keeps_none_waiting}
-use Rattle.sched_laws.specs.PoolFacts.{OnePlace, core_places, places}
+use Rattle.sched_laws.specs.PoolFacts.{core_places, places}
 use Rattle.sched_laws.specs.RunLaws.{NobodyWaits}
 use Rattle.sched_laws.specs.StateLaws.{state_after}
 use Rattle.sched_laws.specs.Counts.{one_at, times}
@@ -40,18 +36,17 @@ use Rattle.sched_laws.proofs.Choices.{same_unit_same}
 use Rattle.sched_laws.proofs.Counts.{times_none, total_some}
 use Rattle.sched_laws.proofs.Free.{now_after}
 use Rattle.sched_laws.proofs.Lists.{some-test_at}
-use Rattle.sched_laws.proofs.OnePlace.{one_at_some}
 use Rattle.sched_laws.proofs.SiblingsLaw.{some_processor}
 use Rattle.moment_laws.proofs.AllowedAlone.{allowed_alone}
 use Rattle.term_laws.proofs.ReachedStates.{IsReached, reached_next, reached_opening}
 use Rattle.service_laws.specs.OnTime.{IsOnTime}
-use Rattle.service_laws.specs.Passing.{IsBeforeNext, Passes, at_moment}
+use Rattle.service_laws.specs.Passing.{IsBeforeNext, at_moment}
 use Rattle.service_laws.specs.Service.{count_from, has_unit, time_of, time_until}
 use Rattle.service_laws.proofs.EndsSums.{next_rises}
 use Rattle.service_laws.proofs.Passing.{NextMomentLaw}
-use Rattle.undisturbed_laws.specs.Undisturbed.{Credit2DomainStays, DomainStays, HasHome, NeverSleeps, PoolStays}
+use Rattle.undisturbed_laws.specs.Undisturbed.{Credit2DomainStays, DomainStays, NeverSleeps}
 use Rattle.undisturbed_laws.proofs.Units.{core_there, never_sleeps}
-use Rattle.share_laws.specs.Shares.{HasShare, HasWeight, IsPlainCredit2, IsWithinShare, longest_slice, pool_units, total_weight, weighted_units}
+use Rattle.share_laws.specs.Shares.{HasShare, HasWeight, IsPlainCredit2, IsWithinShare, longest_slice, pool_units, total_weight}
 use Rattle.share_laws.proofs.Paced.{unit_low}
 use Rattle.share_laws.proofs.Runs.{OnTimeLaw, configured, core_on_time, names_none, one, pool_stays, single, unstalled_up}
 use Rattle.share_laws.proofs.Start.{first_books}

@@ -1,14 +1,12 @@
 -- The accounts of two units at the opening.
-use Rattle.std.proofs.Common.{◌≡◌, ◌<◌, ◌≤◌, ◌+◌, ◌*◌, ℕ, zero, suc, Bool, true, false, List, [], ◌∷◌, refl, arith, cond, subst, sym, ap, ◌∙◌, length}
-use Rattle.std.specs.Prelude.{Option, Some, None, slice_get, replicate, ℤ, pos, ◌-ℤ◌, ◌-◌}
+use Rattle.std.proofs.Common.{◌≡◌, ◌<◌, ◌+◌, ℕ, zero, suc, Bool, true, false, refl, arith, cond, subst, sym, ap, ◌∙◌, length}
+use Rattle.std.specs.Prelude.{Option, Some, None, slice_get, replicate, pos, ◌-◌}
 use Rattle.std.proofs.lemmas.Int.{ints}
 use Rattle.std.proofs.lemmas.List.Elements.{recursion_from_All}
-use Rattle.sched_base.specs.Numbers.{moment}
 use Rattle.sched_base.specs.declared.UnitId.{UnitId}
 use Rattle.sched_base.proofs.Lists.{each_get}
 use Rattle.sched_model.specs.declared.config.Config.{Config}
 use Rattle.sched_model.specs.declared.config.DomConfig.{DomConfig}
-use Rattle.sched_model.specs.declared.config.DomParams.{DomParams}
 use Rattle.sched_model.specs.declared.config.DomParams.TheVariants as dom_params
 use Rattle.sched_model.specs.declared.config.PoolConfig.{PoolConfig}
 use Rattle.sched_model.specs.declared.config.PoolParams.{PoolParams}
@@ -34,7 +32,7 @@ use Rattle.service_laws.proofs.ChosenInRuns.{fresh_core}
 use Rattle.undisturbed_laws.specs.Undisturbed.{Credit2DomainStays, Credit2Stays, HasHome, PoolStays, RecordsStay, StandsAt}
 use Rattle.undisturbed_laws.proofs.Opened.{configured_opening, fresh_credit2}
 use Rattle.undisturbed_laws.proofs.Units.{core_there}
-use Rattle.share_laws.specs.Shares.{HasWeight, IsPlainCredit2, longest_slice}
+use Rattle.share_laws.specs.Shares.{HasWeight, IsPlainCredit2}
 use Rattle.share_laws.proofs.Decision.{PaysAll, PaysNoMore}
 use Rattle.share_laws.proofs.Fair.{Fair, since_last}
 use Rattle.share_laws.proofs.Records.{Sees}

@@ -1,16 +1,14 @@
 -- Sums over the units of a pool, each of which stands in its list once.
-use Rattle.std.proofs.Common.{◌≡◌, ◌≢◌, ◌≤◌, ◌<◌, ◌+◌, ◌-◌, ◌*◌, ℕ, zero, suc, Bool, true, false, List, [], ◌∷◌, ◌++◌, refl, arith, cond, subst, sym, ap, ◌∙◌, length}
-use Rattle.std.specs.Prelude.{Option, Some, None, slice_get, map, ◌==◌}
+use Rattle.std.proofs.Common.{◌≡◌, ◌≢◌, ◌≤◌, ◌<◌, ◌+◌, ◌*◌, ℕ, zero, suc, Bool, true, false, List, [], ◌∷◌, ◌++◌, refl, arith, cond, subst, sym, ap, ◌∙◌, length}
+use Rattle.std.specs.Prelude.{Some, slice_get, map, ◌==◌}
 use Rattle.std.specs.List.{AllByRecursion}
 use Rattle.sched_base.specs.Units.{unit_id}
 use Rattle.sched_base.specs.declared.UnitId.{UnitId}
 use Rattle.sched_model.specs.declared.config.DomConfig.{DomConfig}
-use Rattle.sched_model.specs.declared.config.DomParams.{DomParams}
 use Rattle.sched_model.specs.declared.config.DomParams.TheVariants as dom_params
 use Rattle.sched_model.specs.declared.machine.Machine.{Machine}
 use Rattle.sched_model.specs.Actions.{configured_units}
 use Rattle.sched_model.specs.Places.{numbers_from, same_unit}
-use Rattle.sched_laws.proofs.Choices.{same_unit_same}
 use Rattle.sched_laws.proofs.EachPlace.{by_cond}
 use Rattle.undisturbed_laws.specs.Undisturbed.{HasHome}
 use Rattle.share_laws.specs.Shares.{HasWeight, IsPlainCredit2, total_weight, weight_of, weighted_units}

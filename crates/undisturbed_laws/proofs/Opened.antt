@@ -8,7 +8,6 @@ use Rattle.std.proofs.lemmas.List.{length-map, length-replicate}
 use Rattle.std.proofs.lemmas.List.Elements.{recursion_from_All}
 use Rattle.sched_base.specs.Numbers.{moment, domain as domain_number, span}
 use Rattle.sched_base.specs.declared.Cores.{Cores}
-use Rattle.sched_base.specs.declared.Moment.{Moment}
 use Rattle.sched_base.specs.declared.Span.{Span}
 use Rattle.sched_base.specs.declared.UnitId.{UnitId}
 use Rattle.sched_base.proofs.Lists.{each_get}
@@ -32,7 +31,6 @@ use Rattle.sched_model.specs.declared.state.Records.{Records}
 use Rattle.sched_model.specs.declared.state.Records.TheVariants.{Credit2Pool, RtdsPool, ArincPool, NullPool}
 use Rattle.sched_model.specs.declared.state.Resource.{Resource}
 use Rattle.sched_model.specs.declared.state.RtdsUnit.{RtdsUnit}
-use Rattle.sched_model.specs.declared.state.State.{State}
 use Rattle.sched_model.specs.declared.state.Vcpu.{Vcpu}
 use Rattle.sched_model.specs.Actions.{configured_units}
 use Rattle.sched_model.specs.CheckedMachine.{IsChecked, IsCheckedDomain, IsCheckedPool, DomParamsPass, PoolParamsPass}
@@ -44,11 +42,10 @@ use Rattle.sched_model.specs.Policy.{changed_records, domain_credit2_record, emp
 use Rattle.sched_model.specs.Pool.{pool_with_domain, pool_with_queued_units, pool_with_queued_if_off, is_unit_off, domain_unit_count}
 use Rattle.sched_model.specs.Rtds.{fresh_rtds_units}
 use Rattle.sched_model.specs.State.{has_core_bit, may_unit_run}
-use Rattle.sched_laws.specs.EachPlace.{EachPlace}
-use Rattle.sched_laws.proofs.EachPlace.{at_place-put_at, at_place-put_at_other, at_place-replicate, by_cond, is_empty, length_set, EachPlace-empty}
-use Rattle.sched_laws.proofs.Opened.{domains_keep, length_map_numbers, opened_domain, pins_keep, read_map, read_pools, with_configured-domains, with_domains-resources}
+use Rattle.sched_laws.proofs.EachPlace.{at_place-put_at, at_place-put_at_other, at_place-replicate, by_cond, length_set}
+use Rattle.sched_laws.proofs.Opened.{domains_keep, opened_domain, pins_keep, read_map, read_pools, with_configured-domains, with_domains-resources}
 use Rattle.undisturbed_laws.proofs.Steps.{none_in}
-use Rattle.undisturbed_laws.specs.Undisturbed.{CoreStays, Credit2DomainStays, Credit2Stays, DomainStays, HasHome, IsAsConfigured, IsAtHome, KeepsDomains, PoolStays, RecordsStay, RtdsDomainStays, RtdsUnitStays, RunsForEver, StandsAt}
+use Rattle.undisturbed_laws.specs.Undisturbed.{CoreStays, Credit2DomainStays, DomainStays, HasHome, IsAsConfigured, IsAtHome, KeepsDomains, PoolStays, RecordsStay, RtdsDomainStays, RtdsUnitStays, RunsForEver}
 
 -- the records after a domain of the file joined
 queued_records : (g d : ℕ) (ns : List ℕ) (pool : Pool) → (pool_with_queued_units g d ns pool).scheduler.records ≡ pool.scheduler.records

@@ -1,13 +1,13 @@
 -- What stands at the places of a list after changes of them.
-use Rattle.std.proofs.Common.{◌≡◌, ◌≢◌, ◌<◌, ℕ, zero, suc, List, [], ◌∷◌, refl, subst, sym, ap, ◌∙◌, length}
-use Rattle.std.specs.Prelude.{Option, Some, None, is_some, option_map, map, ◌+◌}
+use Rattle.std.proofs.Common.{◌≡◌, ℕ, zero, suc, List, [], ◌∷◌, refl, subst, sym, ap, ◌∙◌}
+use Rattle.std.specs.Prelude.{Option, Some, is_some, option_map, map, ◌+◌}
 use Rattle.std.proofs.Math.Decide.{ℕ_discrete}
 use Rattle.sched_model.specs.declared.config.DomConfig.{DomConfig}
 use Rattle.sched_model.specs.declared.machine.Machine.{Machine}
 use Rattle.sched_model.specs.Places.{at_place, put_at, change_at, change_each, change_item}
 use Rattle.sched_model.proofs.PlaceLemmas.{at_place-change_at_other, is_some-option_map}
 use Rattle.sched_laws.proofs.EachPlace.{EachAt-change_at, EachAt-change_each, at_place-change_at, at_place-change_each, at_place-put_at, at_place-put_at_other, place_below}
-use Rattle.undisturbed_laws.specs.Undisturbed.{StandsAt, HasHome, IsAtHome, KeepsDomains}
+use Rattle.undisturbed_laws.specs.Undisturbed.{StandsAt, IsAtHome, KeepsDomains}
 
 -- what is changed, and what is not
 pub stands_change_at : {X : Type 0} (P : X → Type 0) (i j : ℕ) (f : X → X) (places : List (Option X)) → ((x : X) → j ≡ i → at_place places j ≡ Some x → P x → P (f x)) → StandsAt places j P → StandsAt (change_at i f places) j P

@@ -1,5 +1,5 @@
 -- The records of a scheduler keep their parameters through its decisions, its replenishments and its refills.
-use Rattle.std.proofs.Common.{◌≡◌, ℕ, zero, suc, List, refl, subst, sym, ap, ◌∙◌, cond, length}
+use Rattle.std.proofs.Common.{◌≡◌, ℕ, zero, suc, List, refl, subst, sym, ◌∙◌, cond, length}
 use Rattle.std.specs.Prelude.{Option, Some, None, slice_get, ◌==◌}
 use Rattle.std.proofs.lemmas.List.{length-map}
 use Rattle.sched_base.specs.declared.UnitId.{UnitId}
@@ -8,7 +8,6 @@ use Rattle.sched_model.specs.declared.config.DomConfig.{DomConfig}
 use Rattle.sched_model.specs.declared.config.PoolParams.{PoolParams}
 use Rattle.sched_model.specs.declared.config.PoolParams.TheVariants as pool_params
 use Rattle.sched_model.specs.declared.machine.Machine.{Machine}
-use Rattle.sched_model.specs.declared.state.ArincRecords.{ArincRecords}
 use Rattle.sched_model.specs.declared.state.Credit2Domain.{Credit2Domain}
 use Rattle.sched_model.specs.declared.state.Credit2Records.{Credit2Records}
 use Rattle.sched_model.specs.declared.state.Credit2Unit.{Credit2Unit}

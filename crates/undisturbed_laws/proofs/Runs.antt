@@ -1,7 +1,6 @@
 -- On an undisturbed machine nothing comes but events of pools, and every state is as configured.
-use Rattle.std.proofs.Common.{◌≡◌, ℕ, Bool, true, false, List, [], ◌∷◌, refl, arith, subst, sym, ap, ◌∙◌}
-use Rattle.std.specs.Prelude.{Option, Some, None, slice_get, is_some, is_none, ◌&&◌, ◌||◌, ◌/◌, nat_le, not}
-use Rattle.std.specs.List.{list_any}
+use Rattle.std.proofs.Common.{◌≡◌, ℕ, Bool, true, false, List, [], refl, arith, subst, sym, ap, ◌∙◌}
+use Rattle.std.specs.Prelude.{Option, Some, None, slice_get, is_some, is_none, ◌&&◌, ◌||◌, nat_le, not}
 use Rattle.sched_base.specs.Numbers.{core as core_number}
 use Rattle.sched_base.proofs.Bools.{and_left, clash}
 use Rattle.sched_model.specs.declared.action.Action.{Action}
@@ -19,9 +18,8 @@ use Rattle.sched_model.specs.declared.work.StallLine.{StallLine}
 use Rattle.sched_model.specs.Actions.{IsOfPool, home_pool_of_action, home_pool_of_core, home_pool_of_domain, change_pool}
 use Rattle.sched_model.specs.CheckedMachine.{IsChecked}
 use Rattle.sched_model.specs.Machine.{is_action_enabled, after, after_at_home, enabled_at_home, has_move_under_way, is_free_core_ready}
-use Rattle.sched_model.specs.Opening.{opening}
 use Rattle.sched_model.specs.Places.{at_place, test_at}
-use Rattle.sched_model.specs.Pool.{enabled_in, after_in, settled_pool, is_gathering, is_first_processor_up, is_domain_unit}
+use Rattle.sched_model.specs.Pool.{enabled_in, after_in, settled_pool, is_gathering, is_first_processor_up}
 use Rattle.sched_model.specs.Runs.{IsRun}
 use Rattle.sched_laws.specs.StateLaws.{state_after}
 use Rattle.sched_laws.proofs.EachPlace.{EachAt-change_at}

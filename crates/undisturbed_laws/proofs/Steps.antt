@@ -1,7 +1,7 @@
 -- A pool stays as configured through each of its events.
-use Rattle.std.proofs.Common.{◌≡◌, ℕ, zero, suc, Bool, true, false, List, [], ◌∷◌, refl, arith, subst, sym, ap, ◌∙◌, cond}
-use Rattle.std.specs.Prelude.{Option, Some, None, option_map, slice_get, ◌+◌, ◌*◌, ◌/◌, ◌%◌, ◌&&◌, ◌||◌}
-use Rattle.std.specs.List.{list_any, AllByRecursion}
+use Rattle.std.proofs.Common.{◌≡◌, ℕ, Bool, true, false, List, [], refl, arith, subst, sym, ap, ◌∙◌}
+use Rattle.std.specs.Prelude.{Option, Some, None, option_map, slice_get, ◌+◌, ◌*◌, ◌/◌, ◌%◌}
+use Rattle.std.specs.List.{list_any}
 use Rattle.sched_base.specs.Numbers.{moment, has_moment_come, processor}
 use Rattle.sched_base.specs.declared.Moment.{Moment}
 use Rattle.sched_base.specs.declared.Span.{Span}
@@ -11,7 +11,6 @@ use Rattle.sched_model.specs.declared.action.Action.{Action}
 use Rattle.sched_model.specs.declared.action.Action.TheVariants.{Block}
 use Rattle.sched_model.specs.declared.config.PoolConfig.{PoolConfig}
 use Rattle.sched_model.specs.declared.machine.Machine.{Machine}
-use Rattle.sched_model.specs.declared.state.Domain.{Domain}
 use Rattle.sched_model.specs.declared.state.Doing.{Doing}
 use Rattle.sched_model.specs.declared.state.Doing.TheVariants.{Guest, Idle, Held}
 use Rattle.sched_model.specs.declared.state.Pool.{Pool}
@@ -20,8 +19,7 @@ use Rattle.sched_model.specs.declared.state.Records.{Records}
 use Rattle.sched_model.specs.declared.state.Resource.{Resource}
 use Rattle.sched_model.specs.declared.state.Vcpu.{Vcpu}
 use Rattle.sched_model.specs.EligibleUnits.{Decision}
-use Rattle.sched_model.specs.Places.{at_place, put_at, change_item}
-use Rattle.sched_model.specs.Policy as policy
+use Rattle.sched_model.specs.Places.{at_place, change_item}
 use Rattle.sched_model.specs.Policy.{decision_of}
 use Rattle.sched_model.specs.Pool as pools
 use Rattle.sched_model.specs.Pool.{change_core, change_processor, change_vcpu, core_ask, decided_core, done_moment, enabled_in, after_in, is_held_back, pool_processor, pool_vcpu, queue_unit, running_guest, same_choice, settled_pool, vcpu_among, with_doing, with_records}

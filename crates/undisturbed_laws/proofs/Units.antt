@@ -1,11 +1,10 @@
 -- A unit that never sleeps is runnable, and a pool of one core has that core alone.
-use Rattle.std.proofs.Common.{◌≡◌, ◌≤◌, ◌<◌, ◌+◌, ◌*◌, ◌/◌, ◌%◌, ℕ, zero, suc, Bool, true, false, not, List, [], ◌∷◌, refl, arith, subst, sym, ap, ◌∙◌, take, drop, cond}
-use Rattle.std.specs.Prelude.{Option, Some, None, is_some, is_none, slice_get, option_map, map, ◌^◌, ◌&&◌, ◌||◌}
-use Rattle.std.specs.List.{list_any, AllByRecursion}
+use Rattle.std.proofs.Common.{◌≡◌, ◌≤◌, ◌<◌, ◌+◌, ◌*◌, ◌/◌, ◌%◌, ℕ, zero, suc, Bool, true, false, not, List, [], ◌∷◌, refl, arith, subst, sym, ap, ◌∙◌, take, drop}
+use Rattle.std.specs.Prelude.{Option, Some, None, is_some, is_none, slice_get, option_map, ◌^◌, ◌&&◌, ◌||◌}
+use Rattle.std.specs.List.{list_any}
 use Rattle.std.proofs.lemmas.Bool.{and_from}
 use Rattle.std.proofs.lemmas.Nat.{div-add-mod'}
 use Rattle.std.proofs.lemmas.Option.{slice_get-map}
-use Rattle.sched_base.specs.declared.Moment.{Moment}
 use Rattle.sched_base.specs.declared.Span.{Span}
 use Rattle.sched_base.specs.declared.UnitId.{UnitId}
 use Rattle.sched_base.proofs.Lists.{each_get}
@@ -24,7 +23,7 @@ use Rattle.sched_model.specs.State.{has_core_bit, is_awake, may_unit_run, unit_r
 use Rattle.sched_laws.proofs.HomeCores.{home_has}
 use Rattle.sched_laws.proofs.Lists.{some_is, test_at-some}
 use Rattle.sched_laws.proofs.SiblingsLaw.{some_processor}
-use Rattle.undisturbed_laws.specs.Undisturbed.{DomainStays, HasHome, NeverSleeps, PoolStays, RunsForEver, StandsAt}
+use Rattle.undisturbed_laws.specs.Undisturbed.{DomainStays, HasHome, NeverSleeps, PoolStays, RunsForEver}
 
 or_right_true : (a b : Bool) → b ≡ true → (a || b) ≡ true
 or_right_true true b is = refl

@@ -1,9 +1,7 @@
 -- A machine to which nothing happens from outside, and what it keeps of its configuration.
 use Rattle.sched_base.specs.Numbers.{span}
-use Rattle.std.specs.Prelude.{ℕ, ◌≡◌, ◌/◌, ⊤, true, false, List, [], Option, Some, None, is_some, map, length, slice_get}
+use Rattle.std.specs.Prelude.{ℕ, ◌≡◌, ◌/◌, ⊤, false, List, [], Option, Some, None, is_some, map, length, slice_get}
 use Rattle.std.specs.List.{AllByRecursion}
-use Rattle.sched_base.specs.declared.Cores.{Cores}
-use Rattle.sched_base.specs.declared.Span.{Span}
 use Rattle.sched_base.specs.declared.UnitId.{UnitId}
 use Rattle.sched_model.specs.declared.config.DomConfig.{DomConfig}
 use Rattle.sched_model.specs.declared.config.DomParams.TheVariants as dom_params

@@ -1,13 +1,6 @@
-use Rattle.std.proofs.Common.{◌≡◌, ℕ, List, ◌++◌}
-use Rattle.sched_base.specs.declared.UnitId.{UnitId}
-use Rattle.sched_model.specs.declared.event.Entry.{Entry}
-use Rattle.sched_model.specs.declared.machine.Machine.{Machine}
-use Rattle.sched_model.specs.CheckedMachine.{IsChecked}
-use Rattle.sched_model.specs.Runs.{IsRun, run_start}
+use Rattle.std.proofs.Common.{◌++◌}
+use Rattle.sched_model.specs.Runs.{run_start}
 use Rattle.sched_laws.proofs.StillWaits.{split_run}
-use Rattle.service_laws.proofs.Passing.{NextMomentLaw}
-use Rattle.undisturbed_laws.specs.Undisturbed.{NeverSleeps}
-use Rattle.share_laws.specs.Shares.{HasWeight, IsPlainCredit2, IsWithinShare, SleepsAreSeen}
 use Rattle.share_laws.proofs.Law.{within_share}
 use Rattle.share_laws.proofs.Parts.{near_share}
 use Rattle.share_laws.proofs.Shared.{has_share}
