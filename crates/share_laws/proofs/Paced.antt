@@ -7,13 +7,14 @@ use Rattle.std.proofs.lemmas.List.{length-map}
 use Rattle.std.proofs.lemmas.List.Elements.{recursion_from_All}
 use Rattle.std.proofs.lemmas.Nat.{div-mul-add, le-div, div-add-mod'}
 use Rattle.std.proofs.lemmas.Option.{slice_get_cases, slice_get_within}
-use Rattle.sched_base.specs.Numbers.{moment, span, processor, has_moment_come}
+use Rattle.sched_base.specs.Numbers.{moment, span, domain as domain_number, processor, has_moment_come}
 use Rattle.sched_base.specs.declared.Moment.{Moment}
 use Rattle.sched_base.specs.declared.Span.{Span}
 use Rattle.sched_base.specs.declared.UnitId.{UnitId}
 use Rattle.sched_base.specs.declared.VcpuId.{VcpuId}
-use Rattle.sched_base.proofs.Bools.{and_left, and_right, clash}
+use Rattle.sched_base.proofs.Bools.{and_left, and_right, clash, or_left, or_right}
 use Rattle.sched_base.proofs.Lists.{each_get}
+use Rattle.sched_model.specs.declared.action.Action.{Action}
 use Rattle.sched_model.specs.declared.action.Action.TheVariants.{Wake, Block}
 use Rattle.sched_model.specs.declared.config.DomConfig.{DomConfig}
 use Rattle.sched_model.specs.declared.machine.Machine.{Machine}
@@ -83,6 +84,30 @@ part_found test a (suc b) (x ∷ xs) some = (let r = part_found test a b xs some
 
 place_of : (g n k : ℕ) → n * g ≤ k → k < n * g + g → k / g ≡ n
 place_of g n k low high = (let rest : k ≡ n * g + (k - n * g) = omega (arith, low) in subst (λ j. j / g ≡ n) (sym rest) (div-mul-add n g (k - n * g) (omega (arith, low, high))))
+
+-- the same of a part in which nothing passes
+part_none : {X : Type 0} (test : X → Bool) (a b k : ℕ) (xs : List X) (x : X) → slice_get xs k ≡ Some x → b ≤ k → k < b + a → list_any test (take a (drop b xs)) ≡ false → test x ≡ false
+part_none test a b k [] x at low high none = absurd (cc)
+part_none test zero zero k (y ∷ xs) x at low high none = absurd (omega (arith, high))
+part_none test (suc a) zero zero (y ∷ xs) x at low high none = (let e : y ≡ x = cc in subst (λ z. test z ≡ false) e (or_left (test y) (list_any test (take a xs)) none))
+part_none test (suc a) zero (suc k) (y ∷ xs) x at low high none = part_none test a zero k xs x at (omega arith) (omega (arith, high)) (or_right (test y) (list_any test (take a xs)) none)
+part_none test a (suc b) zero (y ∷ xs) x at low high none = absurd (omega (arith, low))
+part_none test a (suc b) (suc k) (y ∷ xs) x at low high none = part_none test a b k xs x at (omega (arith, low)) (omega (arith, high)) none
+
+place_low : (g k n : ℕ) → k / g ≡ n → n * g ≤ k
+place_low g k n is = (let e = div-add-mod' k g in let f : k / g * g ≡ n * g = ap (λ q. q * g) is in omega (arith, e, f))
+
+place_high : (g k n : ℕ) → 0 < g → k / g ≡ n → k < n * g + g
+place_high g k n some is = (let e = div-add-mod' k g in let f : k / g * g ≡ n * g = ap (λ q. q * g) is in let low : k % g < g = rest g k some in omega (arith, e, f, low))
+  where
+    rest : (g k : ℕ) → 0 < g → k % g < g
+    rest g k some = omega (arith, some)
+
+-- the domain is neither paused nor moving
+record GoesOn (d : Domain) : Type 0 where
+  config : DomConfig
+  runs : d.paused ≡ false
+  stays : d.moving ≡ None
 
 -- the unit of a vCPU, and a unit with a vCPU, are within the domain
 inside_of : (g n count : ℕ) → 0 < g → n < count → n / g < (count + g - 1) / g
@@ -269,10 +294,19 @@ module _ (m : Machine) (checked : IsChecked m) (i r rate : ℕ) (plain : IsPlain
         | inr past ↦ absurd (let low = slice_get_within d.0.vcpus v.n x d.2 in let p = past.0 in omega (arith, low, p, same))
       ]
 
-  module _ (seen : (m.config.granularity ≡ 1) ⊎ NobodySleeps m i) (t : ℕ) (pool : Pool) (known : IsKnown t pool) where
-    abbrev g : ℕ
-    g = m.config.granularity
+  -- no vCPU that may wake by now is still asleep
+  abbrev pub NoneToWake : ℕ → Pool → Type 0
+  NoneToWake t pool = (v : VcpuId) (y : Vcpu) → pool_vcpu pool v ≡ Some y → has_moment_come t y.asleep_until ≡ false
 
+  -- a unit that stops at a block does not wake at the same moment: it is one vCPU, or never sleeps, or all that wake now are awake
+  abbrev pub SeenAt : ℕ → Pool → Type 0
+  SeenAt t pool = (m.config.granularity ≡ 1) ⊎ NobodySleeps m i ⊎ NoneToWake t pool
+
+  abbrev pub SeenFor : ℕ → Pool → Action → Type 0
+  SeenFor t pool (Block p) = SeenAt t pool
+  SeenFor t pool _ = Unit {0}
+
+  module _ (t : ℕ) (pool : Pool) (known : IsKnown t pool) where
     pub only : (q : ℕ) (c : Resource) → at_place pool.resources q ≡ Some c → q ≡ r
     only = only_core m i r plain.config pool known.stays plain.core
 
@@ -289,7 +323,7 @@ module _ (m : Machine) (checked : IsChecked m) (i r rate : ℕ) (plain : IsPlain
     count_of config d stays = sym (length-map d.vcpus (λ (y : Vcpu). y.script)) ∙ ap length stays.scripts
 
     -- a block
-    module _ (p : ℕ) (v : VcpuId) (guest : running_guest m.config.granularity pool p ≡ Some v) (on : enabled_in m.config.granularity t pool (Block (processor p)) ≡ true) (here : Paced t pool) where
+    module _ (seen : SeenAt t pool) (p : ℕ) (v : VcpuId) (guest : running_guest m.config.granularity pool p ≡ Some v) (on : enabled_in m.config.granularity t pool (Block (processor p)) ≡ true) (here : Paced t pool) where
       abbrev next : Pool
       next = change_processor m.config.granularity p (with_doing Idle) (change_vcpu v (pools.put_to_sleep t) pool)
 
@@ -327,13 +361,13 @@ module _ (m : Machine) (checked : IsChecked m) (i r rate : ℕ) (plain : IsPlain
           same_place : (g n k : ℕ) → g ≡ 1 → n / g ≡ k / g → n ≡ k
           same_place g n k one same = (let a : n / 1 ≡ k / 1 = subst (λ x. n / x ≡ k / x) one same in omega (arith, a))
 
-          by_seen : (m.config.granularity ≡ 1) ⊎ NobodySleeps m i → Gone m.config.granularity t next.domains (vcpu_unit m.config.granularity v)
+          by_seen : SeenAt t pool → Gone m.config.granularity t next.domains (vcpu_unit m.config.granularity v)
           by_seen (inl single) n y place is =
               let e : n ≡ v.n = same_place m.config.granularity n v.n single place in
               let is_v : pool_vcpu (change_vcpu v (pools.put_to_sleep t) pool) v ≡ Some y = subst (λ k. vcpu_among next.domains (record { dom = v.dom; n = k }) ≡ Some y) e is in
               let x = vcpu_after v (pools.put_to_sleep t) pool y is_v in
               (moment (t + (slice_index_or x.0.script (x.0.place + 1) (span 0)).0), ap (λ (z : Vcpu). z.asleep_until) (sym x.2), asleep_later x.0 x.1)
-          by_seen (inr nobody) n y place is = absurd (clash (may_unit_run m.config.granularity next (vcpu_unit m.config.granularity v)) runs stops)
+          by_seen (inr (inl nobody)) n y place is = absurd (clash (may_unit_run m.config.granularity next (vcpu_unit m.config.granularity v)) runs stops)
             where
               runs : may_unit_run m.config.granularity next (vcpu_unit m.config.granularity v) ≡ true
               runs =
@@ -354,6 +388,45 @@ module _ (m : Machine) (checked : IsChecked m) (i r rate : ℕ) (plain : IsPlain
                   vcpu_there : (o : Option Vcpu) → elim o as (λ _. Bool) [ None ↦ false | Some z ↦ has_moment_come t (done_moment z) ] ≡ true → (z : Vcpu) × (o ≡ Some z)
                   vcpu_there None on = absurd (cc)
                   vcpu_there (Some z) on = (z, refl)
+
+          by_seen (inr (inr none)) n y place is =
+              elim (vcpu_read v (record { dom = v.dom; n = n }) (pools.put_to_sleep t) pool.domains y is) [
+                | inl was ↦ later_of y.asleep_until (asleep n y place is) (none (record { dom = v.dom; n = n }) y was)
+                | inr x ↦ (moment (t + (slice_index_or x.0.script (x.0.place + 1) (span 0)).0), ap (λ (z : Vcpu). z.asleep_until) (sym x.3), asleep_later x.0 x.2)
+              ]
+            where
+              later_of : (o : Option Moment) → is_none o ≡ false → has_moment_come t o ≡ false → (e : Moment) × (o ≡ Some e) × (t < e.0)
+              later_of None sleeps later = absurd (cc)
+              later_of (Some e) sleeps later = (e, refl, (let low : t < e.0 = grind (arith, later) in low))
+
+              -- the unit stops, so each of its vCPUs sleeps
+              asleep : (n : ℕ) (y : Vcpu) → n / m.config.granularity ≡ v.n / m.config.granularity → vcpu_among next.domains (record { dom = v.dom; n = n }) ≡ Some y → is_none y.asleep_until ≡ false
+              asleep n y place is =
+                  let some : 0 < m.config.granularity = some_processor m.config.granularity checked.config.granularity in
+                  let d = vcpu_is next.domains (record { dom = v.dom; n = n }) y is in
+                  let old = vcpu_domain v.dom.0 d.0 d.1 in
+                  let runs_not : (not d.0.paused && is_none d.0.moving && list_any is_awake (vcpus_of_unit m.config.granularity d.0 (v.n / m.config.granularity))) ≡ false = ap (λ (o : Option Domain). elim o as (λ _. Bool) [ None ↦ false | Some e ↦ unit_runnable m.config.granularity e (v.n / m.config.granularity) ]) (sym d.1) ∙ stops in
+                  part_none is_awake m.config.granularity (v.n / m.config.granularity * m.config.granularity) n d.0.vcpus y d.2
+                  (place_low m.config.granularity n (v.n / m.config.granularity) place) (place_high m.config.granularity n (v.n / m.config.granularity) some place)
+                  (stopped_part d.0.paused (is_none d.0.moving) _ old.0 old.1 runs_not)
+                where
+                  stopped_part : (paused still any : Bool) → paused ≡ false → still ≡ true → (not paused && still && any) ≡ false → any ≡ false
+                  stopped_part true still any a b e = absurd (cc)
+                  stopped_part false true any a b e = e
+                  stopped_part false false any a b e = absurd (cc)
+
+                  -- the domain is neither paused nor moving
+                  vcpu_domain : (k : ℕ) (d : Domain) → at_place next.domains k ≡ Some d → (d.paused ≡ false) × (is_none d.moving ≡ true)
+                  vcpu_domain k d at =
+                      elim (read_change_at v.dom.0 k (λ x. record x { vcpus = change_item v.n (pools.put_to_sleep t) x.vcpus }) pool.domains d at) [
+                        | inl was ↦ (let h = own_domain k d was.1 in (h.runs, ap is_none h.stays))
+                        | inr x ↦ (
+                            let h = own_domain v.dom.0 x.0 x.1 in
+                            (ap (λ (z : Domain). z.paused) (sym x.3) ∙ h.runs, ap (λ (z : Domain). is_none z.moving) (sym x.3) ∙ ap is_none h.stays))
+                      ]
+                    where
+                      own_domain : (k : ℕ) (d : Domain) → at_place pool.domains k ≡ Some d → GoesOn d
+                      own_domain k d at = (let x = home_of (record { dom = domain_number k; n = 0 }) d at in record { config = x.0; runs = x.2.runs; stays = x.2.stays })
 
       pended : may_unit_run m.config.granularity next (vcpu_unit m.config.granularity v) ≡ false → Paced t (change_core (p / m.config.granularity) (λ c. record c { pending = true }) next)
       pended stops =

@@ -8,6 +8,7 @@ use Rattle.sched_base.specs.declared.Moment.{Moment}
 use Rattle.sched_base.specs.declared.UnitId.{UnitId}
 use Rattle.sched_base.proofs.Bools.{and_left, and_right}
 use Rattle.sched_model.specs.declared.action.Action.{Action}
+use Rattle.sched_model.specs.declared.action.Action.TheVariants.{Block}
 use Rattle.sched_model.specs.declared.ask.Ask.{Ask}
 use Rattle.sched_model.specs.declared.event.Entry.{Entry}
 use Rattle.sched_model.specs.declared.machine.Machine.{Machine}
@@ -44,12 +45,12 @@ use Rattle.undisturbed_laws.proofs.Runs.{after_pool, enabled_pool, only_pools}
 use Rattle.undisturbed_laws.proofs.Steps.{stays_after}
 use Rattle.undisturbed_laws.proofs.Units.{core_there}
 use Rattle.share_laws.specs.Shares.{IsPlainCredit2, NobodySleeps}
-use Rattle.share_laws.proofs.Paced.{Gone, IsKnown, Paced, gone_stops}
+use Rattle.share_laws.proofs.Paced.{SeenFor, Gone, IsKnown, Paced, gone_stops}
 use Rattle.share_laws.proofs.PacedSteps.{paced_after, paced_settled}
-use Rattle.share_laws.proofs.Runs.{NobodyIsKept, OnTimeLaw, configured, core_on_time, of_reached, one, passes_before, pool_stays, sound}
+use Rattle.share_laws.proofs.Runs.{KeepsNobody, OnTimeLaw, configured, core_on_time, of_reached, one, passes_before, pool_stays, sound}
 use Rattle.share_laws.proofs.Start.{first_books}
 
-module _ (m : Machine) (checked : IsChecked m) (i r rate : ℕ) (plain : IsPlainCredit2 m i r rate) (law : NextMomentLaw m) (on_time : OnTimeLaw m) (seen : (m.config.granularity ≡ 1) ⊎ NobodySleeps m i) where
+module _ (m : Machine) (checked : IsChecked m) (i r rate : ℕ) (plain : IsPlainCredit2 m i r rate) (law : NextMomentLaw m) (on_time : OnTimeLaw m) where
   known : (s : State) → IsReached m s → (pool : Pool) → at_place s.pools i ≡ Some pool → IsKnown m checked i r rate plain s.now pool
   known s reached pool at = record {
     stays = pool_stays m checked i r rate plain s reached pool at;
@@ -66,34 +67,38 @@ module _ (m : Machine) (checked : IsChecked m) (i r rate : ℕ) (plain : IsPlain
     pub is : Paced m checked i r rate plain s.now pool
 
   module _ (s : State) (reached : IsReached m s) (here : PacedAt s) where
-    own : (action : Action) → enabled_in m.config.granularity s.now here.pool action ≡ true → PacedAt (change_pool i (λ pool. settled_pool s.now (after_in m.config.granularity s.now pool action)) s)
-    own action on =
+    own : (action : Action) → SeenFor m checked i r rate plain s.now here.pool action → enabled_in m.config.granularity s.now here.pool action ≡ true → PacedAt (change_pool i (λ pool. settled_pool s.now (after_in m.config.granularity s.now pool action)) s)
+    own action seen on =
         let g : ℕ = m.config.granularity in
         let f : Pool → Pool = λ pool. settled_pool s.now (after_in g s.now pool action) in
         let k = known s reached here.pool here.at in
         record {
           pool = f here.pool;
           at = at_place-change_at i f s.pools ∙ ap (option_map f) here.at;
-          is = paced_settled m checked i r rate plain s.now (after_in g s.now here.pool action) (stays_after m i plain.config g s.now here.pool action on k.stays) (paced_after m checked i r rate plain seen s.now here.pool k action on here.is);
+          is = paced_settled m checked i r rate plain s.now (after_in g s.now here.pool action) (stays_after m i plain.config g s.now here.pool action on k.stays) (paced_after m checked i r rate plain s.now here.pool k action seen on here.is);
         }
 
-    at_home : (action : Action) (home : Option ℕ) → elim home as (λ _. Bool) [ None ↦ false | Some j ↦ test_at s.pools j (λ pool. enabled_in m.config.granularity s.now pool action) ] ≡ true
+    at_home : (action : Action) (home : Option ℕ) → SeenFor m checked i r rate plain s.now here.pool action → elim home as (λ _. Bool) [ None ↦ false | Some j ↦ test_at s.pools j (λ pool. enabled_in m.config.granularity s.now pool action) ] ≡ true
         → PacedAt (elim home as (λ _. State) [ None ↦ s | Some j ↦ change_pool j (λ pool. settled_pool s.now (after_in m.config.granularity s.now pool action)) s ])
-    at_home action None on = absurd (cc)
-    at_home action (Some j) on =
+    at_home action None seen on = absurd (cc)
+    at_home action (Some j) seen on =
         elim (ℕ_discrete i j) [
           | yes e ↦ subst (λ k. PacedAt (change_pool k (λ pool. settled_pool s.now (after_in m.config.granularity s.now pool action)) s)) e
-              (own action (passes_at s.pools i (λ p. enabled_in m.config.granularity s.now p action) here.pool here.at (subst (λ k. test_at s.pools k (λ pool. enabled_in m.config.granularity s.now pool action) ≡ true) (sym e) on)))
+              (own action seen (passes_at s.pools i (λ p. enabled_in m.config.granularity s.now p action) here.pool here.at (subst (λ k. test_at s.pools k (λ pool. enabled_in m.config.granularity s.now pool action) ≡ true) (sym e) on)))
           | no ne ↦ record { pool = here.pool; at = at_place-change_at_other j i (λ pool. settled_pool s.now (after_in m.config.granularity s.now pool action)) s.pools ne ∙ here.at; is = here.is }
         ]
 
-    acted : (action : Action) → is_action_enabled m s s.now action ≡ true → PacedAt (after m s s.now action)
-    acted action on =
+    acted : (action : Action) → SeenFor m checked i r rate plain s.now here.pool action → is_action_enabled m s s.now action ≡ true → PacedAt (after m s s.now action)
+    acted action seen on =
         let of = only_pools m plain.calm s s.now (configured m checked i r rate plain s reached) action on in
-        subst PacedAt (sym (after_pool m s s.now action of)) (at_home action (home_pool_of_action m.config.granularity s action) (sym (enabled_pool m s s.now action of) ∙ on))
+        subst PacedAt (sym (after_pool m s s.now action of)) (at_home action (home_pool_of_action m.config.granularity s action) seen (sym (enabled_pool m s s.now action of) ∙ on))
 
-  step : (from : Reached) (entry : Entry) → IsNext m from entry → IsReached m from.state → PacedAt from.state → PacedAt (after_entry m from entry).state
-  step from entry next reached here = by_action (event_action entry.event) refl next.event
+  -- what a block needs, of the state before an entry
+  abbrev pub SeenBefore : Reached → Entry → Type 0
+  SeenBefore from entry = (action : Action) → event_action entry.event ≡ Some action → (pool : Pool) → at_place from.state.pools i ≡ Some pool → SeenFor m checked i r rate plain from.state.now pool action
+
+  pub step : (from : Reached) (entry : Entry) → IsNext m from entry → IsReached m from.state → SeenBefore from entry → PacedAt from.state → PacedAt (after_entry m from entry).state
+  step from entry next reached seen here = by_action (event_action entry.event) refl next.event
     where
       by_end : (end : Option ℕ) → named_next_moment entry.event ≡ end → event_action entry.event ≡ None → IsNextEvent m from.state entry.event None → PacedAt (after_quiet end from).state
       by_end None is quiet ev = here
@@ -116,13 +121,9 @@ module _ (m : Machine) (checked : IsChecked m) (i r rate : ℕ) (plain : IsPlain
 
       by_action : (o : Option Action) → event_action entry.event ≡ o → IsNextEvent m from.state entry.event o → PacedAt (after_event m entry.event o from).state
       by_action None is ev = by_end (named_next_moment entry.event) refl is ev
-      by_action (Some action) is ev = acted from.state reached here action ev.0
+      by_action (Some action) is ev = acted from.state reached here action (seen action is here.pool here.at) ev.0
 
-  walk : (from : Reached) (entries : List Entry) → IsRunFrom m from entries → IsReached m from.state → PacedAt from.state → PacedAt (after_entries m from entries).state
-  walk from [] run reached here = here
-  walk from (entry ∷ entries) run reached here = walk (after_entry m from entry) entries run.1 (reached_next m from entry run.0 reached) (step from entry run.0 reached here)
-
-  opened : PacedAt (opening m)
+  pub opened : PacedAt (opening m)
   opened =
       let first = (configured_opening m checked).pools i plain.config plain.there in
       let core = core_there m i r plain.config first.item first.meets plain.core in
@@ -141,9 +142,6 @@ module _ (m : Machine) (checked : IsChecked m) (i r rate : ℕ) (plain : IsPlain
         };
       }
 
-  pub paced : (s : State) → IsReached m s → PacedAt s
-  paced s reached = subst PacedAt (ap (λ (x : Reached). x.state) reached.leads) (walk (run_start m) reached.before reached.run (reached_opening m) opened)
-
   limit_charged : (cur : Option UnitId) (t : ℕ) (records : Credit2Records) → (own_burned_records cur t records).limit ≡ records.limit
   limit_charged None t records = refl
   limit_charged (Some u) t records = refl
@@ -159,8 +157,9 @@ module _ (m : Machine) (checked : IsChecked m) (i r rate : ℕ) (plain : IsPlain
       (and_left ask.runnable (is_unit_allowed pool.scheduler ask.home.0 ask.core.0 u) (and_left (ask.runnable && is_unit_allowed pool.scheduler ask.home.0 ask.core.0 u) (has_domain_budget books u) all))))
       (λ off. refl))
 
-  pub nobody_kept : NobodyIsKept m checked i r rate plain
-  nobody_kept s reached pool at c has on books is =
+  -- so the rate limit keeps nobody
+  pub keeps_nobody : (s : State) → IsReached m s → PacedAt s → KeepsNobody m checked i r rate plain s
+  keeps_nobody s reached here pool at c has on books is =
       let g : ℕ = m.config.granularity in
       let may = passes_at pool.resources r (λ (x : Resource). list_all is_held_back x.processors && is_gathering x && is_first_processor_up s.now x) c has on in
       let two = and_left (list_all is_held_back c.processors && is_gathering c) (is_first_processor_up s.now c) may in
@@ -168,7 +167,6 @@ module _ (m : Machine) (checked : IsChecked m) (i r rate : ℕ) (plain : IsPlain
       let open_c : is_gathering c ≡ true = and_right (list_all is_held_back c.processors) (is_gathering c) two in
       let any = some_if_all s.now c.processors (and_right (list_all is_held_back c.processors && is_gathering c) (is_first_processor_up s.now c) may) all in
       let pending : c.pending ≡ true = ((sound m checked i r rate plain s reached pool at c has).gathers open_c any).0 in
-      let here = paced s reached in
       let at_here = here.at in
       let same_pool : here.pool ≡ pool = cc in
       let pace : Paced m checked i r rate plain s.now pool = subst (Paced m checked i r rate plain s.now) same_pool here.is in
@@ -188,3 +186,16 @@ module _ (m : Machine) (checked : IsChecked m) (i r rate : ℕ) (plain : IsPlain
 
       free : (since t limit rate : ℕ) → limit ≡ rate → since + rate * 1000 ≤ t → nat_lt (t - since) (limit * 1000) ≡ false
       free since t limit rate same late = (let low : limit * 1000 ≤ t - since = omega (arith, same, late) in grind (arith, low))
+
+  -- where a unit is one vCPU, or nobody sleeps, every run is seen
+  module _ (always : (m.config.granularity ≡ 1) ⊎ NobodySleeps m i) where
+    seen_always : (t : ℕ) (pool : Pool) (action : Action) → SeenFor m checked i r rate plain t pool action
+    seen_always t pool (Block p) = elim always [ inl single ↦ inl single | inr nobody ↦ inr (inl nobody) ]
+    seen_always t pool action = tt
+
+    walk : (from : Reached) (entries : List Entry) → IsRunFrom m from entries → IsReached m from.state → PacedAt from.state → PacedAt (after_entries m from entries).state
+    walk from [] run reached here = here
+    walk from (entry ∷ entries) run reached here = walk (after_entry m from entry) entries run.1 (reached_next m from entry run.0 reached) (step from entry run.0 reached (λ action is pool at. seen_always from.state.now pool action) here)
+
+    pub always_keeps_nobody : (s : State) → IsReached m s → KeepsNobody m checked i r rate plain s
+    always_keeps_nobody s reached = keeps_nobody s reached (subst PacedAt (ap (λ (x : Reached). x.state) reached.leads) (walk (run_start m) reached.before reached.run (reached_opening m) opened))

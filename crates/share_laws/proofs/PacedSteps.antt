@@ -45,7 +45,7 @@ use Rattle.undisturbed_laws.proofs.Units.{only_core}
 use Rattle.share_laws.specs.Shares.{IsPlainCredit2, NobodySleeps}
 use Rattle.share_laws.proofs.Decision.{chosen, unit_then}
 use Rattle.share_laws.proofs.Numbers.{slice_least}
-use Rattle.share_laws.proofs.Paced.{IsKnown, Paced, books_are, count_of, home_of, only, opened_pace, paced_block, paced_core, paced_processor, paced_replenish, paced_scheduler, paced_started, paced_vcpu, paced_wake, stopped_asleep, unit_low}
+use Rattle.share_laws.proofs.Paced.{SeenFor, IsKnown, Paced, books_are, count_of, home_of, only, opened_pace, paced_block, paced_core, paced_processor, paced_replenish, paced_scheduler, paced_started, paced_vcpu, paced_wake, stopped_asleep, unit_low}
 
 -- a slice is as long as the rate limit at least, where the unit has a record without a cap
 slice_high : (ask : Ask) (scheduler : Scheduler) (books : Credit2Records) (w : UnitId) (d : Credit2Domain) (x : Credit2Unit) → at_place books.domains w.dom.0 ≡ Some d → d.cap ≡ 0 → slice_get d.units w.n ≡ Some x → books.limit * 1000 ≤ chosen_slice ask scheduler books w
@@ -64,7 +64,7 @@ slice_high ask scheduler books w d x at free get =
     not_zero : (n : ℕ) → n ≡ 0 → (n == 0) ≡ false → ⊥
     not_zero n zero_is is = grind (arith, zero_is, is)
 
-module _ (m : Machine) (checked : IsChecked m) (i r rate : ℕ) (plain : IsPlainCredit2 m i r rate) (seen : (m.config.granularity ≡ 1) ⊎ NobodySleeps m i) (t : ℕ) (pool : Pool) (known : IsKnown m checked i r rate plain t pool) where
+module _ (m : Machine) (checked : IsChecked m) (i r rate : ℕ) (plain : IsPlainCredit2 m i r rate) (t : ℕ) (pool : Pool) (known : IsKnown m checked i r rate plain t pool) where
   abbrev P : Pool → Type 0
   P = Paced m checked i r rate plain t
 
@@ -102,9 +102,9 @@ module _ (m : Machine) (checked : IsChecked m) (i r rate : ℕ) (plain : IsPlain
     slice_long w is =
         let g : ℕ = m.config.granularity in
         let d = some-test_at pool.domains w.dom.0 (λ x. unit_runnable g x w.n) (chosen_runs w is) in
-        let home = home_of m checked i r rate plain seen t pool known w d.0 d.1 in
+        let home = home_of m checked i r rate plain t pool known w d.0 d.1 in
         let within = part_past is_awake g (w.n * g) d.0.vcpus (and_right (not d.0.paused && is_none d.0.moving) (list_any is_awake (vcpus_of_unit g d.0 w.n)) d.2) in
-        let same = count_of m checked i r rate plain seen t pool known home.0 d.0 home.2 in
+        let same = count_of m checked i r rate plain t pool known home.0 d.0 home.2 in
         let low : w.n < configured_units g home.0 = unit_low g w.n (length home.0.guests) (some_processor g checked.config.granularity) (omega (arith, within, same)) in
         let own = (taken_stays w).domains.own w.dom.0 home.0 home.1 in
         let e : Credit2Domain = own.item in
@@ -146,7 +146,7 @@ module _ (m : Machine) (checked : IsChecked m) (i r rate : ℕ) (plain : IsPlain
   paced_slice : (q : ℕ) → enabled_in m.config.granularity t pool (Slice (core_number q)) ≡ true → P pool → P (change_core q (λ c. record c { pending = true }) pool)
   paced_slice q on here =
       let core = some-test_at pool.resources q (λ c. has_moment_come t c.due && not c.pending && is_first_processor_up t c) on in
-      let place : q ≡ r = only m checked i r rate plain seen t pool known q core.0 core.1 in
+      let place : q ≡ r = only m checked i r rate plain t pool known q core.0 core.1 in
       let at_r : at_place pool.resources r ≡ Some core.0 = subst (λ k. at_place pool.resources k ≡ Some core.0) place core.1 in
       let has = here.has in
       let same : core.0 ≡ here.core = cc in
@@ -168,37 +168,37 @@ module _ (m : Machine) (checked : IsChecked m) (i r rate : ℕ) (plain : IsPlain
           before a b low come = grind (arith, low, come)
 
   -- each event
-  pub paced_after : (action : Action) → enabled_in m.config.granularity t pool action ≡ true → P pool → P (after_in m.config.granularity t pool action)
-  paced_after (Wake v) on here = paced_wake m checked i r rate plain t v pool on here
-  paced_after (Block p) on here = by_option P (running_guest m.config.granularity pool p.0) _ _ (λ is. here) (λ v is. paced_block m checked i r rate plain seen t pool known p.0 v is on here)
-  paced_after (Slice q) on here = paced_slice q.0 on here
-  paced_after (Repl u) on here = paced_replenish m checked i r rate plain t u pool known.stays here
-  paced_after (Refill d) on here = paced_scheduler m checked i r rate plain t _ pool here
-  paced_after (Arrive p) on here =
+  pub paced_after : (action : Action) → SeenFor m checked i r rate plain t pool action → enabled_in m.config.granularity t pool action ≡ true → P pool → P (after_in m.config.granularity t pool action)
+  paced_after (Wake v) seen on here = paced_wake m checked i r rate plain t v pool on here
+  paced_after (Block p) seen on here = by_option P (running_guest m.config.granularity pool p.0) _ _ (λ is. here) (λ v is. paced_block m checked i r rate plain t pool known seen p.0 v is on here)
+  paced_after (Slice q) seen on here = paced_slice q.0 on here
+  paced_after (Repl u) seen on here = paced_replenish m checked i r rate plain t u pool known.stays here
+  paced_after (Refill d) seen on here = paced_scheduler m checked i r rate plain t _ pool here
+  paced_after (Arrive p) seen on here =
       by_option (λ (next : Pool). P (change_processor m.config.granularity p.0 (with_doing Held) next)) (running_guest m.config.granularity pool p.0) _ _ (λ is. paced_processor m checked i r rate plain t p.0 (with_doing Held) pool here)
       (λ v is. paced_processor m checked i r rate plain t p.0 (with_doing Held) (change_vcpu v (pools.stopped_vcpu t) pool)
       (paced_vcpu m checked i r rate plain t v (pools.stopped_vcpu t) pool (λ x e at asleep later. (e, stopped_asleep m checked i r rate plain t x ∙ asleep, later)) here))
-  paced_after (Decide q) on here =
+  paced_after (Decide q) seen on here =
       by_option P (at_place pool.resources q.0) _ _ (λ is. here)
       (λ c is.
-      let place : q.0 ≡ r = only m checked i r rate plain seen t pool known q.0 c is in
+      let place : q.0 ≡ r = only m checked i r rate plain t pool known q.0 c is in
       let at_r : at_place pool.resources r ≡ Some c = subst (λ k. at_place pool.resources k ≡ Some c) place is in
       let has = here.has in
       let same : here.core ≡ c = cc in
       subst (λ k. P (after_decide m.config.granularity t k c pool)) (sym place) (subst (λ (x : Resource). P (after_decide m.config.granularity t r x pool)) same (paced_decide here)))
-  paced_after (Leave p) on here =
+  paced_after (Leave p) seen on here =
       by_option P (at_place pool.resources (p.0 / m.config.granularity)) _ _ (λ is. here)
       (λ c is. by_option (λ (next : Pool). P (change_core (p.0 / m.config.granularity) pools.reopened_core next)) (pools.vcpu_to_run m.config.granularity pool c (p.0 % m.config.granularity)) _ _
       (λ none. paced_core m checked i r rate plain t (p.0 / m.config.granularity) pools.reopened_core (change_processor m.config.granularity p.0 (with_doing Idle) pool) (opened_pace m checked i r rate plain) (paced_processor m checked i r rate plain t p.0 (with_doing Idle) pool here))
       (λ v some. paced_core m checked i r rate plain t (p.0 / m.config.granularity) pools.reopened_core (pools.started_on m.config.granularity t p.0 v pool) (opened_pace m checked i r rate plain) (paced_started m checked i r rate plain t p.0 v pool here)))
-  paced_after (Save q) on here =
+  paced_after (Save q) seen on here =
       by_option P (at_place pool.resources q.0) _ _ (λ is. here)
       (λ c is. by_option P c.saving _ _ (λ none. here)
       (λ u some.
       let next : Pool = change_core q.0 pools.saved_core pool in
       let saved : P next = paced_core m checked i r rate plain t q.0 pools.saved_core pool (λ x. record { cur = refl; since = refl; due = refl; pending = refl }) here in
       by_cond P (may_unit_run m.config.granularity pool u) _ _ (λ runs. paced_scheduler m checked i r rate plain t _ next saved) (λ stops. saved)))
-  paced_after action on here = here
+  paced_after action seen on here = here
 
 module _ (m : Machine) (checked : IsChecked m) (i r rate : ℕ) (plain : IsPlainCredit2 m i r rate) (t : ℕ) (next : Pool) (stays : PoolStays m i plain.config (settled_pool t next)) where
   abbrev look : ℕ → Resource → Resource

@@ -126,10 +126,23 @@ module _ (m : Machine) (checked : IsChecked m) (i r rate : ℕ) (plain : IsPlain
       only_cur : (a b : ℕ) → 1 ≤ a + b → b ≡ 0 → 1 ≤ a
       only_cur a b some none = omega (arith, some, none)
 
-  -- no choice is kept by the rate limit
-  abbrev pub NobodyIsKept : Type 0
-  NobodyIsKept = (s : State) → IsReached m s → (pool : Pool) → at_place s.pools i ≡ Some pool → (c : Resource) → at_place pool.resources r ≡ Some c → enabled_in m.config.granularity s.now pool (Decide (core_number r)) ≡ true
+  -- no choice is kept by the rate limit, in a state, and in each before one of these entries
+  abbrev pub KeepsNobody : State → Type 0
+  KeepsNobody s =
+      (pool : Pool) → at_place s.pools i ≡ Some pool → (c : Resource) → at_place pool.resources r ≡ Some c → enabled_in m.config.granularity s.now pool (Decide (core_number r)) ≡ true
       → (books : Credit2Records) → pool.scheduler.records ≡ Credit2Pool books → is_kept (core_ask m.config.granularity s.now pool r c) pool.scheduler books ≡ false
+
+  abbrev pub KeptAlong : Reached → List Entry → Type 0
+  KeptAlong from [] = Unit {0}
+  KeptAlong from (entry ∷ entries) = KeepsNobody from.state × KeptAlong (after_entry m from entry) entries
+
+  pub kept_each : ((s : State) → IsReached m s → KeepsNobody s) → (from : Reached) (entries : List Entry) → IsRunFrom m from entries → IsReached m from.state → KeptAlong from entries
+  kept_each each from [] run reached = tt
+  kept_each each from (entry ∷ entries) run reached = (each from.state reached, kept_each each (after_entry m from entry) entries run.1 (reached_next m from entry run.0 reached))
+
+  pub kept_first : (from : Reached) (before entries : List Entry) → KeptAlong from (before ++ entries) → KeptAlong from before
+  kept_first from [] entries kept = tt
+  kept_first from (entry ∷ before) entries kept = (kept.0, kept_first (after_entry m from entry) before entries kept.1)
 
   module _ (law : NextMomentLaw m) (on_time : OnTimeLaw m) where
     -- the entry comes after a run, and so at each nanosecond that passes with it the core is on time
@@ -152,11 +165,11 @@ module _ (m : Machine) (checked : IsChecked m) (i r rate : ℕ) (plain : IsPlain
         below : (a b : ℕ) → a < b → b - 1 < b
         below a b less = omega (arith, less)
 
-    module _ (nobody : NobodyIsKept) (most : ℕ) (u v : UnitId) (wu wv : ℕ) (some_u : 0 < wu) (some_v : 0 < wv) (never : NeverSleeps m v) (domain_v : HasWeight m i v wv) where
+    module _ (most : ℕ) (u v : UnitId) (wu wv : ℕ) (some_u : 0 < wu) (some_v : 0 < wv) (never : NeverSleeps m v) (domain_v : HasWeight m i v wv) where
       abbrev F : ℕ → ℕ → State → Type 0
       F = Fair i r rate most u v wu wv
 
-      module _ (nu nv : ℕ) (s : State) (reached : IsReached m s) (here : F nu nv s) where
+      module _ (nu nv : ℕ) (s : State) (reached : IsReached m s) (kept : KeepsNobody s) (here : F nu nv s) where
         decided : enabled_in m.config.granularity s.now here.pool (Decide (core_number r)) ≡ true → F nu nv (change_pool i (λ pool. settled_pool s.now (after_in m.config.granularity s.now pool (Decide (core_number r)))) s)
         decided on =
             let g : ℕ = m.config.granularity in
@@ -167,7 +180,7 @@ module _ (m : Machine) (checked : IsChecked m) (i r rate : ℕ) (plain : IsPlain
             let stays = pool_stays s reached here.pool here.at in
             let runs : may_unit_run g here.pool v ≡ true = never_sleeps m checked i plain.config here.pool stays v never domain_v.domain domain_v.home in
             subst (λ (o : Option Pool). F nu nv (record s { pools = slice_set s.pools i o })) (sym place)
-            (fair_decided i r rate most u v wu wv some_u some_v nu nv g s here (stays.cores_stay r here.core here.has).stays (nobody s reached here.pool here.at here.core here.has on here.books here.is)
+            (fair_decided i r rate most u v wu wv some_u some_v nu nv g s here (stays.cores_stay r here.core here.has).stays (kept here.pool here.at here.core here.has on here.books here.is)
             (may_be_chosen s reached here.pool here.at here.core here.has on here.books v runs))
 
         own : (action : Action) → enabled_in m.config.granularity s.now here.pool action ≡ true → F nu nv (change_pool i (λ pool. settled_pool s.now (after_in m.config.granularity s.now pool action)) s)
@@ -201,9 +214,9 @@ module _ (m : Machine) (checked : IsChecked m) (i r rate : ℕ) (plain : IsPlain
           plus : (n : ℕ) → n ≡ n + 0
           plus n = omega arith
 
-      step : (nu nv : ℕ) (from : Reached) (entry : Entry) → IsNext m from entry → IsReached m from.state → F nu nv from.state
+      step : (nu nv : ℕ) (from : Reached) (entry : Entry) → IsNext m from entry → IsReached m from.state → KeepsNobody from.state → F nu nv from.state
           → F (nu + time_until (has_unit i r u) from.state (named_next_moment entry.event)) (nv + time_until (has_unit i r v) from.state (named_next_moment entry.event)) (after_entry m from entry).state
-      step nu nv from entry next reached here = by_action (event_action entry.event) refl next.event
+      step nu nv from entry next reached kept here = by_action (event_action entry.event) refl next.event
         where
           by_end : (end : Option ℕ) → named_next_moment entry.event ≡ end → event_action entry.event ≡ None → IsNextEvent m from.state entry.event None → F (nu + time_until (has_unit i r u) from.state end) (nv + time_until (has_unit i r v) from.state end) (after_quiet end from).state
           by_end None is quiet ev = none_more nu nv from.state here
@@ -220,16 +233,16 @@ module _ (m : Machine) (checked : IsChecked m) (i r rate : ℕ) (plain : IsPlain
           by_action None is ev = by_end (named_next_moment entry.event) refl is ev
           by_action (Some action) is ev =
               subst (λ (end : Option ℕ). F (nu + time_until (has_unit i r u) from.state end) (nv + time_until (has_unit i r v) from.state end) (after m from.state from.state.now action)) (sym (names_none entry.event action is))
-              (none_more nu nv (after m from.state from.state.now action) (acted nu nv from.state reached here action ev.0))
+              (none_more nu nv (after m from.state from.state.now action) (acted nu nv from.state reached kept here action ev.0))
 
       -- the whole run
-      pub shared : (nu nv : ℕ) (from : Reached) (entries : List Entry) → IsRunFrom m from entries → IsReached m from.state → F nu nv from.state
+      pub shared : (nu nv : ℕ) (from : Reached) (entries : List Entry) → IsRunFrom m from entries → IsReached m from.state → KeptAlong from entries → F nu nv from.state
           → (nu + time_of m (has_unit i r u) from entries) * wv ≤ (nv + time_of m (has_unit i r v) from entries) * wu + (longest_slice rate + 1) * wv
-      shared nu nv from [] run reached here = (none_more nu nv from.state here).bound
-      shared nu nv from (entry ∷ entries) run reached here =
+      shared nu nv from [] run reached kept here = (none_more nu nv from.state here).bound
+      shared nu nv from (entry ∷ entries) run reached kept here =
           let xu : ℕ = time_until (has_unit i r u) from.state (named_next_moment entry.event) in
           let xv : ℕ = time_until (has_unit i r v) from.state (named_next_moment entry.event) in
-          let rest = shared (nu + xu) (nv + xv) (after_entry m from entry) entries run.1 (reached_next m from entry run.0 reached) (step nu nv from entry run.0 reached here) in
+          let rest = shared (nu + xu) (nv + xv) (after_entry m from entry) entries run.1 (reached_next m from entry run.0 reached) kept.1 (step nu nv from entry run.0 reached kept.0 here) in
           subst (λ a. a * wv ≤ (nv + (xv + time_of m (has_unit i r v) (after_entry m from entry) entries)) * wu + (longest_slice rate + 1) * wv) (sum nu xu (time_of m (has_unit i r u) (after_entry m from entry) entries))
           (subst (λ b. (nu + xu + time_of m (has_unit i r u) (after_entry m from entry) entries) * wv ≤ b * wu + (longest_slice rate + 1) * wv) (sum nv xv (time_of m (has_unit i r v) (after_entry m from entry) entries)) rest)
         where

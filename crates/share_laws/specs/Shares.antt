@@ -10,6 +10,8 @@ use Rattle.sched_model.specs.declared.config.DomParams.TheVariants as dom_params
 use Rattle.sched_model.specs.declared.machine.Machine.{Machine}
 use Rattle.sched_model.specs.declared.event.Entry.{Entry}
 use Rattle.sched_model.specs.Actions.{configured_units}
+use Rattle.sched_model.specs.Machine.{ordered_run}
+use Rattle.sched_model.specs.Opening.{opening}
 use Rattle.sched_model.specs.Places.{numbers_from}
 use Rattle.sched_model.specs.Runs.{Reached, run_start}
 use Rattle.sched_laws.specs.StateLaws.{state_after}
@@ -36,9 +38,15 @@ pub record HasWeight (m : Machine) (i : ℕ) (u : UnitId) (weight : ℕ) : Type 
 abbrev pub NobodySleeps : Machine → ℕ → Type 0
 NobodySleeps m i = (d n : ℕ) (domain : DomConfig) → HasHome m i d domain → n < configured_units m.config.granularity domain → NeverSleeps m (record { dom = record { 0 = d }; n = n })
 
--- no unit that falls asleep wakes at the same moment, so that the rate limit alone keeps it on the core: a unit is one vCPU, or nobody sleeps, or there is no limit
-abbrev pub SleepsAreSeen : Machine → ℕ → ℕ → Type 0
-SleepsAreSeen m i rate = (m.config.granularity ≡ 1) ⊎ NobodySleeps m i ⊎ (rate ≡ 0)
+-- the entries are the ordered run up to one of its entries
+pub record IsOrdered (m : Machine) (entries : List Entry) : Type 0 where
+  pub count : ℕ
+  pub is : entries ≡ ordered_run count m (opening m)
+
+-- a unit that falls asleep does not wake again before the core decides, so that the rate limit alone would keep it on the core: a unit is one vCPU, or nobody
+-- sleeps, or there is no rate limit, or the run is ordered, and so each vCPU wakes before one blocks
+abbrev pub SleepsAreSeen : Machine → ℕ → ℕ → List Entry → Type 0
+SleepsAreSeen m i rate entries = (m.config.granularity ≡ 1) ⊎ NobodySleeps m i ⊎ (rate ≡ 0) ⊎ IsOrdered m entries
 
 -- the longest slice, in nanoseconds: 10 ms, or the rate limit (in microseconds) where that is more
 abbrev pub longest_slice : ℕ → ℕ

@@ -18,19 +18,21 @@ use service_laws::on_time::law_on_time;
 /// that never sleep the difference is bounded on both sides, from the opening on, and in every part of a run by one such slice of each. And a unit that never
 /// sleeps has had its weight's part of all time so far, but for one such slice for each other unit, in the same part.
 pub fn law_shares()
-    ensures share { (m : Machine) → IsChecked m → (i r rate : ℕ) → IsPlainCredit2 m i r rate → SleepsAreSeen m i rate →
+    ensures share { (m : Machine) → IsChecked m → (i r rate : ℕ) → IsPlainCredit2 m i r rate →
         (u v : UnitId) (wu wv : ℕ) → HasWeight m i u wu → HasWeight m i v wv → NeverSleeps m v →
-        (entries : List Entry) → IsRun m entries → IsWithinShare m i r rate u wu v wv entries }
-    ensures both { (m : Machine) → IsChecked m → (i r rate : ℕ) → IsPlainCredit2 m i r rate → SleepsAreSeen m i rate →
+        (entries : List Entry) → SleepsAreSeen m i rate entries → IsRun m entries →
+        IsWithinShare m i r rate u wu v wv entries }
+    ensures both { (m : Machine) → IsChecked m → (i r rate : ℕ) → IsPlainCredit2 m i r rate →
         (u v : UnitId) (wu wv : ℕ) → HasWeight m i u wu → HasWeight m i v wv → NeverSleeps m u → NeverSleeps m v →
-        (entries : List Entry) → IsRun m entries →
+        (entries : List Entry) → SleepsAreSeen m i rate entries → IsRun m entries →
         IsWithinShare m i r rate u wu v wv entries × IsWithinShare m i r rate v wv u wu entries }
-    ensures part { (m : Machine) → IsChecked m → (i r rate : ℕ) → IsPlainCredit2 m i r rate → SleepsAreSeen m i rate →
+    ensures part { (m : Machine) → IsChecked m → (i r rate : ℕ) → IsPlainCredit2 m i r rate →
         (u v : UnitId) (wu wv : ℕ) → HasWeight m i u wu → HasWeight m i v wv → NeverSleeps m u → NeverSleeps m v →
-        (before entries : List Entry) → IsRun m (before ++ entries) →
+        (before entries : List Entry) → SleepsAreSeen m i rate (before ++ entries) → IsRun m (before ++ entries) →
         IsNearShare m i r rate u wu v wv (after_entries m (run_start m) before) entries }
-    ensures least { (m : Machine) → IsChecked m → (i r rate : ℕ) → IsPlainCredit2 m i r rate → SleepsAreSeen m i rate →
-        (v : UnitId) (wv : ℕ) → HasWeight m i v wv → NeverSleeps m v → (entries : List Entry) → IsRun m entries →
+    ensures least { (m : Machine) → IsChecked m → (i r rate : ℕ) → IsPlainCredit2 m i r rate →
+        (v : UnitId) (wv : ℕ) → HasWeight m i v wv → NeverSleeps m v →
+        (entries : List Entry) → SleepsAreSeen m i rate entries → IsRun m entries →
         HasShare m i r rate v wv entries }
 {
     law_next_moment();
