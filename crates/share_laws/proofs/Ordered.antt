@@ -8,14 +8,12 @@ use Rattle.std.proofs.lemmas.Option.{slice_get_within}
 use Rattle.sched_base.specs.Numbers.{core as core_number, domain as domain_number, moment, processor, has_moment_come}
 use Rattle.sched_base.specs.declared.ProcId.{ProcId}
 use Rattle.sched_base.specs.declared.VcpuId.{VcpuId}
-use Rattle.sched_base.proofs.Bools.{clash}
 use Rattle.sched_model.specs.declared.action.Action.{Action}
 use Rattle.sched_model.specs.declared.action.Action.TheVariants.{Stall, Xl, Moved, DomMoved, Wake, Block, Slice, Repl, Refill, Arrive, Decide, Leave, Save}
 use Rattle.sched_model.specs.declared.config.DomConfig.{DomConfig}
 use Rattle.sched_model.specs.declared.event.Entry.{Entry}
 use Rattle.sched_model.specs.declared.event.Event.TheVariants as event
 use Rattle.sched_model.specs.declared.machine.Machine.{Machine}
-use Rattle.sched_model.specs.declared.state.Domain.{Domain}
 use Rattle.sched_model.specs.declared.state.Pool.{Pool}
 use Rattle.sched_model.specs.declared.state.State.{State}
 use Rattle.sched_model.specs.declared.state.Vcpu.{Vcpu}
@@ -24,8 +22,8 @@ use Rattle.sched_model.specs.CheckedMachine.{IsChecked}
 use Rattle.sched_model.specs.Machine.{after, event_of, first_enabled_action, is_action_enabled, next_in_horizon, ordered_run}
 use Rattle.sched_model.specs.Opening.{machine_core_count}
 use Rattle.sched_model.specs.Places.{at_place, numbers_from, test_at}
-use Rattle.sched_model.specs.Pool.{enabled_in, pool_vcpu}
-use Rattle.sched_model.specs.Runs.{Reached, after_entry, event_action, open_at}
+use Rattle.sched_model.specs.Pool.{enabled_in}
+use Rattle.sched_model.specs.Runs.{Reached, after_entry, open_at}
 use Rattle.sched_model.proofs.RunLemmas.{IsNext-action, action_of-event_of, after_entry-action, find_passes}
 use Rattle.sched_laws.specs.StateLaws.{has_domain_at}
 use Rattle.sched_laws.proofs.EachPlace.{vcpu_is}
@@ -36,7 +34,7 @@ use Rattle.service_laws.proofs.Passing.{NextMomentLaw}
 use Rattle.undisturbed_laws.specs.Undisturbed.{DomainStays}
 use Rattle.share_laws.specs.Shares.{IsPlainCredit2}
 use Rattle.share_laws.proofs.Paced.{NoneToWake, SeenFor}
-use Rattle.share_laws.proofs.PacedRuns.{PacedAt, SeenBefore, keeps_nobody, step}
+use Rattle.share_laws.proofs.PacedRuns.{PacedAt, keeps_nobody, step}
 use Rattle.share_laws.proofs.Runs.{KeptAlong, OnTimeLaw, of_reached, pool_stays}
 
 or_second : (a b : Bool) → b ≡ true → (a || b) ≡ true

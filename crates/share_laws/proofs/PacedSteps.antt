@@ -42,7 +42,7 @@ use Rattle.moment_laws.proofs.Waiting.{any_has}
 use Rattle.undisturbed_laws.specs.Undisturbed.{Credit2DomainStays, Credit2Stays, PoolStays}
 use Rattle.undisturbed_laws.proofs.Records.{c_own, c_reset, c_take}
 use Rattle.undisturbed_laws.proofs.Units.{only_core}
-use Rattle.share_laws.specs.Shares.{IsPlainCredit2, NobodySleeps}
+use Rattle.share_laws.specs.Shares.{IsPlainCredit2}
 use Rattle.share_laws.proofs.Decision.{chosen, unit_then}
 use Rattle.share_laws.proofs.Numbers.{slice_least}
 use Rattle.share_laws.proofs.Paced.{SeenFor, IsKnown, Paced, books_are, count_of, home_of, only, opened_pace, paced_block, paced_core, paced_processor, paced_replenish, paced_scheduler, paced_started, paced_vcpu, paced_wake, stopped_asleep, unit_low}
