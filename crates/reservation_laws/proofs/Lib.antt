@@ -1,0 +1,5 @@
+pub mod DemandSums
+pub mod Jobs
+pub mod Tracks
+pub mod Ticks
+pub mod PoolJobs
