@@ -3,3 +3,4 @@ pub mod Jobs
 pub mod Tracks
 pub mod Ticks
 pub mod PoolJobs
+pub mod StateJobs
