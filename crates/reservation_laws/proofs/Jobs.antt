@@ -12,7 +12,7 @@ use Rattle.sched_model.specs.Places.{change_at, change_item, same_unit}
 use Rattle.sched_model.specs.EligibleUnits.{rtds_unit_at}
 use Rattle.sched_model.specs.Rtds.{change_unit, unit_burned_to}
 use Rattle.sched_laws.proofs.Choices.{same_unit_same}
-use Rattle.reservation_laws.specs.Demand.{Job, fractions}
+use Rattle.service_laws.specs.Demand.{Job, fractions}
 
 -- for how long the unit has run since it was charged
 abbrev pub since : ℕ → Option ℕ → ℕ

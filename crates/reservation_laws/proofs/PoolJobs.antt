@@ -31,7 +31,7 @@ use Rattle.sched_laws.proofs.Events.{LikePlaces, KeepsCore, KeptByParts, like_ch
 use Rattle.sched_laws.proofs.Choices.{same_unit_same}
 use Rattle.sched_laws.proofs.OnePlace.{decided_cur}
 use Rattle.sched_laws.specs.PoolFacts.{IfUnit}
-use Rattle.reservation_laws.specs.Demand.{Job}
+use Rattle.service_laws.specs.Demand.{Job}
 use Rattle.reservation_laws.proofs.Jobs.{job}
 use Rattle.reservation_laws.proofs.Tracks.{KeepsTerms, Tracks, Freed, face, freed, runs_now, runs_face, renewed_tracks, renewed_face, due_falls}
 

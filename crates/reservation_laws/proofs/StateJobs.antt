@@ -21,7 +21,7 @@ use Rattle.std.specs.Prelude.{◌&&◌}
 use Rattle.sched_laws.proofs.EachPlace.{at_place-change_at, at_place-set_other}
 use Rattle.sched_laws.proofs.Kept.{passes_at}
 use Rattle.sched_laws.proofs.Lists.{some-test_at}
-use Rattle.reservation_laws.specs.Demand.{Job}
+use Rattle.service_laws.specs.Demand.{Job}
 use Rattle.reservation_laws.proofs.Tracks.{Tracks, face}
 use Rattle.reservation_laws.proofs.PoolJobs.{Changes, Comes, HasJobs, h_event}
 

@@ -12,8 +12,8 @@ use Rattle.sched_model.specs.EligibleUnits.{rtds_unit_at}
 use Rattle.sched_model.specs.Rtds.{is_record_before}
 use Rattle.sched_laws.proofs.Choices.{same_unit_same}
 use Rattle.sched_base.proofs.Bools.{clash, or_right}
-use Rattle.reservation_laws.specs.Demand.{Job, EndsAfter, FitOneProcessor, IsServable, IsSpentBefore, fractions, served}
-use Rattle.reservation_laws.proofs.DemandSums.{serves, idles}
+use Rattle.service_laws.specs.Demand.{Job, EndsAfter, FitOneProcessor, IsServable, IsSpentBefore, fractions, served}
+use Rattle.service_laws.proofs.DemandSums.{serves, idles}
 use Rattle.reservation_laws.proofs.Jobs.{since, first_left, job, rate, flat, jobs, fractions_are, IsOther, Split, split, jobs_split, each_unit, each_job}
 use Rattle.reservation_laws.proofs.Tracks.{KeepsTerms, Runs, OwnRuns, Base, Tracks}
 

@@ -16,8 +16,8 @@ use Rattle.sched_laws.proofs.Choices.{same_unit_same}
 use Rattle.sched_laws.proofs.Counts.{same_unit_refl}
 use Rattle.sched_base.proofs.Bools.{clash}
 use Rattle.sched_laws.proofs.RtdsUnits.{rtds_unit-same, rtds_unit-other}
-use Rattle.reservation_laws.specs.Demand.{Job, IsServable, renewed}
-use Rattle.reservation_laws.proofs.DemandSums.{renews}
+use Rattle.service_laws.specs.Demand.{Job, IsServable, renewed}
+use Rattle.service_laws.proofs.DemandSums.{renews}
 use Rattle.reservation_laws.proofs.Jobs.{since, first_left, job, rate, flat, jobs, Split, split, jobs_split, jobs_changed, jobs_kept, rates_kept, job_charged, job_set}
 
 -- a record whose parameters stay, with what is left of its budget, in a term that is not over before t
