@@ -4,3 +4,8 @@ pub mod Ticks
 pub mod PoolJobs
 pub mod StateJobs
 pub mod Openings
+pub mod Quiets
+pub mod RunJobs
+pub mod Follows
+pub mod LegSums
+pub mod Reserved

@@ -236,7 +236,7 @@ still_idle t x is = ap (λ (o : Option ℕ). (elim o as (λ _. RtdsUnit) [ None 
 
 module _ (fs : List (ℕ × ℕ)) (t : ℕ) (u : UnitId) (x : RtdsUnit) (domains : List (Option (List RtdsUnit))) (at : rtds_unit_at domains u ≡ Some x) (over : x.deadline ≤ t) where
   -- the record of a unit whose term is over, replenished
-  renewed_job : KeepsTerms t x → job t (unit_after_replenish t x) ≡ renewed (job t x)
+  pub renewed_job : KeepsTerms t x → job t (unit_after_replenish t x) ≡ renewed (job t x)
   renewed_job keeps =
       let y : RtdsUnit = unit_burned_to t x in
       let c = charged t x in
