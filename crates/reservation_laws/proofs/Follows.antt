@@ -1,12 +1,11 @@
 -- Each entry of a run follows the units of an RTDS pool of one core, on an undisturbed machine whose reservations fit and whose guests never sleep.
-use Rattle.std.proofs.Common.{◌≡◌, ◌≢◌, ◌≤◌, ◌<◌, ◌+◌, ◌-◌, ◌*◌, ◌/◌, ◌^◌, ℕ, zero, suc, Bool, true, false, List, [], ◌∷◌, ◌++◌, ◌⊎◌, refl, arith, cond, subst, sym, ◌∙◌, ap, length, inl, inr}
-use Rattle.std.specs.Prelude.{Option, Some, None, is_some, option_map, slice_get, replicate, nat_le, nat_lt, unwrap_or, ◌==◌, ◌&&◌, ◌||◌}
-use Rattle.std.specs.List.{All, AllByRecursion}
+use Rattle.std.proofs.Common.{◌≡◌, ◌≤◌, ◌<◌, ◌+◌, ◌-◌, ◌*◌, ◌/◌, ◌^◌, ℕ, zero, suc, Bool, true, false, List, [], ◌∷◌, ◌++◌, refl, arith, cond, subst, sym, ◌∙◌, ap, length, inl, inr}
+use Rattle.std.specs.Prelude.{Option, Some, None, is_some, option_map, slice_get, replicate, nat_le, unwrap_or, ◌==◌, ◌&&◌}
+use Rattle.std.specs.List.{All}
 use Rattle.std.proofs.lemmas.Bool.{cases_Bool, eq-eqb}
 use Rattle.std.proofs.lemmas.List.Elements.{recursion_from_All}
 use Rattle.std.proofs.lemmas.Nat.{mul-le, div-mul-add}
 use Rattle.std.proofs.Math.Nat.{div-mul-le_self}
-use Rattle.std.proofs.Math.Decide.{dec_le}
 use Rattle.sched_base.specs.Numbers.{moment, span, core as core_number}
 use Rattle.sched_base.specs.declared.Moment.{Moment}
 use Rattle.sched_base.specs.declared.Span.{Span}
@@ -33,18 +32,18 @@ use Rattle.sched_model.specs.declared.state.Records.TheVariants.{RtdsPool}
 use Rattle.sched_model.specs.declared.state.Resource.{Resource}
 use Rattle.sched_model.specs.declared.state.RtdsUnit.{RtdsUnit}
 use Rattle.sched_model.specs.declared.state.State.{State}
-use Rattle.sched_model.specs.Actions.{IsOfPool, change_pool, configured_units, home_pool_of_action, home_pool_of_core, home_pool_of_domain, units_from}
+use Rattle.sched_model.specs.Actions.{IsOfPool, configured_units, home_pool_of_action, home_pool_of_core, home_pool_of_domain, units_from}
 use Rattle.sched_model.specs.CheckedMachine.{IsChecked, IsCheckedDomain, IsCheckedPool, DomParamsPass, PoolParamsPass}
-use Rattle.sched_model.specs.EligibleUnits.{Decision, rtds_unit_at}
+use Rattle.sched_model.specs.EligibleUnits.{rtds_unit_at}
 use Rattle.sched_model.specs.Machine.{after, event_of, home_pool, is_action_enabled}
 use Rattle.sched_model.specs.Opening.{absent_pool, opening, most_pools, machine_core_count, pool_at_opening}
-use Rattle.sched_model.specs.Places.{at_place, change_at, is_unit, put_at, same_unit, test_at}
-use Rattle.sched_model.specs.Policy.{decision_of, empty_records, is_replenish_due, records_after_replenish, unit_rtds_record}
-use Rattle.sched_model.specs.Pool.{after_decide, after_in, after_replenish, decided_core, decision_at, core_ask, enabled_in, reconsidered_core, settled_pool, pool_core_set, replenished_unit, unit_core, with_records}
+use Rattle.sched_model.specs.Places.{at_place, is_unit, test_at}
+use Rattle.sched_model.specs.Policy.{empty_records, is_replenish_due, records_after_replenish, unit_rtds_record}
+use Rattle.sched_model.specs.Pool.{after_in, decision_at, enabled_in, settled_pool, replenished_unit}
 use Rattle.sched_model.specs.Rtds.{change_unit, unit_after_replenish}
 use Rattle.sched_model.specs.Runs.{Reached, IsNext, IsNextEvent, IsRun, after_entries, after_entry, after_event, after_quiet, event_action, named_next_moment, run_start}
 use Rattle.sched_model.specs.State.{may_unit_run}
-use Rattle.sched_model.proofs.RunLemmas.{IsRunFrom-append, after_entries-append}
+use Rattle.sched_model.proofs.RunLemmas.{IsRunFrom-append}
 use Rattle.sched_laws.specs.Counts.{times}
 use Rattle.sched_laws.specs.StateLaws.{state_after}
 use Rattle.sched_laws.proofs.Choices.{same_unit_same}
@@ -52,35 +51,33 @@ use Rattle.sched_laws.proofs.Counts.{is_that_unit, same_unit_refl}
 use Rattle.sched_laws.proofs.EachPlace.{by_cond, found_at}
 use Rattle.sched_laws.proofs.Lists.{is_some_at, item_below, some_is, test_at-some}
 use Rattle.sched_laws.proofs.Kept.{passes_at}
-use Rattle.sched_laws.proofs.OnePlace.{decided_cur}
 use Rattle.sched_laws.proofs.Opened.{read_pools}
 use Rattle.sched_laws.proofs.Reached.{core_is_whole, home_of_its_core, home_of_its_domain, one_place}
 use Rattle.sched_laws.proofs.RtdsUnits.{rtds_same, rtds_unit-same}
 use Rattle.sched_laws.proofs.SiblingsLaw.{some_processor}
-use Rattle.state_ranges.specs.Ranges.{IsUnitOf}
 use Rattle.state_ranges.proofs.Queue.{unit_is_there}
 use Rattle.term_laws.specs.Term.{late_of}
 use Rattle.term_laws.specs.RtdsTerm.{taken_by}
 use Rattle.term_laws.proofs.UnitTracks.{renews}
-use Rattle.service_laws.specs.Demand.{Job, FitOneProcessor, renewed}
+use Rattle.service_laws.specs.Demand.{Job, FitOneProcessor}
 use Rattle.service_laws.specs.Passing.{IsBeforeNext, Passes, at_moment}
 use Rattle.service_laws.proofs.ChosenInRuns.{fresh_core}
 use Rattle.service_laws.proofs.EndsSums.{next_rises}
 use Rattle.service_laws.proofs.OnTimeCores.{on_time_in}
 use Rattle.service_laws.proofs.Passing.{NextMomentLaw, quiet_at}
 use Rattle.service_laws.proofs.UrgentRuns.{urgent_run_in}
-use Rattle.undisturbed_laws.specs.Undisturbed.{HasHome, IsAtHome, IsUndisturbed, NeverSleeps, PoolStays, KeepsDomains, RecordsStay, RtdsDomainStays}
+use Rattle.undisturbed_laws.specs.Undisturbed.{IsAtHome, IsUndisturbed, NeverSleeps, PoolStays, KeepsDomains, RecordsStay, RtdsDomainStays}
 use Rattle.undisturbed_laws.proofs.Opened.{configured_opening}
-use Rattle.undisturbed_laws.proofs.Runs.{after_pool, configured_in_runs, only_pools, pool_as_configured}
+use Rattle.undisturbed_laws.proofs.Runs.{configured_in_runs, only_pools, pool_as_configured}
 use Rattle.undisturbed_laws.proofs.Units.{core_there, never_sleeps, only_core}
 use Rattle.reservation_laws.specs.Reservations.{reservations, NeverSleeps as DomainNeverSleeps}
-use Rattle.reservation_laws.proofs.Jobs.{first_left, job, since}
+use Rattle.reservation_laws.proofs.Jobs.{job}
 use Rattle.reservation_laws.proofs.Openings.{AreRtds, IsFresh, fresh_in, homes, homes_base, records_from}
 use Rattle.reservation_laws.proofs.Quiets.{Facts, calm}
 use Rattle.reservation_laws.proofs.StateJobs.{At, Stepped, stepped}
 use Rattle.reservation_laws.proofs.Ticks.{IsCalm, idle_job, tick}
 use Rattle.reservation_laws.proofs.Tracks.{Tracks, face, renewed_job}
-use Rattle.reservation_laws.proofs.RunJobs.{IsReachedBy, reached_more, quiet_late, quiet_renews, faced, left_falls, LeftGoes, IsRenewed, Goes, pool_after, decided_now, renewed_records}
+use Rattle.reservation_laws.proofs.RunJobs.{IsReachedBy, quiet_late, quiet_renews, faced, left_falls, LeftGoes, IsRenewed, Goes, pool_after, decided_now, renewed_records}
 
 params_are : (config : PoolConfig) (kind : SchedKind) (params : PoolParams) (c : Config) → kind ≡ kinds.Rtds → PoolParamsPass c kind params → params ≡ pool_params.Rtds
 params_are config kinds.Credit2 params c is pass = absurd (cc)

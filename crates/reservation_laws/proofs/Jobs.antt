@@ -1,5 +1,5 @@
 -- The reservations of an RTDS pool, as numbers, from its records: what is left to each unit up to a moment.
-use Rattle.std.proofs.Common.{◌≡◌, ◌≤◌, ◌<◌, ◌+◌, ◌-◌, ℕ, zero, suc, Bool, true, false, List, [], ◌∷◌, ◌++◌, refl, arith, cond, subst, sym, ◌∙◌, ap, append_assoc, inl, inr}
+use Rattle.std.proofs.Common.{◌≡◌, ◌+◌, ◌-◌, ℕ, zero, suc, Bool, true, false, List, [], ◌∷◌, ◌++◌, refl, arith, cond, sym, ◌∙◌, ap, append_assoc, inl, inr}
 use Rattle.std.specs.Prelude.{Option, Some, None, map, nat_lt, ◌==◌, slice_get}
 use Rattle.std.specs.List.{AllByRecursion}
 use Rattle.std.proofs.lemmas.List.{map-append}

@@ -1,9 +1,8 @@
 -- The records of an RTDS pool at the opening, as the file gives them.
-use Rattle.std.proofs.Common.{◌≡◌, ◌≢◌, ◌≤◌, ◌<◌, ◌+◌, ◌-◌, ◌/◌, ℕ, zero, suc, Bool, true, false, List, [], ◌∷◌, ◌++◌, refl, arith, cond, subst, sym, ◌∙◌, ap, append_assoc, length, inl, inr}
+use Rattle.std.proofs.Common.{◌≡◌, ◌<◌, ◌+◌, ◌-◌, ◌/◌, ℕ, zero, suc, Bool, true, false, List, [], ◌∷◌, ◌++◌, refl, arith, cond, subst, sym, ◌∙◌, ap, append_assoc, length}
 use Rattle.std.specs.Prelude.{Option, Some, None, map, replicate, slice_get, ◌==◌, ◌&&◌}
 use Rattle.std.specs.List.{AllByRecursion}
 use Rattle.std.proofs.lemmas.List.{map-append, length-map, length-append}
-use Rattle.std.proofs.lemmas.Bool.{cases_Bool}
 use Rattle.sched_base.specs.Numbers.{domain as domain_number}
 use Rattle.sched_base.specs.declared.Cores.{Cores}
 use Rattle.sched_base.specs.declared.UnitId.{UnitId}
@@ -21,8 +20,8 @@ use Rattle.sched_model.specs.CheckedMachine.{DomParamsPass}
 use Rattle.sched_model.specs.EligibleUnits.{rtds_unit_at}
 use Rattle.sched_model.specs.Opening.{domain_at_opening, pool_with_configured, pool_with_domains, vcpu_at_opening}
 use Rattle.sched_model.specs.Places.{numbers_from, put_at}
-use Rattle.sched_model.specs.Policy.{joined_records, joined_scheduler, changed_records}
-use Rattle.sched_model.specs.Pool.{domain_unit_count, is_unit_off, pool_with_domain, pool_with_queued_if_off, pool_with_queued_units, changed_pool, queue_unit}
+use Rattle.sched_model.specs.Policy.{joined_records, changed_records}
+use Rattle.sched_model.specs.Pool.{domain_unit_count, is_unit_off, pool_with_domain, pool_with_queued_if_off, pool_with_queued_units, queue_unit}
 use Rattle.sched_model.specs.Rtds.{fresh_rtds_units}
 use Rattle.sched_model.specs.State.{may_unit_run}
 use Rattle.sched_laws.proofs.EachPlace.{by_cond}
@@ -30,8 +29,8 @@ use Rattle.sched_laws.proofs.Opened.{pins_keep}
 use Rattle.service_laws.specs.Demand.{Job, FitOneProcessor, IsServable, opened}
 use Rattle.reservation_laws.specs.Reservations.{reservation, reservations}
 use Rattle.service_laws.proofs.DemandSums.{opens}
-use Rattle.reservation_laws.proofs.Jobs.{first_left, job, rate, flat, jobs}
-use Rattle.reservation_laws.proofs.Tracks.{KeepsTerms, Base}
+use Rattle.reservation_laws.proofs.Jobs.{job, rate, flat}
+use Rattle.reservation_laws.proofs.Tracks.{Base}
 
 -- the queue and the sets of cores change no record
 queued_records : (g : ℕ) (u : UnitId) (pool : Pool) → (pool_with_queued_if_off g u pool).scheduler.records ≡ pool.scheduler.records

@@ -1,5 +1,5 @@
 -- What each event of an RTDS pool of one core keeps of its units' reservations, and which unit the core has.
-use Rattle.std.proofs.Common.{◌≡◌, ◌≤◌, ◌<◌, ◌+◌, ◌-◌, ℕ, Bool, true, false, List, [], ◌∷◌, ◌⊎◌, refl, arith, cond, subst, sym, ◌∙◌, ap, inl, inr}
+use Rattle.std.proofs.Common.{◌≡◌, ◌≤◌, ◌+◌, ℕ, Bool, true, false, List, [], ◌∷◌, ◌⊎◌, refl, arith, cond, subst, sym, ◌∙◌, ap, inl, inr}
 use Rattle.std.specs.Prelude.{Option, Some, None, nat_lt, nat_le, option_map, min, ◌&&◌}
 use Rattle.std.specs.List.{AllByRecursion}
 use Rattle.std.proofs.lemmas.Bool.{cases_Bool}
@@ -11,7 +11,6 @@ use Rattle.sched_base.proofs.Lists.{AllByRecursion-filter}
 use Rattle.sched_model.specs.declared.action.Action.{Action}
 use Rattle.sched_model.specs.declared.action.Action.TheVariants.{Repl, Decide}
 use Rattle.sched_model.specs.declared.ask.Ask.{Ask}
-use Rattle.sched_model.specs.declared.state.Domain.{Domain}
 use Rattle.sched_model.specs.declared.state.Pool.{Pool}
 use Rattle.sched_model.specs.declared.state.Records.{Records}
 use Rattle.sched_model.specs.declared.state.Records.TheVariants.{RtdsPool}
@@ -19,7 +18,7 @@ use Rattle.sched_model.specs.declared.state.Resource.{Resource}
 use Rattle.sched_model.specs.declared.state.RtdsUnit.{RtdsUnit}
 use Rattle.sched_model.specs.declared.state.Scheduler.{Scheduler}
 use Rattle.sched_model.specs.EligibleUnits.{Decision, eligible_units, is_unit_allowed, is_unit_eligible, rtds_unit_at}
-use Rattle.sched_model.specs.Places.{at_place, change_at, put_at, same_unit, has_listed_unit}
+use Rattle.sched_model.specs.Places.{at_place, change_at, put_at, same_unit}
 use Rattle.sched_model.specs.Policy as policy
 use Rattle.sched_model.specs.Policy.{decision_by, decision_of}
 use Rattle.sched_model.specs.Pool as pools
@@ -32,8 +31,7 @@ use Rattle.sched_laws.proofs.Choices.{same_unit_same}
 use Rattle.sched_laws.proofs.OnePlace.{decided_cur}
 use Rattle.sched_laws.specs.PoolFacts.{IfUnit}
 use Rattle.service_laws.specs.Demand.{Job}
-use Rattle.reservation_laws.proofs.Jobs.{job}
-use Rattle.reservation_laws.proofs.Tracks.{KeepsTerms, Tracks, Freed, face, freed, runs_now, runs_face, renewed_tracks, renewed_face, due_falls}
+use Rattle.reservation_laws.proofs.Tracks.{Tracks, Freed, face, freed, runs_now, runs_face, renewed_tracks, renewed_face, due_falls}
 
 -- the core keeps its unit, and its due does not rise
 record SameUnit (c d : Resource) : Type 0 where
@@ -176,7 +174,8 @@ module _ (fs : List (ℕ × ℕ)) (g r t : ℕ) (may : Changes) (cur : Option Un
       let before : Tracks fs t c.cur c.due here.domains = subst (λ (x : Resource). Tracks fs t x.cur x.due here.domains) (sym own) here.tracks in
       let d : Decided fs t here.domains decision = decides_rtds fs ask pool.scheduler c.due here.domains here.records before in
       let there : at_place (put_at k (decided_core t decision c) pool.resources) k ≡ Some (decided_core t decision c) = at_place-put_at k (decided_core t decision c) pool.resources (place_below pool.resources k c at) in
-      let told : decision.unit ≡ may.chosen = sym (ap (λ (o : Option Resource). (elim o as (λ _. Decision) [ None ↦ record { unit = None; due = None; reset = 0; records = pool.scheduler.records } | Some x ↦ decision_of (core_ask g t pool k x) pool.scheduler ]).unit) at) ∙ comes.1 in
+      let unit_is : (decision_at g t pool k).unit ≡ decision.unit = ap (λ (o : Option Resource). (elim o as (λ _. Decision) [ None ↦ record { unit = None; due = None; reset = 0; records = pool.scheduler.records } | Some x ↦ decision_of (core_ask g t pool k x) pool.scheduler ]).unit) at in
+      let told : decision.unit ≡ may.chosen = sym unit_is ∙ comes.1 in
       record {
         domains = d.domains;
         records = d.records;

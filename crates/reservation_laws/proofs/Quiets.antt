@@ -1,6 +1,6 @@
 -- Where nothing may come, an RTDS pool of one core whose units are always runnable is calm: no term is over, and the core has the most urgent unit.
-use Rattle.std.proofs.Common.{◌≡◌, ◌≤◌, ◌<◌, ◌+◌, ◌-◌, ◌*◌, ◌/◌, ℕ, zero, suc, Bool, true, false, not, List, [], ◌∷◌, ◌++◌, ◌⊎◌, refl, arith, cond, subst, sym, ◌∙◌, ap, length, inl, inr}
-use Rattle.std.specs.Prelude.{Option, Some, None, is_some, map, nat_lt, nat_le, slice_get, ◌&&◌, ◌||◌}
+use Rattle.std.proofs.Common.{◌≡◌, ◌≤◌, ◌<◌, ℕ, Bool, true, false, not, List, [], ◌∷◌, ◌++◌, ◌⊎◌, refl, arith, cond, subst, sym, ◌∙◌, ap, length, inl, inr}
+use Rattle.std.specs.Prelude.{Option, Some, None, is_some, map, nat_lt, nat_le, ◌&&◌, ◌||◌}
 use Rattle.std.specs.List.{list_all, AllByRecursion}
 use Rattle.std.specs.Option.{IfSome}
 use Rattle.std.proofs.Math.Decide.{dec_le}
@@ -10,7 +10,7 @@ use Rattle.sched_base.specs.declared.Moment.{Moment}
 use Rattle.sched_base.specs.declared.UnitId.{UnitId}
 use Rattle.sched_base.proofs.Bools.{clash}
 use Rattle.sched_model.specs.declared.action.Action.{Action}
-use Rattle.sched_model.specs.declared.action.Action.TheVariants.{Stall, Xl, Moved, DomMoved, Wake, Block, Slice, Repl, Refill, Arrive, Decide, Leave, Save}
+use Rattle.sched_model.specs.declared.action.Action.TheVariants.{Moved, DomMoved, Wake, Block, Slice, Repl, Refill, Arrive, Decide, Leave, Save}
 use Rattle.sched_model.specs.declared.machine.Machine.{Machine}
 use Rattle.sched_model.specs.declared.state.Pool.{Pool}
 use Rattle.sched_model.specs.declared.state.Processor.{Processor}
@@ -30,7 +30,7 @@ use Rattle.sched_model.specs.Rtds.{is_record_before, is_unit_before, unit_left_b
 use Rattle.sched_model.specs.State.{is_not_stalled, may_unit_run}
 use Rattle.sched_laws.specs.Counts.{times, total, one_at}
 use Rattle.sched_laws.specs.PoolFacts.{OnePlace, core_places, places}
-use Rattle.sched_laws.proofs.Choices.{is_unit_same, same_unit_same}
+use Rattle.sched_laws.proofs.Choices.{is_unit_same}
 use Rattle.sched_laws.proofs.Counts.{is_that_unit, same_unit_refl, times_has, times_none, total_some}
 use Rattle.sched_laws.proofs.EachPlace.{found_at, none_found}
 use Rattle.sched_laws.proofs.Lists.{test_at-some}

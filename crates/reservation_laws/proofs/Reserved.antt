@@ -1,14 +1,11 @@
 -- Each unit of the pool is on the core for its whole budget in each of its terms.
-use Rattle.std.proofs.Common.{◌≡◌, ◌≤◌, ◌<◌, ◌+◌, ◌-◌, ◌^◌, ℕ, Bool, true, false, List, [], ◌∷◌, ◌⊎◌, refl, arith, cond, subst, sym, ◌∙◌, ap, inl, inr}
-use Rattle.std.specs.Prelude.{Option, Some, None, option_map, slice_get, min, map, ◌==◌}
+use Rattle.std.proofs.Common.{◌≡◌, ◌≤◌, ◌+◌, ◌-◌, ℕ, Bool, false, List, [], ◌∷◌, refl, arith, cond, subst, sym, ◌∙◌, ap, inl, inr}
+use Rattle.std.specs.Prelude.{Option, Some, None, option_map, map}
 use Rattle.std.specs.List.{All, AllByRecursion}
 use Rattle.std.proofs.lemmas.Bool.{cases_Bool}
 use Rattle.std.proofs.lemmas.List.Elements.{All-from_recursion}
 use Rattle.std.proofs.Math.Decide.{dec_le}
-use Rattle.sched_base.specs.Numbers.{moment, span}
-use Rattle.sched_base.specs.declared.Moment.{Moment}
 use Rattle.sched_base.specs.declared.UnitId.{UnitId}
-use Rattle.sched_model.specs.declared.action.Action.{Action}
 use Rattle.sched_model.specs.declared.action.Action.TheVariants.{DomMoved}
 use Rattle.sched_model.specs.declared.event.Entry.{Entry}
 use Rattle.sched_model.specs.declared.event.Event.{Event}
@@ -22,12 +19,12 @@ use Rattle.sched_model.specs.Actions.{home_pool_of_domain}
 use Rattle.sched_model.specs.CheckedMachine.{IsChecked}
 use Rattle.sched_model.specs.EligibleUnits.{rtds_unit_at}
 use Rattle.sched_model.specs.Opening.{opening}
-use Rattle.sched_model.specs.Places.{at_place, is_unit, same_unit}
+use Rattle.sched_model.specs.Places.{at_place, same_unit}
 use Rattle.sched_model.specs.Policy.{unit_rtds_record}
 use Rattle.sched_model.specs.Runs.{Reached, IsNext, IsNextEvent, IsRun, IsRunFrom, after_entries, after_entry, event_action, run_start}
 use Rattle.sched_laws.specs.StateLaws.{state_after}
 use Rattle.sched_laws.proofs.Counts.{same_unit_refl}
-use Rattle.term_laws.specs.Term.{Leg, Term, late_of, moves, time_on}
+use Rattle.term_laws.specs.Term.{Leg, Term, moves, time_on}
 use Rattle.term_laws.specs.RtdsTerm.{RtdsTerm, legs, opened_by, opened_terms, rtds_in, term_end, terms}
 use Rattle.term_laws.proofs.TermSums.{term_end-goes}
 use Rattle.term_laws.proofs.Time.{time_goes_on}
@@ -35,14 +32,14 @@ use Rattle.term_laws.proofs.UnitTracks.{renews}
 use Rattle.service_laws.specs.Demand.{Job, IsServable}
 use Rattle.service_laws.proofs.DemandSums.{over_spent}
 use Rattle.service_laws.proofs.Passing.{NextMomentLaw}
-use Rattle.undisturbed_laws.specs.Undisturbed.{IsAtHome, IsUndisturbed}
-use Rattle.reservation_laws.specs.Reservations.{GetsBudget, HasOneCoreOf, IsFeasibleRtds, reservations}
+use Rattle.undisturbed_laws.specs.Undisturbed.{IsAtHome}
+use Rattle.reservation_laws.specs.Reservations.{GetsBudget, IsFeasibleRtds, reservations}
 use Rattle.reservation_laws.proofs.Jobs.{first_left, job, jobs, jobs_split, since, split}
 use Rattle.reservation_laws.proofs.Follows.{Begins, begins, goes, home_from, of_pool}
-use Rattle.reservation_laws.proofs.LegSums.{Gains, legs_step, open_legs}
-use Rattle.reservation_laws.proofs.RunJobs.{Goes, IsReachedBy, IsRenewed, LeftGoes, faced, reached_more}
+use Rattle.reservation_laws.proofs.LegSums.{legs_step, open_legs}
+use Rattle.reservation_laws.proofs.RunJobs.{Goes, IsReachedBy, faced, reached_more}
 use Rattle.reservation_laws.proofs.StateJobs.{At}
-use Rattle.reservation_laws.proofs.Tracks.{Tracks, face}
+use Rattle.reservation_laws.proofs.Tracks.{face}
 
 -- nothing is left of a term that is over
 spent : (fs : List (ℕ × ℕ)) (t : ℕ) (domains : List (Option (List RtdsUnit))) (u : UnitId) (j : Job) → IsServable t (jobs t domains) → face t domains u ≡ Some j → j.deadline ≤ t → j.left ≡ 0
@@ -80,19 +77,16 @@ module _ (m : Machine) (checked : IsChecked m) (law : NextMomentLaw m) (i : ℕ)
   abbrev fs : List (ℕ × ℕ)
   fs = reservations m.config.granularity i m.config.domains
 
-  calm : IsUndisturbed m
-  calm = record { stalls = feasible.undisturbed.stalls; commands = feasible.undisturbed.commands }
-
-  starts : Begins m checked calm law i r feasible.pool feasible.has.there feasible.has.core feasible.kind feasible.awake feasible.fits
-  starts = begins m checked calm law i r feasible.pool feasible.has.there feasible.has.core feasible.kind feasible.awake feasible.fits
+  starts : Begins m checked feasible.undisturbed law i r feasible.pool feasible.has.there feasible.has.core feasible.kind feasible.awake feasible.fits
+  starts = begins m checked feasible.undisturbed law i r feasible.pool feasible.has.there feasible.has.core feasible.kind feasible.awake feasible.fits
 
   module _ (u : UnitId) (home : IsAtHome m i u.dom.0) where
     step : (f : Reached) → IsReachedBy m f → (e : Entry) → IsNext m f e → (a : At i r fs f.state) → Goes m i r fs u f.state a e.event (after_entry m f e).state
-    step = goes m checked calm law i r feasible.pool feasible.has.there feasible.has.core feasible.kind feasible.awake feasible.fits u home
+    step = goes m checked feasible.undisturbed law i r feasible.pool feasible.has.there feasible.has.core feasible.kind feasible.awake feasible.fits u home
 
     -- no domain moves
     no_move : (f : Reached) → IsReachedBy m f → (e : Event) → IsNextEvent m f.state e (event_action e) → (d : ℕ) → moves d e ≡ false
-    no_move f by (event.DomMoved x to) ev d = absurd (of_pool m checked calm law i r feasible.pool feasible.has.there feasible.has.core feasible.kind feasible.awake feasible.fits f by (DomMoved x) ev.0)
+    no_move f by (event.DomMoved x to) ev d = absurd (of_pool m checked feasible.undisturbed law i r feasible.pool feasible.has.there feasible.has.core feasible.kind feasible.awake feasible.fits f by (DomMoved x) ev.0)
     no_move f by e ev d = refl
 
     pub ends_at : (entries : List Entry) (f : Reached) → IsReachedBy m f → IsRunFrom m f entries → (deadline : ℕ) → term_end u.dom.0 deadline entries ≡ deadline
@@ -186,7 +180,7 @@ module _ (m : Machine) (checked : IsChecked m) (law : NextMomentLaw m) (i : ℕ)
       a = starts.at
 
       home : IsAtHome m i u.dom.0
-      home = home_from m checked calm law i r feasible.pool feasible.has.there feasible.has.core feasible.kind feasible.awake feasible.fits u is_home
+      home = home_from m checked feasible.undisturbed law i r feasible.pool feasible.has.there feasible.has.core feasible.kind feasible.awake feasible.fits u is_home
 
       by : IsReachedBy m (run_start m)
       by = record { before = []; run = tt; leads = refl }

@@ -1,82 +1,37 @@
 -- What each entry of a run does to a unit of an RTDS pool of one core, on an undisturbed machine whose reservations fit.
-use Rattle.std.proofs.Common.{◌≡◌, ◌≢◌, ◌≤◌, ◌<◌, ◌+◌, ◌-◌, ◌*◌, ◌/◌, ◌^◌, ℕ, zero, suc, Bool, true, false, List, [], ◌∷◌, ◌++◌, ◌⊎◌, refl, arith, cond, subst, sym, ◌∙◌, ap, length, inl, inr}
-use Rattle.std.specs.Prelude.{Option, Some, None, is_some, option_map, slice_get, replicate, nat_le, nat_lt, unwrap_or, ◌==◌, ◌&&◌, ◌||◌}
-use Rattle.std.specs.List.{All, AllByRecursion}
-use Rattle.std.proofs.lemmas.Bool.{cases_Bool, eq-eqb}
-use Rattle.std.proofs.lemmas.List.Elements.{recursion_from_All}
-use Rattle.std.proofs.lemmas.Nat.{mul-le, div-mul-add}
-use Rattle.std.proofs.Math.Nat.{div-mul-le_self}
-use Rattle.std.proofs.Math.Decide.{dec_le}
+use Rattle.std.proofs.Common.{◌≡◌, ◌≤◌, ◌+◌, ◌-◌, ℕ, Bool, true, false, List, [], ◌∷◌, ◌++◌, ◌⊎◌, refl, arith, cond, subst, sym, ◌∙◌, ap}
+use Rattle.std.specs.Prelude.{Option, Some, None, option_map, ◌==◌}
 use Rattle.sched_base.specs.Numbers.{moment, span, core as core_number}
 use Rattle.sched_base.specs.declared.Moment.{Moment}
-use Rattle.sched_base.specs.declared.Span.{Span}
 use Rattle.sched_base.specs.declared.UnitId.{UnitId}
-use Rattle.sched_base.proofs.Bools.{and_left, and_right, clash}
-use Rattle.sched_base.proofs.Lists.{AllByRecursion-map, each_get}
 use Rattle.sched_model.specs.declared.action.Action.{Action}
-use Rattle.sched_model.specs.declared.action.Action.TheVariants.{Stall, Xl, Moved, DomMoved, Wake, Block, Slice, Repl, Refill, Arrive, Decide, Leave, Save}
-use Rattle.sched_model.specs.declared.config.DomConfig.{DomConfig}
-use Rattle.sched_model.specs.declared.config.PoolConfig.{PoolConfig}
-use Rattle.sched_model.specs.declared.config.PoolParams.{PoolParams}
-use Rattle.sched_model.specs.declared.config.PoolParams.TheVariants as pool_params
-use Rattle.sched_model.specs.declared.config.SchedKind.{SchedKind}
-use Rattle.sched_model.specs.declared.config.SchedKind.TheVariants as kinds
+use Rattle.sched_model.specs.declared.action.Action.TheVariants.{Repl, Decide}
 use Rattle.sched_model.specs.declared.event.Entry.{Entry}
 use Rattle.sched_model.specs.declared.event.Event.{Event}
 use Rattle.sched_model.specs.declared.event.Event.TheVariants as event
 use Rattle.sched_model.specs.declared.machine.Machine.{Machine}
 use Rattle.sched_model.specs.declared.state.Pool.{Pool}
-use Rattle.sched_model.specs.declared.state.Records.{Records}
-use Rattle.sched_model.specs.declared.state.Records.TheVariants.{RtdsPool}
 use Rattle.sched_model.specs.declared.state.Resource.{Resource}
 use Rattle.sched_model.specs.declared.state.RtdsUnit.{RtdsUnit}
 use Rattle.sched_model.specs.declared.state.State.{State}
-use Rattle.sched_model.specs.Actions.{IsOfPool, change_pool, configured_units, home_pool_of_action, home_pool_of_core, home_pool_of_domain, units_from}
-use Rattle.sched_model.specs.CheckedMachine.{IsChecked, IsCheckedDomain, IsCheckedPool, DomParamsPass, PoolParamsPass}
+use Rattle.sched_model.specs.Actions.{IsOfPool, change_pool, home_pool_of_action}
 use Rattle.sched_model.specs.EligibleUnits.{Decision, rtds_unit_at}
-use Rattle.sched_model.specs.Machine.{after, event_of, home_pool, is_action_enabled}
-use Rattle.sched_model.specs.Opening.{opening, most_pools, machine_core_count, pool_at_opening}
-use Rattle.sched_model.specs.Places.{at_place, change_at, is_unit, put_at, same_unit, test_at}
-use Rattle.sched_model.specs.Policy.{decision_of, empty_records, is_replenish_due, records_after_replenish, unit_rtds_record}
-use Rattle.sched_model.specs.Pool.{after_decide, after_in, after_replenish, decided_core, decision_at, core_ask, enabled_in, reconsidered_core, settled_pool, pool_core_set, unit_core, with_records}
-use Rattle.sched_model.specs.Rtds.{change_unit, unit_after_replenish}
-use Rattle.sched_model.specs.Runs.{Reached, IsNext, IsNextEvent, IsRun, after_entries, after_entry, after_event, after_quiet, event_action, named_next_moment, run_start}
-use Rattle.sched_model.specs.State.{may_unit_run}
+use Rattle.sched_model.specs.Machine.{after}
+use Rattle.sched_model.specs.Places.{at_place, is_unit}
+use Rattle.sched_model.specs.Policy.{decision_of, records_after_replenish, unit_rtds_record}
+use Rattle.sched_model.specs.Pool.{after_decide, after_in, decided_core, decision_at, core_ask, reconsidered_core, settled_pool, pool_core_set, unit_core, with_records}
+use Rattle.sched_model.specs.Runs.{Reached, IsNext, IsRun, after_entries, after_entry, event_action, run_start}
 use Rattle.sched_model.proofs.RunLemmas.{IsRunFrom-append, after_entries-append}
-use Rattle.sched_laws.specs.Counts.{times}
-use Rattle.sched_laws.specs.StateLaws.{state_after}
-use Rattle.sched_laws.proofs.Choices.{same_unit_same}
-use Rattle.sched_laws.proofs.Counts.{same_unit_refl}
 use Rattle.sched_laws.proofs.EachPlace.{at_place-change_at, at_place-put_at, by_cond, by_option, place_below, read_change_each}
-use Rattle.sched_laws.proofs.Lists.{is_some_at, item_below, test_at-some}
 use Rattle.sched_laws.proofs.OnePlace.{decided_cur}
-use Rattle.sched_laws.proofs.Opened.{read_pools}
-use Rattle.sched_laws.proofs.Reached.{core_is_whole, home_of_its_core, home_of_its_domain, one_place}
-use Rattle.sched_laws.proofs.RtdsUnits.{rtds_same, rtds_unit-same}
-use Rattle.sched_laws.proofs.SiblingsLaw.{some_processor}
-use Rattle.state_ranges.specs.Ranges.{IsUnitOf}
-use Rattle.state_ranges.proofs.Queue.{unit_is_there}
 use Rattle.term_laws.specs.Term.{late_of}
 use Rattle.term_laws.specs.RtdsTerm.{taken_by}
 use Rattle.term_laws.proofs.UnitTracks.{renews}
-use Rattle.service_laws.specs.Demand.{Job, FitOneProcessor, renewed}
-use Rattle.service_laws.specs.Passing.{Passes, at_moment}
-use Rattle.service_laws.proofs.ChosenInRuns.{fresh_core}
-use Rattle.service_laws.proofs.EndsSums.{next_rises}
-use Rattle.service_laws.proofs.OnTimeCores.{on_time_in}
-use Rattle.service_laws.proofs.Passing.{NextMomentLaw, quiet_at}
-use Rattle.service_laws.proofs.UrgentRuns.{urgent_run_in}
-use Rattle.undisturbed_laws.specs.Undisturbed.{HasHome, IsAtHome, IsUndisturbed, NeverSleeps, PoolStays, KeepsDomains, RecordsStay, RtdsDomainStays}
-use Rattle.undisturbed_laws.proofs.Opened.{configured_opening}
-use Rattle.undisturbed_laws.proofs.Runs.{after_pool, configured_in_runs, only_pools, pool_as_configured}
-use Rattle.undisturbed_laws.proofs.Units.{core_there, never_sleeps, only_core}
-use Rattle.reservation_laws.specs.Reservations.{reservations, NeverSleeps as DomainNeverSleeps}
+use Rattle.service_laws.specs.Demand.{Job}
+use Rattle.undisturbed_laws.proofs.Runs.{after_pool}
 use Rattle.reservation_laws.proofs.Jobs.{first_left, job, since}
-use Rattle.reservation_laws.proofs.Openings.{AreRtds, fresh_in, homes, homes_base, records_from}
-use Rattle.reservation_laws.proofs.Quiets.{Facts, calm}
-use Rattle.reservation_laws.proofs.StateJobs.{At, Stepped, stepped}
-use Rattle.reservation_laws.proofs.Ticks.{IsCalm, idle_job, tick}
-use Rattle.reservation_laws.proofs.Tracks.{Tracks, face, renewed_job}
+use Rattle.reservation_laws.proofs.StateJobs.{At}
+use Rattle.reservation_laws.proofs.Tracks.{face}
 
 -- a run leads there
 pub record IsReachedBy (m : Machine) (f : Reached) : Type 0 where

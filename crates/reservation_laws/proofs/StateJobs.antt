@@ -1,6 +1,6 @@
 -- What an action of the machine does to the units of an RTDS pool of one core.
-use Rattle.std.proofs.Common.{◌≡◌, ◌≢◌, ◌≤◌, ◌/◌, ℕ, Bool, true, false, List, ◌⊎◌, refl, subst, sym, ◌∙◌, ap, inl, inr}
-use Rattle.std.specs.Prelude.{Option, Some, None, option_map, unwrap_or}
+use Rattle.std.proofs.Common.{◌≡◌, ℕ, Bool, true, false, List, ◌⊎◌, refl, subst, sym, ◌∙◌, ap, inl}
+use Rattle.std.specs.Prelude.{Option, Some, None, option_map}
 use Rattle.std.proofs.Math.Decide.{ℕ_discrete}
 use Rattle.sched_base.specs.Numbers.{core as core_number}
 use Rattle.sched_base.specs.declared.UnitId.{UnitId}
@@ -21,7 +21,6 @@ use Rattle.std.specs.Prelude.{◌&&◌}
 use Rattle.sched_laws.proofs.EachPlace.{at_place-change_at, at_place-set_other}
 use Rattle.sched_laws.proofs.Kept.{passes_at}
 use Rattle.sched_laws.proofs.Lists.{some-test_at}
-use Rattle.service_laws.specs.Demand.{Job}
 use Rattle.reservation_laws.proofs.Tracks.{Tracks, face}
 use Rattle.reservation_laws.proofs.PoolJobs.{Changes, Comes, HasJobs, h_event}
 

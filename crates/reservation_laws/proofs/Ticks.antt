@@ -1,5 +1,5 @@
 -- A nanosecond that passes at a core with the most urgent unit leaves time for what is asked.
-use Rattle.std.proofs.Common.{◌≡◌, ◌≤◌, ◌<◌, ◌+◌, ◌-◌, ℕ, zero, suc, Bool, true, false, List, [], ◌∷◌, ◌++◌, refl, arith, cond, subst, sym, ◌∙◌, ap, inl, inr}
+use Rattle.std.proofs.Common.{◌≡◌, ◌≤◌, ◌<◌, ◌+◌, ◌-◌, ℕ, suc, Bool, true, false, List, [], ◌∷◌, ◌++◌, refl, arith, cond, subst, sym, ◌∙◌, ap, inl, inr}
 use Rattle.std.specs.Prelude.{Option, Some, None, map, nat_lt, ◌==◌, ◌&&◌, ◌||◌}
 use Rattle.std.specs.List.{AllByRecursion}
 use Rattle.std.proofs.lemmas.Bool.{cases_Bool}
@@ -11,11 +11,11 @@ use Rattle.sched_model.specs.Places.{same_unit}
 use Rattle.sched_model.specs.EligibleUnits.{rtds_unit_at}
 use Rattle.sched_model.specs.Rtds.{is_record_before}
 use Rattle.sched_laws.proofs.Choices.{same_unit_same}
-use Rattle.sched_base.proofs.Bools.{clash, or_right}
+use Rattle.sched_base.proofs.Bools.{clash}
 use Rattle.service_laws.specs.Demand.{Job, EndsAfter, FitOneProcessor, IsServable, IsSpentBefore, fractions, served}
 use Rattle.service_laws.proofs.DemandSums.{serves, idles}
-use Rattle.reservation_laws.proofs.Jobs.{since, first_left, job, rate, flat, jobs, fractions_are, IsOther, Split, split, jobs_split, each_unit, each_job}
-use Rattle.reservation_laws.proofs.Tracks.{KeepsTerms, Runs, OwnRuns, Base, Tracks}
+use Rattle.reservation_laws.proofs.Jobs.{since, first_left, job, flat, jobs, fractions_are, IsOther, Split, split, jobs_split, each_unit, each_job}
+use Rattle.reservation_laws.proofs.Tracks.{Runs, Base, Tracks}
 
 -- no term is over at t, and the core is due later; a unit that waits with budget is not more urgent than the core's own, and there is none where the core idles
 pub record IsCalm (t : ℕ) (cur : Option UnitId) (due : Option Moment) (domains : List (Option (List RtdsUnit))) : Type 0 where

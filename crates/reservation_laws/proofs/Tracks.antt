@@ -1,6 +1,6 @@
 -- What is kept of the records of an RTDS pool of one core: what they may still ask for can be served, and the core's own unit alone is charged.
-use Rattle.std.proofs.Common.{◌≡◌, ◌≤◌, ◌<◌, ◌+◌, ◌-◌, ◌*◌, ◌/◌, ℕ, zero, suc, Bool, true, false, List, [], ◌∷◌, ◌++◌, refl, arith, cond, subst, sym, ◌∙◌, ap, inl, inr}
-use Rattle.std.specs.Prelude.{Option, Some, None, map, nat_lt, ◌==◌, option_map}
+use Rattle.std.proofs.Common.{◌≡◌, ◌≤◌, ◌<◌, ◌+◌, ◌-◌, ◌*◌, ◌/◌, ℕ, Bool, false, List, ◌∷◌, ◌++◌, refl, arith, cond, subst, sym, ◌∙◌, ap, inl, inr}
+use Rattle.std.specs.Prelude.{Option, Some, None, map, nat_lt, option_map}
 use Rattle.std.proofs.lemmas.Bool.{cases_Bool}
 use Rattle.std.proofs.Math.Nat.{zero-div}
 use Rattle.sched_base.specs.Numbers.{moment}
@@ -18,7 +18,7 @@ use Rattle.sched_base.proofs.Bools.{clash}
 use Rattle.sched_laws.proofs.RtdsUnits.{rtds_unit-same, rtds_unit-other}
 use Rattle.service_laws.specs.Demand.{Job, IsServable, renewed}
 use Rattle.service_laws.proofs.DemandSums.{renews}
-use Rattle.reservation_laws.proofs.Jobs.{since, first_left, job, rate, flat, jobs, Split, split, jobs_split, jobs_changed, jobs_kept, rates_kept, job_charged, job_set}
+use Rattle.reservation_laws.proofs.Jobs.{since, job, rate, flat, jobs, Split, split, jobs_split, jobs_changed, jobs_kept, rates_kept, job_charged, job_set}
 
 -- a record whose parameters stay, with what is left of its budget, in a term that is not over before t
 pub record KeepsTerms (t : ℕ) (x : RtdsUnit) : Type 0 where

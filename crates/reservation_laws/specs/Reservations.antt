@@ -18,6 +18,7 @@ use Rattle.sched_laws.specs.StateLaws.{state_after}
 use Rattle.term_laws.specs.Term.{Leg, time_on}
 use Rattle.term_laws.specs.RtdsTerm.{RtdsTerm, legs, terms}
 use Rattle.service_laws.specs.Demand.{FitOneProcessor}
+use Rattle.undisturbed_laws.specs.Undisturbed.{IsUndisturbed}
 
 -- what the parameters reserve: budget and period
 abbrev pub reservation : DomParams → ℕ × ℕ
@@ -33,12 +34,7 @@ reservations g i (domain ∷ domains) = (if domain.home.0 == i then replicate (c
 abbrev pub NeverSleeps : DomConfig → Type 0
 NeverSleeps domain = All (λ (script : List Span). script ≡ []) domain.guests
 
--- nothing happens to the machine from outside
-pub record IsUndisturbed (m : Machine) : Type 0 where
-  pub stalls : m.work.stalls ≡ []
-  pub commands : m.work.commands ≡ []
-
--- the pool i of the machine has this scheduler and one core
+-- the machine has this pool at i, with the core r alone
 pub record HasOneCoreOf (m : Machine) (i r : ℕ) (pool : PoolConfig) : Type 0 where
   pub there : slice_get m.config.pools i ≡ Some pool
   pub core : pool.cores ≡ 2 ^ r
