@@ -9,3 +9,4 @@ pub mod RunJobs
 pub mod Follows
 pub mod LegSums
 pub mod Reserved
+pub mod ExamplesComputed
