@@ -1,0 +1,12 @@
+pub mod Jobs
+pub mod Tracks
+pub mod Ticks
+pub mod PoolJobs
+pub mod StateJobs
+pub mod Openings
+pub mod Quiets
+pub mod RunJobs
+pub mod Follows
+pub mod LegSums
+pub mod Reserved
+pub mod ExamplesComputed
