@@ -126,6 +126,12 @@ def as_made(random, machine):
     return machine
 
 
+def host(random):
+    """A host of 32 cores, with as many domains as a machine may have at most."""
+    described = made.credit2(random, 32, milliseconds=200)
+    return described | {"domain": described["domain"][:64]}
+
+
 # The machines, and whether the shares of the default run have to be nearer to Xen's than those of the ordered run.
 ORDERS = [
     (Row("mixed", spread_out(as_made)), True),
@@ -135,8 +141,8 @@ ORDERS = [
     (Row("guests that always run", spread_out(as_made, busy=1.0)), True),
     (Row("guests that always run, pinned units", spread_out(made.pinned, busy=1.0)), True),
     (Row("guests that always run, caps", spread_out(as_made, busy=1.0, caps=True)), False),
-    (Row("32 cores", lambda r: made.credit2(r, 32, milliseconds=200)), False),
-    (Row("32 cores, pinned units", lambda r: made.pinned(r, made.credit2(r, 32, milliseconds=200))), False),
+    (Row("32 cores", host), False),
+    (Row("32 cores, pinned units", lambda r: made.pinned(r, host(r))), False),
 ]
 
 
@@ -156,6 +162,8 @@ def orders(setting):
           "| Machines | share: mean | greatest | moves a second | wait, us: mean | 99 % | greatest |\n" + "|---" * 7 + "|")
     beside = setting.builder.program()
     for row, nearer in ORDERS:
+        if setting.rows not in row.name:
+            continue
         setting.tell(f"orders, {row.name}")
         found = list(setting.pool.map(in_both_orders, [(setting.program, beside, row.machine(seed)) for seed in seeds]))
         seconds = sum(it[0] for it in found)
@@ -165,7 +173,7 @@ def orders(setting):
         print("| " + " | ".join([row.name, " / ".join(f"{it:.4f}" for it in means), " / ".join(f"{max(it):.3f}" for it in apart[:2]), " / ".join(f"{it:.0f}" for it in moves),
                                  " / ".join(f"{sum(it) / max(1, len(it)) / 1000:.0f}" for it in waits), " / ".join(f"{quantile(it, .99):.0f}" for it in waits),
                                  " / ".join(f"{max(it, default=0) / 1000:.0f}" for it in waits)]) + " |", flush=True)
-        if means[1] > MEAN or max(apart[1]) > GREATEST or nearer and means[1] > means[0]:
+        if means[1] > MEAN or max(apart[1]) > max(GREATEST, *apart[0]) or nearer and means[1] > means[0]:
             seed = max(seeds, key=lambda seed: max(found[seed - 1][1][1][0]))
             setting.fault(f"orders, {row.name}: the default run is {means[1]:.4f} from Xen, the ordered one {means[0]:.4f}", row, seed)
 

@@ -102,6 +102,29 @@ class Windows(unittest.TestCase):
         part_of(self, row(study, "promises", "d1u0"), claimed_ns=4 * MS, asleep_ns=2 * MS, unusable_ns=MS, promised_ns=MS, had_ns=MS, owed_ns=0)
 
 
+class ManyFrames(unittest.TestCase):
+    """A frame of 3 ns in a run of 9 us: nothing changes from frame to frame but for a stall, and the frames are counted at once."""
+
+    LINES = "0 arrive p0\n0 decide c0 d0u0 due 2 late 0 reset 0\n0 leave p0 d0v0\n0 stall p0 until 3001\n0 end 3001\n"
+    FRAME = {"major_ns": 3, "frame": [[0, 0, 2], [1, 0, 1]]}
+
+    def study(self, each=None):
+        described = machine("arinc653", [("a", [[]], {}), ("b", [[]], {})], 9_001, **self.FRAME)
+        study = Study(machine_of(described, "a machine"), None, each)
+        study.count_promises()
+        return study.follow((self.LINES + "9001 finish").splitlines())
+
+    def test_frames_at_once(self):
+        # a has the core throughout, as if no line had come after the stall; b waits
+        study, told = self.study(), []
+        part_of(self, row(study, "promises", "d0u0"), claimed_ns=6_001, unusable_ns=2_001, promised_ns=4_000, had_ns=6_001, owed_ns=0)
+        part_of(self, row(study, "promises", "d1u0"), claimed_ns=3_000, unusable_ns=1_000, promised_ns=2_000, had_ns=0, owed_ns=2_000)
+        one_by_one = self.study(lambda *row, **more: told.append(row))
+        for table in ("promises", "windows"):
+            self.assertEqual(tables.TABLES[table](one_by_one).rows, tables.TABLES[table](study).rows)
+        self.assertEqual(sum(row[0] == "window" for row in told), 6_000)
+
+
 class Null(unittest.TestCase):
     GIVEN = """
 0 arrive p0

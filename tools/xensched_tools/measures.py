@@ -165,6 +165,16 @@ class Window:
             self.most_lost, self.most_lost_at = lost, at
         return had, lost
 
+    def pass_whole(self, begin, times):
+        """So many whole windows pass while nothing changes; the first one begins here."""
+        self.count += times
+        if self.unit.core is not None:
+            self.had += times * self.length
+        if self.unit.waits_from is not None:
+            self.lost += times * self.length
+            if self.length > self.most_lost:
+                self.most_lost, self.most_lost_at = self.length, begin + self.length
+
 
 class Frame:
     """The frame of an ARINC 653 pool, and the next moment at which one of its windows begins or ends."""
@@ -191,6 +201,20 @@ class Frame:
             self.place += 1
             self.next = at + window.length
         return ended
+
+    def begins(self):
+        """Whether its next moment is the beginning of a whole frame."""
+        return self.place == 0 and self.present is None and self.next == self.start
+
+    def pass_whole(self, times):
+        """So many whole frames pass while nothing changes."""
+        begin = self.start
+        for window in self.windows:
+            if window.unit.domain.home is self.home:
+                window.pass_whole(begin, times)
+            begin += window.length
+        self.start += times * self.major
+        self.next = self.start
 
 
 class Caps:
@@ -511,6 +535,8 @@ class Study(Follower):
     def _pass_boundaries(self, moment):
         for frame in self.frames:
             while frame.next <= moment:
+                if frame.begins() and self._pass_frames(frame, moment):
+                    continue
                 if self.promises:
                     self.promises.window_passes(frame, frame.next)
                 at, ended = frame.next, frame.step()
@@ -518,6 +544,15 @@ class Study(Follower):
                     window, had, lost = ended
                     self.each("window", window.unit.name, at - window.length, at, window.length, had=had, missing=lost)
         self.next_boundary = min((frame.next for frame in self.frames), default=None)
+
+    def _pass_frames(self, frame, moment):
+        """Passes as many whole frames as lie before the moment, at once; answers whether there were some. Where each window is told, they go one by one."""
+        times = 0 if self.each else (moment - frame.start) // frame.major
+        if times and self.promises:
+            times = self.promises.frames_pass(frame, times)
+        if times:
+            frame.pass_whole(times)
+        return times > 0
 
     # caps
 

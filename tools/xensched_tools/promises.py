@@ -90,6 +90,20 @@ class Promises:
         else:
             self._claims_core(unit, core, begin, end)
 
+    def frames_pass(self, frame, times):
+        """Of so many whole frames in which nothing changes it counts those up to the one in which a stall ends, at once, and answers how many."""
+        begin, core = frame.start, next(iter(frame.home.cores), None)
+        usable_from = 0 if core is None or core in self.leaving else self.stalled_until.get(core, 0)
+        if begin < usable_from < begin + times * frame.major:
+            times = (usable_from - begin) // frame.major
+        for window in frame.windows if times else []:
+            if window.unit.domain.home is frame.home:
+                is_usable = core is not None and core not in self.leaving and usable_from <= begin
+                claim, end = self.claim(window.unit, frame.home), begin + times * window.length
+                claim.pass_time(begin, end, self._is_ready(window.unit), 0 if is_usable else end, core is not None and core.unit is window.unit)
+        self.counted_to[frame] = begin + times * frame.major
+        return times
+
     def _claims_core(self, unit, core, begin, end):
         usable_from = end if core in self.leaving else self.stalled_until.get(core, 0)
         self.claim(unit, core.home).pass_time(begin, end, self._is_ready(unit), usable_from, core.unit is unit)

@@ -60,9 +60,11 @@ charge_all cur t last records u w most given ran n x some heavy here runs time p
     by_unit true is runs time =
         let own : cur ≡ Some u = is_unit_same cur u is in
         let r = sees_charged t last records u w x runs here in
-        let paid = all_charged (most_weight records) given w ran t last x r.0 some r.2 (subst (λ k. PaysAll k given w ran x) (sym heavy) pays) in
-        (r.0, record { sees = subst (λ (o : Option UnitId). Sees (own_burned_records o t records) u w r.0) (sym own) r.1; runs = inl (own, r.2.burned) },
-        subst (λ k. PaysAll most given w k r.0) (sym time) (subst (λ k. PaysAll k given w (ran + (t - last)) r.0) heavy paid))
+        let paid = all_charged (most_weight records) given w ran t last x r.0 some r.2 (subst (λ k. PaysAll k given w ran x) (sym heavy) pays) in (
+          r.0,
+          record { sees = subst (λ (o : Option UnitId). Sees (own_burned_records o t records) u w r.0) (sym own) r.1; runs = inl (own, r.2.burned) },
+          subst (λ k. PaysAll most given w k r.0) (sym time) (subst (λ k. PaysAll k given w (ran + (t - last)) r.0) heavy paid),
+        )
     by_unit false is runs time =
         (x, record { sees = sees_uncharged cur t records u w x (not_own cur u is) here; runs = inr runs }, subst (λ k. PaysAll most given w k x) (let e : ran ≡ n = omega (arith, time) in e) pays)
 
@@ -74,9 +76,11 @@ charge_no_more cur t last records u w most given ran n x some heavy here runs ti
     by_unit true is runs time =
         let own : cur ≡ Some u = is_unit_same cur u is in
         let r = sees_charged t last records u w x runs here in
-        let paid = no_more_charged (most_weight records) given w ran t last x r.0 some r.2 (subst (λ k. PaysNoMore k given w ran x) (sym heavy) pays) in
-        (r.0, record { sees = subst (λ (o : Option UnitId). Sees (own_burned_records o t records) u w r.0) (sym own) r.1; runs = inl (own, r.2.burned) },
-        subst (λ k. PaysNoMore most given w k r.0) (sym time) (subst (λ k. PaysNoMore k given w (ran + (t - last)) r.0) heavy paid))
+        let paid = no_more_charged (most_weight records) given w ran t last x r.0 some r.2 (subst (λ k. PaysNoMore k given w ran x) (sym heavy) pays) in (
+          r.0,
+          record { sees = subst (λ (o : Option UnitId). Sees (own_burned_records o t records) u w r.0) (sym own) r.1; runs = inl (own, r.2.burned) },
+          subst (λ k. PaysNoMore most given w k r.0) (sym time) (subst (λ k. PaysNoMore k given w (ran + (t - last)) r.0) heavy paid),
+        )
     by_unit false is runs time =
         (x, record { sees = sees_uncharged cur t records u w x (not_own cur u is) here; runs = inr runs }, subst (λ k. PaysNoMore most given w k x) (let e : ran ≡ n = omega (arith, time) in e) pays)
 

@@ -125,11 +125,15 @@ abbrev with_leaves : Machine → List Action
 with_leaves m = with_decides m ++ map (λ n. Leave (processor n)) (numbers_from 0 m.config.processors)
 
 no_block_before : (m : Machine) → AllByRecursion NoBlock (to_wake m)
-no_block_before m =
-    (tt, (tt,
+no_block_before m = (
+  tt,
+  (
+    tt,
     each_append NoBlock (map (λ n. Moved (core_number n)) (numbers_from 0 (machine_core_count m.config)) ++ map (λ n. DomMoved (domain_number n)) (numbers_from 0 (length m.config.domains))) (map Wake (vcpus_from 0 m.config.domains))
-    (each_append NoBlock (map (λ n. Moved (core_number n)) (numbers_from 0 (machine_core_count m.config))) (map (λ n. DomMoved (domain_number n)) (numbers_from 0 (length m.config.domains))) (each_map NoBlock _ (numbers_from 0 (machine_core_count m.config)) (λ n. tt)) (each_map NoBlock _ (numbers_from 0 (length m.config.domains)) (λ n. tt)))
-    (each_map NoBlock Wake (vcpus_from 0 m.config.domains) (λ v. tt))))
+        (each_append NoBlock (map (λ n. Moved (core_number n)) (numbers_from 0 (machine_core_count m.config))) (map (λ n. DomMoved (domain_number n)) (numbers_from 0 (length m.config.domains))) (each_map NoBlock _ (numbers_from 0 (machine_core_count m.config)) (λ n. tt)) (each_map NoBlock _ (numbers_from 0 (length m.config.domains)) (λ n. tt)))
+        (each_map NoBlock Wake (vcpus_from 0 m.config.domains) (λ v. tt)),
+  ),
+)
 
 -- where a wake may come, the first that may come is no block
 first_no_block : (m : Machine) (test : Action → Bool) (x : Action) → list_any test (map Wake (vcpus_from 0 m.config.domains)) ≡ true → find test (candidates m.config) ≡ Some x → NoBlock x
@@ -193,21 +197,21 @@ module _ (m : Machine) (checked : IsChecked m) (i r rate : ℕ) (plain : IsPlain
         ]
       ])) [
         | Some action ↦ λ is. (
-            keeps_nobody m checked i r rate plain law on_time s reached here,
-            acted (λ x r h. ordered_kept n x r h) action (after_entry m (open_at s) (record { at = moment s.now; event = event_of m s s.now action })) (after_entry-action m s action)
-            (reached_next m (open_at s) (record { at = moment s.now; event = event_of m s s.now action }) (IsNext-action m s action (find_passes (is_action_enabled m s s.now) (candidates m.config) action is)) reached)
-            (step m checked i r rate plain law on_time (open_at s) (record { at = moment s.now; event = event_of m s s.now action }) (IsNext-action m s action (find_passes (is_action_enabled m s s.now) (candidates m.config) action is)) reached
-            (λ other names pool at. (let same : action ≡ other = some_same (sym (action_of-event_of m s s.now action) ∙ names) in seen_first s reached other (is ∙ ap (λ (x : Action). Some x) same) pool at)) here),
-          )
+          keeps_nobody m checked i r rate plain law on_time s reached here,
+          acted (λ x r h. ordered_kept n x r h) action (after_entry m (open_at s) (record { at = moment s.now; event = event_of m s s.now action })) (after_entry-action m s action)
+              (reached_next m (open_at s) (record { at = moment s.now; event = event_of m s s.now action }) (IsNext-action m s action (find_passes (is_action_enabled m s s.now) (candidates m.config) action is)) reached)
+              (step m checked i r rate plain law on_time (open_at s) (record { at = moment s.now; event = event_of m s s.now action }) (IsNext-action m s action (find_passes (is_action_enabled m s s.now) (candidates m.config) action is)) reached
+              (λ other names pool at. (let same : action ≡ other = some_same (sym (action_of-event_of m s s.now action) ∙ names) in seen_first s reached other (is ∙ ap (λ (x : Action). Some x) same) pool at)) here),
+        )
         | None ↦ λ is. elim (next_in_horizon m s) as (λ o. next_in_horizon m s ≡ o → KeptAlong m checked i r rate plain (open_at s) (elim o as (λ _. List Entry) [
           | Some next ↦ record { at = moment s.now; event = event.End (moment next) } ∷ ordered_run n m (record s { now = next })
           | None ↦ record { at = moment s.now; event = event.Finish } ∷ []
         ])) [
           | Some next ↦ λ at. (
-              keeps_nobody m checked i r rate plain law on_time s reached here,
-              ordered_kept n (record s { now = next }) (reached_next m (open_at s) (record { at = moment s.now; event = event.End (moment next) }) (record { goes_on = refl; moment = refl; event = (is, at) }) reached)
-              (step m checked i r rate plain law on_time (open_at s) (record { at = moment s.now; event = event.End (moment next) }) (record { goes_on = refl; moment = refl; event = (is, at) }) reached (λ other names pool at. absurd (cc)) here),
-            )
+            keeps_nobody m checked i r rate plain law on_time s reached here,
+            ordered_kept n (record s { now = next }) (reached_next m (open_at s) (record { at = moment s.now; event = event.End (moment next) }) (record { goes_on = refl; moment = refl; event = (is, at) }) reached)
+                (step m checked i r rate plain law on_time (open_at s) (record { at = moment s.now; event = event.End (moment next) }) (record { goes_on = refl; moment = refl; event = (is, at) }) reached (λ other names pool at. absurd (cc)) here),
+          )
           | None ↦ λ at. (keeps_nobody m checked i r rate plain law on_time s reached here, tt)
         ] refl
       ] refl

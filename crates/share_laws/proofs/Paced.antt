@@ -388,7 +388,6 @@ module _ (m : Machine) (checked : IsChecked m) (i r rate : ℕ) (plain : IsPlain
                   vcpu_there : (o : Option Vcpu) → elim o as (λ _. Bool) [ None ↦ false | Some z ↦ has_moment_come t (done_moment z) ] ≡ true → (z : Vcpu) × (o ≡ Some z)
                   vcpu_there None on = absurd (cc)
                   vcpu_there (Some z) on = (z, refl)
-
           by_seen (inr (inr none)) n y place is =
               elim (vcpu_read v (record { dom = v.dom; n = n }) (pools.put_to_sleep t) pool.domains y is) [
                 | inl was ↦ later_of y.asleep_until (asleep n y place is) (none (record { dom = v.dom; n = n }) y was)

@@ -115,9 +115,11 @@ taken_same n d free = by_cond (λ (y : Credit2Domain). y ≡ d) (d.cap == 0) d _
 -- the core's own unit is charged
 pub sees_charged : (t from : ℕ) (records : Credit2Records) (u : UnitId) (w : ℕ) (x : Credit2Unit) → x.burned ≡ Some from → Sees records u w x → (y : Credit2Unit) × Sees (own_burned_records (Some u) t records) u w y × IsCharged (most_weight records) w t from x y
 sees_charged t from records u w x is here =
-    let f : Credit2Domain → Credit2Unit → Credit2Unit = burned_unit (most_weight records) t in
-    (f here.domain x, sees_uncapped u.dom.0 (λ d. cond (d.cap == 0) d (domain_after_return u.n d)) (change_unit u f records) u w (f here.domain x) (returned_same u.n) (sees_own f records u w x here),
-    burn_some (most_weight records) t from w here.domain x here.weight is)
+    let f : Credit2Domain → Credit2Unit → Credit2Unit = burned_unit (most_weight records) t in (
+      f here.domain x,
+      sees_uncapped u.dom.0 (λ d. cond (d.cap == 0) d (domain_after_return u.n d)) (change_unit u f records) u w (f here.domain x) (returned_same u.n) (sees_own f records u w x here),
+      burn_some (most_weight records) t from w here.domain x here.weight is,
+    )
 
 pub sees_uncharged : (cur : Option UnitId) (t : ℕ) (records : Credit2Records) (u : UnitId) (w : ℕ) (x : Credit2Unit) → (cur ≡ Some u → ⊥) → Sees records u w x → Sees (own_burned_records cur t records) u w x
 sees_uncharged None t records u w x other here = here

@@ -137,35 +137,37 @@ module _ (m : Machine) (checked : IsChecked m) (i r rate : ℕ) (plain : IsPlain
       let books : Credit2Records = b.0 in
       let core = core_there m i r plain.config q first.meets plain.core in
       let cur : core.0.cur ≡ None = sym (ap (λ (c : Resource). c.cur) (fresh_core m i q first.at r core.0 core.1)) in
-      let idle : (w : UnitId) → is_unit core.0.cur w ≡ false = λ w. ap (λ (o : Option UnitId). is_unit o w) cur in
-      (most_weight books, record {
-        pool = q;
-        at = first.at;
-        core = core.0;
-        has = core.1;
-        books = books;
-        is = b.1;
-        unfilled = first_unfilled q first.at books b.1 b.2;
-        limit = b.2.limit;
-        heavy = refl;
-        given = 10000000;
-        last = 0;
-        past = omega arith;
-        unit_u = fresh_unit;
-        sees_u = first_sees q first.at books b.1 b.2 u wu has_u;
-        ran_u = 0;
-        time_u = nothing (is_unit core.0.cur u);
-        runs_u = ap (λ x. since_last x 0) (sym (idle u));
-        all = opened_all (most_weight books) wu (some_weight u wu has_u);
-        unit_v = fresh_unit;
-        sees_v = first_sees q first.at books b.1 b.2 v wv has_v;
-        ran_v = 0;
-        time_v = nothing (is_unit core.0.cur v);
-        runs_v = ap (λ x. since_last x 0) (sym (idle v));
-        no_more = opened_no_more (most_weight books) wv (some_weight v wv has_v);
-        turn = λ on. absurd (let off = idle u in cc);
-        bound = omega arith;
-      })
+      let idle : (w : UnitId) → is_unit core.0.cur w ≡ false = λ w. ap (λ (o : Option UnitId). is_unit o w) cur in (
+        most_weight books,
+        record {
+          pool = q;
+          at = first.at;
+          core = core.0;
+          has = core.1;
+          books = books;
+          is = b.1;
+          unfilled = first_unfilled q first.at books b.1 b.2;
+          limit = b.2.limit;
+          heavy = refl;
+          given = 10000000;
+          last = 0;
+          past = omega arith;
+          unit_u = fresh_unit;
+          sees_u = first_sees q first.at books b.1 b.2 u wu has_u;
+          ran_u = 0;
+          time_u = nothing (is_unit core.0.cur u);
+          runs_u = ap (λ x. since_last x 0) (sym (idle u));
+          all = opened_all (most_weight books) wu (some_weight u wu has_u);
+          unit_v = fresh_unit;
+          sees_v = first_sees q first.at books b.1 b.2 v wv has_v;
+          ran_v = 0;
+          time_v = nothing (is_unit core.0.cur v);
+          runs_v = ap (λ x. since_last x 0) (sym (idle v));
+          no_more = opened_no_more (most_weight books) wv (some_weight v wv has_v);
+          turn = λ on. absurd (let off = idle u in cc);
+          bound = omega arith;
+        },
+      )
     where
       nothing : (b : Bool) → 0 ≡ 0 + cond b (0 - 0) 0
       nothing true = omega arith

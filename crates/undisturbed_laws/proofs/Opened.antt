@@ -91,12 +91,14 @@ module _ {Y : Type 0} (g i e : ℕ) (look : Pool → Y) (other : (d : ℕ) (join
         let same : joining ≡ config = cc in
         let e2 : e ≡ d = omega (arith, at) in
         let low : e < suc d = omega (arith, at) in
-        let own : (joining.home.0 == i) ≡ true = is_same joining.home.0 i (ap (λ (c : DomConfig). c.home.0) same ∙ home) in
-        (pool, here,
-        seen_later (suc d) domains (cond (joining.home.0 == i) (pool_with_configured g d joining pool) pool) low
-        ∙ ap (λ b. look (cond b (pool_with_configured g d joining pool) pool)) own
-        ∙ ap (λ (n : ℕ). look (pool_with_configured g n joining pool)) (sym e2)
-        ∙ ap (λ (c : DomConfig). look (pool_with_configured g e c pool)) same)
+        let own : (joining.home.0 == i) ≡ true = is_same joining.home.0 i (ap (λ (c : DomConfig). c.home.0) same ∙ home) in (
+          pool,
+          here,
+          seen_later (suc d) domains (cond (joining.home.0 == i) (pool_with_configured g d joining pool) pool) low
+              ∙ ap (λ b. look (cond b (pool_with_configured g d joining pool) pool)) own
+              ∙ ap (λ (n : ℕ). look (pool_with_configured g n joining pool)) (sym e2)
+              ∙ ap (λ (c : DomConfig). look (pool_with_configured g e c pool)) same,
+        )
       where
         is_same : (a b : ℕ) → a ≡ b → (a == b) ≡ true
         is_same a b same = grind arith
@@ -144,7 +146,6 @@ rtds_other (RtdsPool domains) (dom_params.Rtds period budget extra) d e count ne
 rtds_other (Credit2Pool records) (dom_params.Credit2 weight percent) d e count ne = refl
 rtds_other records dom d e count ne = refl
 
-
 -- what a domain that joins brings to its place
 credit2_brought : (config : Config) (kind : SchedKind) (limit n : ℕ) (records : Records) (dom : DomParams) (d count : ℕ) → Heads n (pool_params.Credit2 limit) records → PoolParamsPass config kind (pool_params.Credit2 limit) → DomParamsPass kind dom → d < n
     → (x : Credit2Domain) × (domain_credit2_record (joined_records records dom d count 0) d ≡ Some x) × (dom ≡ dom_params.Credit2 x.weight x.cap) × (length x.units ≡ count) × (x ≡ fresh_credit2_domain x.weight x.cap count 0)
@@ -168,9 +169,13 @@ pub record IsFreshRtds (joining : DomConfig) (count : ℕ) (x : List RtdsUnit) :
 
 rtds_brought : (config : Config) (joining : DomConfig) (kind : SchedKind) (n : ℕ) (records : Records) (dom : DomParams) (d count : ℕ) → joining.params ≡ dom → Heads n pool_params.Rtds records → PoolParamsPass config kind pool_params.Rtds → DomParamsPass kind dom → d < n
     → (x : List RtdsUnit) × (rtds_at (joined_records records dom d count 0) d ≡ Some x) × (length x ≡ count) × AllByRecursion (RtdsUnitStays joining) x × IsFreshRtds joining count x
-rtds_brought config joining kinds.Rtds n (RtdsPool domains) (dom_params.Rtds period budget extra) d count is heads pass fits low =
-    (fresh_rtds_units period.0 budget.0 extra count 0, at_place-put_at d (fresh_rtds_units period.0 budget.0 extra count 0) domains (omega (arith, heads, low)), length-replicate count _,
-    each_replicate (RtdsUnitStays joining) count _ (record { params = is; next = is }), record { period = period.0; budget = budget.0; extra = extra; params = is; is = refl })
+rtds_brought config joining kinds.Rtds n (RtdsPool domains) (dom_params.Rtds period budget extra) d count is heads pass fits low = (
+  fresh_rtds_units period.0 budget.0 extra count 0,
+  at_place-put_at d (fresh_rtds_units period.0 budget.0 extra count 0) domains (omega (arith, heads, low)),
+  length-replicate count _,
+  each_replicate (RtdsUnitStays joining) count _ (record { params = is; next = is }),
+  record { period = period.0; budget = budget.0; extra = extra; params = is; is = refl },
+)
 rtds_brought config joining kinds.Rtds n (RtdsPool domains) dom d count is heads pass fits low = absurd fits
 rtds_brought config joining kinds.Rtds n records dom d count is heads pass fits low = absurd heads
 rtds_brought config joining kind n records dom d count is heads pass fits low = absurd pass

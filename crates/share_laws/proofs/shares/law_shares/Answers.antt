@@ -7,9 +7,10 @@ returns-clause-share c m checked i r rate plain u v wu wv has_u has_v never entr
     within_share m checked (λ s. c.law_next_moment.ensures m s s.now) (c.law_on_time.ensures m checked) i r rate plain u v wu wv has_u has_v never entries seen run
 
 pub returns-clause-both : goal.returns-clause-both
-returns-clause-both c m checked i r rate plain u v wu wv has_u has_v never_u never_v entries seen run =
-    (within_share m checked (λ s. c.law_next_moment.ensures m s s.now) (c.law_on_time.ensures m checked) i r rate plain u v wu wv has_u has_v never_v entries seen run,
-    within_share m checked (λ s. c.law_next_moment.ensures m s s.now) (c.law_on_time.ensures m checked) i r rate plain v u wv wu has_v has_u never_u entries seen run)
+returns-clause-both c m checked i r rate plain u v wu wv has_u has_v never_u never_v entries seen run = (
+  within_share m checked (λ s. c.law_next_moment.ensures m s s.now) (c.law_on_time.ensures m checked) i r rate plain u v wu wv has_u has_v never_v entries seen run,
+  within_share m checked (λ s. c.law_next_moment.ensures m s s.now) (c.law_on_time.ensures m checked) i r rate plain v u wv wu has_v has_u never_u entries seen run,
+)
 
 pub returns-clause-part : goal.returns-clause-part
 returns-clause-part c m checked i r rate plain u v wu wv has_u has_v never_u never_v before entries seen run =
