@@ -173,7 +173,7 @@ def orders(setting):
         print("| " + " | ".join([row.name, " / ".join(f"{it:.4f}" for it in means), " / ".join(f"{max(it):.3f}" for it in apart[:2]), " / ".join(f"{it:.0f}" for it in moves),
                                  " / ".join(f"{sum(it) / max(1, len(it)) / 1000:.0f}" for it in waits), " / ".join(f"{quantile(it, .99):.0f}" for it in waits),
                                  " / ".join(f"{max(it, default=0) / 1000:.0f}" for it in waits)]) + " |", flush=True)
-        if means[1] > MEAN or max(apart[1]) > max(GREATEST, *apart[0]) or nearer and means[1] > means[0]:
+        if means[1] > max(MEAN, means[0]) or max(apart[1]) > max(GREATEST, *apart[0]) or nearer and means[1] > means[0]:
             seed = max(seeds, key=lambda seed: max(found[seed - 1][1][1][0]))
             setting.fault(f"orders, {row.name}: the default run is {means[1]:.4f} from Xen, the ordered one {means[0]:.4f}", row, seed)
 
