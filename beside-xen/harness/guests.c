@@ -221,8 +221,11 @@ void wake_guest(struct vcpu *vcpu)
  * Xen's own trace records: all of them to the file that was asked for, as xentrace writes it, and those of replenishments
  * and resets to the log. What the toolstack brings about is on processor 0.
  */
+unsigned long record_count;
+
 void take_trace(u32 event, unsigned int size, const void *record)
 {
+    record_count++;
     if ( is_begun )
         host_trace(present_cpu == TOOLSTACK ? 0 : present_cpu, present_moment, event, size, record);
     if ( event == TRC_SCHED_SWITCH_INFCONT )

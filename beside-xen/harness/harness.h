@@ -54,6 +54,7 @@ struct plan {
     bool apart;                         /* the vCPUs start one after the other, all at 0 */
     bool by_rank;                       /* the order of a moment is that of xensched's ordered run */
     bool whole;                         /* the log has each entry of a schedule, with its fields */
+    bool is_shuffled;                   /* the processors go on in an order that chance has */
     long most_late;                     /* how late a timer may be noticed */
     unsigned long seed;
     struct pool_plan pools[MAX_POOLS];
@@ -77,6 +78,7 @@ extern bool is_begun;
 extern bool is_timer_running;           /* what happens now, a timer brought about */
 extern struct domain *domains[MAX_DOMAINS];
 void start_processor(unsigned int number);
+unsigned long chance(void);
 long chance_of_lateness(void);
 long next_timer(const long *stalled_until);
 int run_timer(const long *stalled_until);
@@ -112,6 +114,7 @@ enum place { AT_REST, BEFORE_LEAVING, BEFORE_SAVING };
 void stand_at(unsigned int processor, enum place place);
 
 /* guests.c */
+extern unsigned long record_count;      /* Xen's own trace records so far */
 long done_at(unsigned int processor);
 void hold_guest(unsigned int processor);
 void wait_for_siblings(unsigned int processor);

@@ -135,13 +135,15 @@ static bool is_to_arrive(unsigned int processor)
 static bool step(unsigned int processor)
 {
     bool was_waiting = is_waiting[processor];
+    unsigned long before = record_count;
     if ( !may_decide(processor) )
         return false;
     if ( plan.whole && !plan.by_rank && is_to_arrive(processor) )
         look(pool_of(processor));       /* it arrives, which is an event of its own */
     let_go_on(processor);
     look(pool_of(processor));
-    return !(was_waiting && is_waiting[processor]);
+    /* one that waits again may have been through a whole switch, of which Xen keeps records; in a pass over all of them another one goes on then */
+    return !(was_waiting && is_waiting[processor]) || (plan.is_shuffled && record_count != before);
 }
 
 /* What a change of Xen's code may bring: a processor that is not late begins where the one that was asked is. */
@@ -155,12 +157,24 @@ static void let_take_over(void)
             take_over(processor);
 }
 
+/* One processor of those that have something to do, whichever it is. */
+static bool step_of_chance(void)
+{
+    unsigned int first = chance() % plan.processors, place;
+    bool any = false;
+    for ( place = 0; place < plan.processors && !any; place++ )
+        any |= step((first + place) % plan.processors);
+    return any;
+}
+
 /* One pass over all processors. */
 static bool pass_by_number(void)
 {
     unsigned int first = plan.most_late ? chance_of_lateness() % plan.processors : 0, place;
     bool any = false;
     let_take_over();
+    if ( plan.is_shuffled && is_begun )
+        return step_of_chance();
     for ( place = 0; place < plan.processors; place++ )
         any |= step((first + place) % plan.processors);
     return any;

@@ -107,13 +107,17 @@ static struct timer *timers[4096];
 static long noticed[4096];              /* when each is noticed */
 static int timer_count;
 
-/* The next number of a generator of Knuth's, cut to the greatest lateness. */
+/* The next number of a generator of Knuth's. */
+unsigned long chance(void)
+{
+    plan.seed = plan.seed * 6364136223846793005ul + 1442695040888963407ul;
+    return plan.seed >> 33;
+}
+
+/* At most the greatest lateness. */
 long chance_of_lateness(void)
 {
-    if ( !plan.most_late )
-        return 0;
-    plan.seed = plan.seed * 6364136223846793005ul + 1442695040888963407ul;
-    return (plan.seed >> 33) % (plan.most_late + 1);
+    return plan.most_late ? chance() % (plan.most_late + 1) : 0;
 }
 
 void init_timer(struct timer *timer, void (*function)(void *), void *data, unsigned int processor)

@@ -1,8 +1,9 @@
 """The harness's input for a domain file and a work file of xensched.
 
-Options are words beside the two files. `NAME=VALUE` is a parameter of Xen's command line, but for three of the harness's own:
+Options are words beside the two files. `NAME=VALUE` is a parameter of Xen's command line, but for five of the harness's own:
 `late=SPAN:SEED` has timers noticed up to SPAN nanoseconds late and processors come in another order, `apart` starts the vCPUs
-one after the other, all at 0, and `by-rank` takes the events of a moment in the order of xensched's ordered run.
+one after the other, all at 0, `by-rank` takes the events of a moment in the order of xensched's ordered run, `shuffled=SEED` lets
+the processors of a moment go on in an order that chance has, and `whole` has each entry of a schedule in the log.
 """
 import tomllib
 
@@ -17,8 +18,8 @@ class NoCounterpart(Exception):
 def option_lines(options):
     for option in options:
         name, _, value = option.partition("=")
-        if name == "late":
-            yield "late " + value.replace(":", " ")
+        if name in ("late", "shuffled"):
+            yield f"{name} " + value.replace(":", " ")
         else:
             yield f"parameter {name} {value}" if value else name
 

@@ -9,6 +9,7 @@ import plan
 import rows as table_rows
 from rows import ALL
 
+SECONDS = 600               # a trial build takes its time
 REPLY = re.compile(r"^\d+ xl (\d+) (ok|refused)")
 
 
@@ -48,9 +49,9 @@ def checked(program, domains, work, lines):
 
 def tried(program, beside, texts, options):
     """The verdict on Xen's run of a machine, and the schedule."""
-    model = compare.Model(program, *texts)
+    model = compare.Model(program, *texts, SECONDS)
     text = plan.input_for(*texts, (*ALL, *options, "whole"), model.run.answers)
-    done = compare.call([beside, "-"], text)
+    done = compare.call([beside, "-"], text, SECONDS)
     if done.returncode:
         raise compare.Fault(f"{pathlib.Path(beside).name} ends with {done.returncode}: {done.stderr.strip()}")
     lines = schedule_of(done.stdout, replies_of(model.text), model.machine["horizon_ns"])
@@ -58,7 +59,7 @@ def tried(program, beside, texts, options):
 
 
 def outcome(job):
-    """The verdict on one machine, and the line at which it is no run; a word where Xen's code fails."""
+    """The verdict on one machine, and the line at which it is no run; a word where one of the programs fails."""
     program, beside, texts, options = job
     try:
         verdict, lines = tried(program, beside, texts, options)
@@ -71,28 +72,34 @@ def outcome(job):
 
 
 # Rules of Xen's that are left in, one at a time: then the checker is to say no on some machine of the row.
-PLANTED = ("arinc-grid", "null-keep", "rtds-tie", "rtds-replenish", "credit2-rate", "credit2-refill", "core-sibling", "core-once")
+PLANTED = ("arinc-grid", "null-keep", "rtds-tie", "rtds-replenish", "credit2-rate", "credit2-capcut", "core-sibling", "core-once")
 PLANTED_ROWS = {"core-once": "Credit2, 2 cores of four, caps, stalls, pause"}
 
 
-def outcomes(setting, row, seeds, changes):
-    """The outcome of each machine, with these changes of Xen's code and in its own order. The written machine starts all vCPUs in one moment, so not `apart`."""
+def outcomes(setting, row, seeds, changes, order=""):
+    """The outcome of each machine, with these changes of Xen's code, in its own order or one that chance has. The written machine starts all vCPUs in one moment, so not `apart`."""
     beside = setting.builder.program(changes)
     options = [option for option in row.options if option not in table_rows.BY_RANK]
-    return list(setting.pool.map(outcome, [(setting.program, beside, row.machine(seed), options) for seed in seeds]))
+    jobs = [(setting.program, beside, row.machine(seed), options + [f"{order}={seed}"] * bool(order)) for seed in seeds]
+    return list(setting.pool.map(outcome, jobs))
 
 
 def checks(setting):
     """Xen with the changes of a row, in its own order: is what it does a run of the written machine?"""
     seeds = range(1, max(1, setting.machines // 10) + 1)
-    print(f"\n## Xen before the checker\n\n{len(seeds)} made machines a row. Xen with the changes of the row, in its own order within a moment; `xensched check` says whether "
-          "each entry may come where it stands, with its fields.\n\n| Machines | made | a run | entries |\n|---|---|---|---|")
+    print(f"\n## Xen before the checker\n\n{len(seeds)} made machines a row. Xen with the changes of the row, in its own order within a moment, and with the processors in an order "
+          "that chance has; `xensched check` says whether each entry may come where it stands, with its fields.\n\n"
+          "| Machines | made | a run | entries | a run, shuffled |\n|---|---|---|---|---|")
     chosen = [row for row in table_rows.EQUALITY if setting.rows in row.name]
     for number, row in enumerate(chosen, 1):
         setting.tell(f"checks, row {number} of {len(chosen)}")
-        found = outcomes(setting, row, seeds, (*row.changes, *table_rows.CHECKED))
-        print(f"| {row.name} | {len(seeds)} | {sum(it[0] == 'yes' for it in found)} | {sum(it[1] for it in found if it[0] == 'yes')} |", flush=True)
-        for seed, (verdict, where) in zip(seeds, found):
+        changes = (*row.changes, *table_rows.CHECKED)
+        found = outcomes(setting, row, seeds, changes)
+        # where a processor stalls, one that waits for it may go round and round until it is back, and chance may choose that one for ever
+        shuffled = [] if "stall" in row.lines else outcomes(setting, row, seeds, changes, "shuffled")
+        runs = [sum(it[0] == "yes" for it in part) for part in (found, shuffled)]
+        print(f"| {row.name} | {len(seeds)} | {runs[0]} | {sum(it[1] for it in found if it[0] == 'yes')} | {runs[1] if shuffled else '-'} |", flush=True)
+        for seed, (verdict, where) in zip([*seeds, *seeds], found + shuffled):
             if verdict != "yes":
                 setting.fault(f"checks, {row.name}, machine {seed}: {verdict}: {where}", row, seed, row.changes, row.options)
     planted(setting, {row.name: row for row in chosen})
