@@ -183,9 +183,9 @@ class Reservations(unittest.TestCase):
         part_of(self, row(study, "promises", "d1u0"), promised_ns=6 * MS, had_ns=5 * MS, above_ns=-MS, owed_ns=MS)
         self.assertEqual(len(list(study.promises.faults())), 1)
 
-    def test_what_was_never_seen_to_fail(self):
+    def test_beside_sleepers_and_on_two_cores(self):
         # b sleeps, and may ask for 1 ms of each 10 at once: 1 - 1/10 of it fits into the tenth of the period that nobody reserved, not so with 2 ms
-        for budget, by in [(1000, "no law, never seen to fail"), (2000, "guests that sleep")]:
+        for budget, by in [(1000, "law_reservations_beside_sleepers"), (2000, "guests that sleep")]:
             described = self.fitting(budget, [MS, MS])
             described["domain"][0]["budget_us"] = 8000
             study = promised(described, self.TERMS + "10000000 finish")

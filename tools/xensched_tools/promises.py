@@ -233,9 +233,12 @@ def budgets_of(promises, unit, home):
         reasons.append("guests that sleep")
     if reservations.sum > max(1, len(cores)):
         reasons.append(f"{float(reservations.sum):.6g} cores reserved")
-    is_seen = (reasons == ["guests that sleep"] and reservations.fit_beside_sleepers(unit)
-               or reasons == [f"{len(cores)} cores"] and len(cores) > 1 and reservations.fit_cores(len(cores)))
-    return f"{budget} us of each {period} us", SEEN if is_seen else ", ".join(reasons) or "law_reservations"
+    by = ", ".join(reasons) or "law_reservations"
+    if reasons == ["guests that sleep"] and reservations.fit_beside_sleepers(unit):
+        by = "law_reservations_beside_sleepers"
+    if reasons == [f"{len(cores)} cores"] and len(cores) > 1 and reservations.fit_cores(len(cores)):
+        by = SEEN
+    return f"{budget} us of each {period} us", by
 
 
 class Reservations:
@@ -248,7 +251,8 @@ class Reservations:
         self.sleepers = [unit for unit in self.units if not never_sleeps(study, unit)]
 
     def fit_beside_sleepers(self, unit):
-        """Whether the unit never sleeps, and has time for what sleepers may ask for at once: they keep their budgets while they sleep."""
+        """Whether the unit never sleeps, and its period has time for what sleepers may ask for at once, since they keep their budgets while they sleep. Then so
+        has each longer span, which is what the law asks for."""
         at_once = sum(setting(it.domain, "budget_us") * (1 - self.parts[it]) for it in self.sleepers)
         return unit not in self.sleepers and at_once <= setting(unit.domain, "period_us") * (1 - self.sum)
 
