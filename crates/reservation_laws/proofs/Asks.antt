@@ -1,5 +1,5 @@
 -- What a unit may still ask for up to a moment, whether it sleeps or not: what a nanosecond, a replenishment and a long sleep do to it.
-use Rattle.std.proofs.Common.{◌≡◌, ◌≤◌, ◌<◌, ◌+◌, ◌-◌, ◌*◌, ◌/◌, ◌%◌, ℕ, zero, suc, Bool, true, false, refl, arith, cond, subst, sym, ◌∙◌, ap, mod-lt}
+use Rattle.std.proofs.Common.{◌≡◌, ◌≤◌, ◌<◌, ◌+◌, ◌-◌, ◌*◌, ◌/◌, ◌%◌, ℕ, suc, Bool, true, false, arith, cond, subst, sym, ◌∙◌, ap, mod-lt}
 use Rattle.std.specs.Prelude.{min, nat_le, if◌then◌else◌}
 use Rattle.std.proofs.Math.Decide.{dec_le}
 use Rattle.std.proofs.Math.Nat.{div-mul-le_self, zero-div}

@@ -1,5 +1,5 @@
 -- Where nobody sleeps and the budgets fit one processor, there is room for all that the units may claim.
-use Rattle.std.proofs.Common.{◌≡◌, ◌≤◌, ◌<◌, ◌+◌, ◌-◌, ◌*◌, ◌/◌, ◌^◌, ℕ, zero, suc, Bool, true, false, not, List, [], ◌∷◌, ◌++◌, refl, arith, cond, subst, sym, ◌∙◌, ap, length, inl, inr}
+use Rattle.std.proofs.Common.{◌≡◌, ◌≤◌, ◌<◌, ◌+◌, ◌-◌, ◌*◌, ◌/◌, ℕ, zero, suc, Bool, true, false, not, List, [], ◌∷◌, ◌++◌, refl, arith, cond, subst, sym, ◌∙◌, ap, length, inl, inr}
 use Rattle.std.specs.Prelude.{Option, Some, None, drop, map, replicate, slice_get, sum_by, take, ◌==◌, ◌||◌}
 use Rattle.std.specs.List.{All, AllByRecursion, list_any}
 use Rattle.std.proofs.lemmas.Bool.{cases_Bool}
@@ -32,7 +32,7 @@ use Rattle.sched_laws.proofs.EachPlace.{found_at}
 use Rattle.sched_laws.proofs.Lists.{item_below, some_is}
 use Rattle.sched_laws.proofs.SiblingsLaw.{some_processor}
 use Rattle.term_laws.specs.RtdsTerm.{legs, rtds_in, terms}
-use Rattle.service_laws.specs.Demand.{Job, FitOneProcessor, asked_by, demand, opened}
+use Rattle.service_laws.specs.Demand.{Job, asked_by, demand, opened}
 use Rattle.service_laws.proofs.DemandSums.{opens}
 use Rattle.service_laws.proofs.Passing.{NextMomentLaw}
 use Rattle.undisturbed_laws.specs.Undisturbed.{IsAtHome}

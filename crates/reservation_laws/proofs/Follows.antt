@@ -1,7 +1,7 @@
 -- Each entry of a run follows the units of an RTDS pool of one core, on an undisturbed machine whose reservations fit and whose guests never sleep.
 use Rattle.std.proofs.Common.{◌≡◌, ◌≤◌, ◌<◌, ◌+◌, ◌-◌, ◌*◌, ◌/◌, ◌^◌, ℕ, zero, suc, Bool, true, false, List, [], ◌∷◌, ◌++◌, refl, arith, cond, subst, sym, ◌∙◌, ap, length, inl, inr}
 use Rattle.std.specs.Prelude.{Option, Some, None, is_some, option_map, slice_get, replicate, nat_le, unwrap_or, ◌==◌, ◌&&◌, take, drop, ◌||◌}
-use Rattle.std.specs.List.{All, list_any}
+use Rattle.std.specs.List.{list_any}
 use Rattle.std.proofs.lemmas.Bool.{cases_Bool, eq-eqb}
 use Rattle.std.proofs.lemmas.List.Elements.{recursion_from_All}
 use Rattle.std.proofs.lemmas.Nat.{mul-le, div-mul-add}
@@ -49,7 +49,7 @@ use Rattle.sched_laws.specs.StateLaws.{state_after}
 use Rattle.sched_laws.proofs.Choices.{same_unit_same}
 use Rattle.sched_laws.proofs.Counts.{is_that_unit, same_unit_refl}
 use Rattle.sched_laws.proofs.EachPlace.{by_cond, found_at}
-use Rattle.sched_laws.proofs.Lists.{is_some_at, item_below, some_is, test_at-some}
+use Rattle.sched_laws.proofs.Lists.{is_some_at, some_is, test_at-some}
 use Rattle.sched_laws.proofs.Kept.{passes_at}
 use Rattle.sched_laws.proofs.Opened.{read_pools}
 use Rattle.sched_laws.proofs.Reached.{core_is_whole, home_of_its_core, home_of_its_domain, one_place}
@@ -59,7 +59,7 @@ use Rattle.state_ranges.proofs.Queue.{unit_is_there}
 use Rattle.term_laws.specs.Term.{late_of}
 use Rattle.term_laws.specs.RtdsTerm.{taken_by}
 use Rattle.term_laws.proofs.UnitTracks.{renews}
-use Rattle.service_laws.specs.Demand.{Job, FitOneProcessor}
+use Rattle.service_laws.specs.Demand.{Job}
 use Rattle.service_laws.specs.Passing.{IsBeforeNext, Passes, at_moment}
 use Rattle.service_laws.proofs.ChosenInRuns.{fresh_core}
 use Rattle.service_laws.proofs.EndsSums.{next_rises}

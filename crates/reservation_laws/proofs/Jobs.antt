@@ -1,18 +1,10 @@
 -- The reservation of an RTDS unit, as numbers, from its record: what is left to it up to a moment.
-use Rattle.std.proofs.Common.{◌≡◌, ◌+◌, ◌-◌, ℕ, zero, suc, Bool, true, false, List, [], ◌∷◌, ◌++◌, refl, arith, cond, sym, ◌∙◌, ap, append_assoc, inl, inr}
-use Rattle.std.specs.Prelude.{Option, Some, None, map, nat_lt, ◌==◌, slice_get}
-use Rattle.std.specs.List.{AllByRecursion}
-use Rattle.std.proofs.lemmas.List.{map-append}
-use Rattle.std.proofs.lemmas.Bool.{cases_Bool}
-use Rattle.sched_base.specs.Numbers.{domain as domain_number}
-use Rattle.sched_base.specs.declared.UnitId.{UnitId}
+use Rattle.std.proofs.Common.{◌≡◌, ◌+◌, ◌-◌, ℕ, Bool, true, false, refl, arith, cond, sym, ◌∙◌, ap}
+use Rattle.std.specs.Prelude.{Option, Some, None, nat_lt, ◌==◌}
 use Rattle.sched_base.specs.RtdsNumbers.{burned_left, burned_level}
 use Rattle.sched_model.specs.declared.state.RtdsUnit.{RtdsUnit}
-use Rattle.sched_model.specs.Places.{change_at, change_item, same_unit}
-use Rattle.sched_model.specs.EligibleUnits.{rtds_unit_at}
-use Rattle.sched_model.specs.Rtds.{change_unit, unit_burned_to}
-use Rattle.sched_laws.proofs.Choices.{same_unit_same}
-use Rattle.service_laws.specs.Demand.{Job, fractions}
+use Rattle.sched_model.specs.Rtds.{unit_burned_to}
+use Rattle.service_laws.specs.Demand.{Job}
 
 -- for how long the unit has run since it was charged
 abbrev pub since : ℕ → Option ℕ → ℕ

@@ -1,9 +1,9 @@
 -- The records of an RTDS pool at the opening, as the file gives them.
-use Rattle.std.proofs.Common.{◌≡◌, ◌<◌, ◌+◌, ◌-◌, ◌/◌, ℕ, zero, suc, Bool, true, false, List, [], ◌∷◌, ◌++◌, refl, arith, cond, subst, sym, ◌∙◌, ap, append_assoc, length, ◌≤◌, inl, inr}
-use Rattle.std.specs.Prelude.{Option, Some, None, map, replicate, slice_get, ◌==◌, ◌&&◌, sum_by}
+use Rattle.std.proofs.Common.{◌≡◌, ◌<◌, ◌+◌, ◌-◌, ◌/◌, ℕ, zero, suc, Bool, true, false, List, [], ◌∷◌, ◌++◌, refl, arith, cond, subst, sym, ◌∙◌, ap, append_assoc, length, ◌≤◌, inr}
+use Rattle.std.specs.Prelude.{Option, Some, None, replicate, slice_get, ◌==◌, ◌&&◌, sum_by}
 use Rattle.std.specs.List.{AllByRecursion}
 use Rattle.std.proofs.lemmas.List.Sums.{sum_by-cons}
-use Rattle.std.proofs.lemmas.List.{map-append, length-map, length-append}
+use Rattle.std.proofs.lemmas.List.{length-map, length-append}
 use Rattle.sched_base.specs.Numbers.{domain as domain_number}
 use Rattle.sched_base.specs.declared.Cores.{Cores}
 use Rattle.sched_base.specs.declared.UnitId.{UnitId}
@@ -31,8 +31,8 @@ use Rattle.reservation_laws.specs.Reservations.{reservation}
 use Rattle.reservation_laws.specs.Sleepers.{claim, claims, domain_claims, may_sleep}
 use Rattle.reservation_laws.proofs.Asks.{ask, room_of, sleeper_most, waker_most}
 use Rattle.reservation_laws.proofs.Jobs.{first_left, job, since}
-use Rattle.reservation_laws.proofs.Tracks.{Base, KeepsTerms, OwnFits, Watch, asks, rooms}
-use Rattle.reservation_laws.proofs.UnitSums.{items_sum, number, sum_from, sum_le, units_sum}
+use Rattle.reservation_laws.proofs.Tracks.{Base, Watch, asks, rooms}
+use Rattle.reservation_laws.proofs.UnitSums.{items_sum, number, sum_from, sum_le}
 
 -- the queue and the sets of cores change no record
 queued_records : (g : ℕ) (u : UnitId) (pool : Pool) → (pool_with_queued_if_off g u pool).scheduler.records ≡ pool.scheduler.records

@@ -1,6 +1,6 @@
 -- Each unit of the pool is on the core for its whole budget in each of its terms.
 use Rattle.std.proofs.Common.{◌≡◌, ◌≤◌, ◌+◌, ◌-◌, ℕ, Bool, false, List, [], ◌∷◌, refl, arith, cond, subst, sym, ◌∙◌, ap, inl, inr, true, ◌<◌}
-use Rattle.std.specs.Prelude.{Option, Some, None, option_map, map, slice_get}
+use Rattle.std.specs.Prelude.{Option, Some, None, option_map, slice_get}
 use Rattle.std.specs.List.{All, AllByRecursion}
 use Rattle.std.proofs.lemmas.Bool.{cases_Bool}
 use Rattle.std.proofs.lemmas.List.Elements.{All-from_recursion}

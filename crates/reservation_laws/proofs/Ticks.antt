@@ -1,7 +1,6 @@
 -- A nanosecond that passes at a core with the most urgent unit leaves time for what is asked.
-use Rattle.std.proofs.Common.{◌≡◌, ◌≤◌, ◌<◌, ◌+◌, ◌-◌, ◌⊎◌, ℕ, suc, Bool, true, false, List, [], ◌∷◌, ◌++◌, refl, arith, cond, subst, sym, ◌∙◌, ap, inl, inr}
-use Rattle.std.specs.Prelude.{Option, Some, None, map, nat_lt, ◌==◌, ◌&&◌, ◌||◌}
-use Rattle.std.specs.List.{AllByRecursion}
+use Rattle.std.proofs.Common.{◌≡◌, ◌≤◌, ◌<◌, ◌+◌, ◌-◌, ◌⊎◌, ℕ, suc, Bool, true, false, List, refl, arith, cond, subst, sym, ◌∙◌, ap, inl, inr}
+use Rattle.std.specs.Prelude.{Option, Some, None, nat_lt, ◌==◌, ◌&&◌, ◌||◌}
 use Rattle.std.proofs.lemmas.Bool.{cases_Bool}
 use Rattle.std.proofs.Math.Decide.{dec_le}
 use Rattle.sched_base.specs.declared.Moment.{Moment}
@@ -11,12 +10,11 @@ use Rattle.sched_model.specs.Places.{same_unit}
 use Rattle.sched_model.specs.EligibleUnits.{rtds_unit_at}
 use Rattle.sched_model.specs.Rtds.{is_record_before}
 use Rattle.sched_laws.proofs.Choices.{same_unit_same}
-use Rattle.sched_base.proofs.Bools.{clash}
 use Rattle.service_laws.specs.Demand.{Job}
 use Rattle.sched_laws.proofs.EachPlace.{by_cond}
 use Rattle.reservation_laws.proofs.Asks.{ask, asked_none, room_of, sleeper_falls, sleeper_most, sleeper_served, waker_falls, waker_served}
 use Rattle.reservation_laws.proofs.Jobs.{since, first_left, job}
-use Rattle.reservation_laws.proofs.Tracks.{Base, KeepsTerms, OwnFits, OwnRuns, Runs, Tracks, Watch, asks, rooms}
+use Rattle.reservation_laws.proofs.Tracks.{Base, OwnFits, Runs, Tracks, Watch, asks, rooms}
 use Rattle.reservation_laws.proofs.UnitSums.{sum_gain, sum_le}
 
 -- at t no term of a unit that never sleeps is over, nor that of the core's own, and the core is due later; a unit that never sleeps and has budget left is

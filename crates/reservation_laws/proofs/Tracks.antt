@@ -16,9 +16,9 @@ use Rattle.sched_laws.proofs.Choices.{same_unit_same}
 use Rattle.sched_laws.proofs.Counts.{same_unit_refl}
 use Rattle.sched_base.proofs.Bools.{clash}
 use Rattle.sched_laws.proofs.RtdsUnits.{rtds_unit-same, rtds_unit-other}
-use Rattle.service_laws.specs.Demand.{Job, asked_by, renewed}
+use Rattle.service_laws.specs.Demand.{Job, asked_by}
 use Rattle.reservation_laws.proofs.Asks.{ask, room_of, asked_renewed, next_later, sleeper_renewed, waker_falls}
-use Rattle.reservation_laws.proofs.Jobs.{since, first_left, job, job_charged, job_set}
+use Rattle.reservation_laws.proofs.Jobs.{since, job, job_charged, job_set}
 use Rattle.reservation_laws.proofs.UnitSums.{units_sum, sum_change}
 
 -- whom a proof follows: a unit that never sleeps, its period, and which units may sleep

@@ -1,5 +1,5 @@
 -- What an RTDS reservation promises on a pool of one core to a unit that never sleeps, beside others that may.
-use Rattle.std.specs.Prelude.{ℕ, ◌+◌, ◌*◌, ◌/◌, ◌%◌, ◌==◌, ◌≡◌, ◌≤◌, Bool, true, false, not, List, [], ◌∷◌, Option, Some, None, drop, length, min, slice_get, sum_by, take, if◌then◌else◌}
+use Rattle.std.specs.Prelude.{ℕ, ◌+◌, ◌*◌, ◌/◌, ◌%◌, ◌==◌, ◌≡◌, ◌≤◌, Bool, false, not, List, [], ◌∷◌, Some, drop, length, min, slice_get, sum_by, take, if◌then◌else◌}
 use Rattle.std.specs.List.{All, list_any}
 use Rattle.sched_base.specs.declared.Span.{Span}
 use Rattle.sched_base.specs.declared.UnitId.{UnitId}
