@@ -514,7 +514,7 @@ module _ (m : Machine) (checked : IsChecked m) (undisturbed : IsUndisturbed m) (
         let deadline_is : x.0.deadline ≡ j.deadline = ap (λ (k : Job). k.deadline) x.2 in
         let seen : replenished_unit s.now u (home_pool m s w) ≡ Some z = ap (λ (p : Pool). replenished_unit s.now u p) pool ∙ ap (λ (y : Records). unit_rtds_record (records_after_replenish y s.now u) u) a.records ∙ now in
         let told : event_of m s s.now w ≡ event.Repl u (moment (z.deadline - z.period)) (moment z.deadline) (span z.budget) z.extra = ap (λ (o : Option RtdsUnit). event.Repl u (elim o as (λ _. Moment) [ None ↦ moment 0 | Some y ↦ moment (y.deadline - y.period) ]) (elim o as (λ _. Moment) [ None ↦ moment 0 | Some y ↦ moment y.deadline ])
-            (elim o as (λ _. Span) [ None ↦ span 0 | Some y ↦ span y.budget ]) (elim o as (λ _. Bool) [ None ↦ false | Some y ↦ y.extra ])) seen in
+        (elim o as (λ _. Span) [ None ↦ span 0 | Some y ↦ span y.budget ]) (elim o as (λ _. Bool) [ None ↦ false | Some y ↦ y.extra ])) seen in
         record {
           over = omega (arith, over, deadline_is);
           same = moved.now;

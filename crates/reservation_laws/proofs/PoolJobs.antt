@@ -227,7 +227,14 @@ module _ (fs : Watch) (g r t : ℕ) (may : Changes) (cur : Option UnitId) (look 
     replenishes = h_replenishes;
     dues = λ k u x old pool on is. h_core k (pools.due_within t x.budget) pool (λ c. record { cur = refl; due = falls x.budget c.due });
     refills = λ d pool on here. record {
-      domains = here.domains; records = ap (λ (x : Records). policy.records_after_refill x t d) here.records; core = here.core; at = here.at; only = here.only; tracks = here.tracks; has = here.has; faces = here.faces;
+      domains = here.domains;
+      records = ap (λ (x : Records). policy.records_after_refill x t d) here.records;
+      core = here.core;
+      at = here.at;
+      only = here.only;
+      tracks = here.tracks;
+      has = here.has;
+      faces = here.faces;
     };
   }
 

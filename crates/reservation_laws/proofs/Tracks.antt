@@ -359,8 +359,11 @@ module _ (fs : Watch) (t : ℕ) (u : UnitId) (x : RtdsUnit) (domains : List (Opt
               let low = r.low in
               let past = r.past in
               let budget : (unit_after_replenish t x).left ≡ x.budget = (charged t x).next_budget ∙ keeps.budget in
-              record { unit = unit_after_replenish t x; at = subst (λ (k : UnitId). rtds_unit_at next k ≡ Some (unit_after_replenish t x)) e now;
-                runs = record { from = t; burned = still_runs t r.from x r.burned; past = omega arith; at = r.at; is = r.is; low = omega (arith, full, low, past, budget) } })
+              record {
+                unit = unit_after_replenish t x;
+                at = subst (λ (k : UnitId). rtds_unit_at next k ≡ Some (unit_after_replenish t x)) e now;
+                runs = record { from = t; burned = still_runs t r.from x r.burned; past = omega arith; at = r.at; is = r.is; low = omega (arith, full, low, past, budget) };
+              })
           | inr other ↦ record { unit = o.unit; at = rtds_unit-other u v (unit_after_replenish t) domains other ∙ o.at; runs = o.runs }
         ]
 
