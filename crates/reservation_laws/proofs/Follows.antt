@@ -1,7 +1,7 @@
 -- Each entry of a run follows the units of an RTDS pool of one core, on an undisturbed machine whose reservations fit and whose guests never sleep.
 use Rattle.std.proofs.Common.{◌≡◌, ◌≤◌, ◌<◌, ◌+◌, ◌-◌, ◌*◌, ◌/◌, ◌^◌, ℕ, zero, suc, Bool, true, false, List, [], ◌∷◌, ◌++◌, refl, arith, cond, subst, sym, ◌∙◌, ap, length, inl, inr}
-use Rattle.std.specs.Prelude.{Option, Some, None, is_some, option_map, slice_get, replicate, nat_le, unwrap_or, ◌==◌, ◌&&◌}
-use Rattle.std.specs.List.{All}
+use Rattle.std.specs.Prelude.{Option, Some, None, is_some, option_map, slice_get, replicate, nat_le, unwrap_or, ◌==◌, ◌&&◌, take, drop, ◌||◌}
+use Rattle.std.specs.List.{list_any}
 use Rattle.std.proofs.lemmas.Bool.{cases_Bool, eq-eqb}
 use Rattle.std.proofs.lemmas.List.Elements.{recursion_from_All}
 use Rattle.std.proofs.lemmas.Nat.{mul-le, div-mul-add}
@@ -10,7 +10,7 @@ use Rattle.sched_base.specs.Numbers.{moment, span, core as core_number}
 use Rattle.sched_base.specs.declared.Moment.{Moment}
 use Rattle.sched_base.specs.declared.Span.{Span}
 use Rattle.sched_base.specs.declared.UnitId.{UnitId}
-use Rattle.sched_base.proofs.Bools.{and_left, and_right, clash}
+use Rattle.sched_base.proofs.Bools.{and_left, and_right, clash, not_false}
 use Rattle.sched_base.proofs.Lists.{AllByRecursion-map, each_get}
 use Rattle.sched_model.specs.declared.action.Action.{Action}
 use Rattle.sched_model.specs.declared.action.Action.TheVariants.{Stall, Xl, Moved, DomMoved, Wake, Block, Slice, Repl, Refill, Arrive, Decide, Leave, Save}
@@ -49,7 +49,7 @@ use Rattle.sched_laws.specs.StateLaws.{state_after}
 use Rattle.sched_laws.proofs.Choices.{same_unit_same}
 use Rattle.sched_laws.proofs.Counts.{is_that_unit, same_unit_refl}
 use Rattle.sched_laws.proofs.EachPlace.{by_cond, found_at}
-use Rattle.sched_laws.proofs.Lists.{is_some_at, item_below, some_is, test_at-some}
+use Rattle.sched_laws.proofs.Lists.{is_some_at, some_is, test_at-some}
 use Rattle.sched_laws.proofs.Kept.{passes_at}
 use Rattle.sched_laws.proofs.Opened.{read_pools}
 use Rattle.sched_laws.proofs.Reached.{core_is_whole, home_of_its_core, home_of_its_domain, one_place}
@@ -59,7 +59,7 @@ use Rattle.state_ranges.proofs.Queue.{unit_is_there}
 use Rattle.term_laws.specs.Term.{late_of}
 use Rattle.term_laws.specs.RtdsTerm.{taken_by}
 use Rattle.term_laws.proofs.UnitTracks.{renews}
-use Rattle.service_laws.specs.Demand.{Job, FitOneProcessor}
+use Rattle.service_laws.specs.Demand.{Job}
 use Rattle.service_laws.specs.Passing.{IsBeforeNext, Passes, at_moment}
 use Rattle.service_laws.proofs.ChosenInRuns.{fresh_core}
 use Rattle.service_laws.proofs.EndsSums.{next_rises}
@@ -70,13 +70,15 @@ use Rattle.undisturbed_laws.specs.Undisturbed.{IsAtHome, IsUndisturbed, NeverSle
 use Rattle.undisturbed_laws.proofs.Opened.{configured_opening}
 use Rattle.undisturbed_laws.proofs.Runs.{configured_in_runs, only_pools, pool_as_configured}
 use Rattle.undisturbed_laws.proofs.Units.{core_there, never_sleeps, only_core}
-use Rattle.reservation_laws.specs.Reservations.{reservations, NeverSleeps as DomainNeverSleeps}
+use Rattle.reservation_laws.specs.Reservations.{reservation}
+use Rattle.reservation_laws.specs.Sleepers.{claims, may_sleep}
 use Rattle.reservation_laws.proofs.Jobs.{job}
-use Rattle.reservation_laws.proofs.Openings.{AreRtds, IsFresh, fresh_in, homes, homes_base, records_from}
+use Rattle.reservation_laws.proofs.Openings.{AreRtds, IsFresh, claims_from, fresh_in, homes, homes_base, period_in, records_from}
+use Rattle.reservation_laws.proofs.UnitSums.{number}
 use Rattle.reservation_laws.proofs.Quiets.{Facts, calm}
 use Rattle.reservation_laws.proofs.StateJobs.{At, Stepped, stepped}
 use Rattle.reservation_laws.proofs.Ticks.{IsCalm, idle_job, tick}
-use Rattle.reservation_laws.proofs.Tracks.{Tracks, face, renewed_job}
+use Rattle.reservation_laws.proofs.Tracks.{Tracks, Watch, face, renewed_job, rooms}
 use Rattle.reservation_laws.proofs.RunJobs.{IsReachedBy, quiet_late, quiet_renews, faced, left_falls, LeftGoes, IsRenewed, Goes, pool_after, decided_now, renewed_records}
 
 params_are : (config : PoolConfig) (kind : SchedKind) (params : PoolParams) (c : Config) → kind ≡ kinds.Rtds → PoolParamsPass c kind params → params ≡ pool_params.Rtds
@@ -89,7 +91,7 @@ params_are config kinds.Arinc653 params c is pass = absurd (cc)
 params_are config kinds.Null params c is pass = absurd (cc)
 
 -- a unit's first vCPU is one of its domain
-first_vcpu : (n g count : ℕ) → 0 < g → n < (count + g - 1) / g → n * g < count
+pub first_vcpu : (n g count : ℕ) → 0 < g → n < (count + g - 1) / g → n * g < count
 first_vcpu n g count some low =
     let a : (count + g - 1) / g * g ≤ count + g - 1 = div-mul-le_self (count + g - 1) g in
     let b : suc n * g ≤ (count + g - 1) / g * g = mul-le (suc n) g ((count + g - 1) / g) g (omega (arith, low)) (omega arith) in
@@ -107,14 +109,55 @@ units_at : (domains : List (Option (List RtdsUnit))) (u : UnitId) (o : Option (L
 units_at domains u None x at is = absurd (cc)
 units_at domains u (Some units) x at is = (units, at, is)
 
+-- a part of a list that has what passes a test
+part_found : {X : Type 0} (test : X → Bool) (a b : ℕ) (xs : List X) → list_any test (take a (drop b xs)) ≡ true → (j : ℕ) × (x : X) × (slice_get xs j ≡ Some x) × (test x ≡ true) × (b ≤ j) × (j < b + a)
+part_found test zero zero [] some = absurd (cc)
+part_found test (suc a) zero [] some = absurd (cc)
+part_found test zero (suc b) [] some = absurd (cc)
+part_found test (suc a) (suc b) [] some = absurd (cc)
+part_found test zero zero (x ∷ xs) some = absurd (cc)
+part_found test (suc a) zero (x ∷ xs) some =
+    elim (cases_Bool (test x)) [
+      | inl is ↦ (0, x, refl, is, omega arith, omega arith)
+      | inr other ↦ (
+          let rest : list_any test (take a (drop 0 xs)) ≡ true = or_later (test x) (list_any test (take a xs)) other some in
+          let r = part_found test a 0 xs rest in
+          let high = r.5 in
+          (suc r.0, r.1, r.2, r.3, omega arith, omega (arith, high)))
+    ]
+  where
+    or_later : (p q : Bool) → p ≡ false → (p || q) ≡ true → q ≡ true
+    or_later true q is some2 = absurd (cc)
+    or_later false q is some2 = some2
+part_found test zero (suc b) (x ∷ xs) some =
+    let r = part_found test zero b xs some in
+    let low = r.4 in
+    let high = r.5 in
+    (suc r.0, r.1, r.2, r.3, omega (arith, low), omega (arith, high))
+part_found test (suc a) (suc b) (x ∷ xs) some =
+    let r = part_found test (suc a) b xs some in
+    let low = r.4 in
+    let high = r.5 in
+    (suc r.0, r.1, r.2, r.3, omega (arith, low), omega (arith, high))
+
+-- a unit that never sleeps has a vCPU with an empty script
+empty_script : (script : List Span) → (length script == 0) ≡ true → script ≡ []
+empty_script [] is = refl
+empty_script (x ∷ xs) is = absurd (grind (arith, is))
+
+wakes_for_ever : (m : Machine) → 0 < m.config.granularity → (u : UnitId) (c : DomConfig) → slice_get m.config.domains u.dom.0 ≡ Some c → may_sleep m.config.granularity c u.n ≡ false → NeverSleeps m u
+wakes_for_ever m some u c there wakes =
+    let any : list_any (λ (script : List Span). length script == 0) (take m.config.granularity (drop (u.n * m.config.granularity) c.guests)) ≡ true = not_false (list_any (λ (script : List Span). length script == 0) (take m.config.granularity (drop (u.n * m.config.granularity) c.guests))) wakes in
+    let f = part_found (λ (script : List Span). length script == 0) m.config.granularity (u.n * m.config.granularity) c.guests any in
+    let low = f.4 in
+    let high = f.5 in
+    let split : f.0 ≡ u.n * m.config.granularity + (f.0 - u.n * m.config.granularity) = omega (arith, low) in
+    let place : f.0 / m.config.granularity ≡ u.n = ap (λ (k : ℕ). k / m.config.granularity) split ∙ div-mul-add u.n m.config.granularity (f.0 - u.n * m.config.granularity) (omega (arith, low, high)) in
+    record { config = c; there = there; n = f.0; script = f.2 ∙ ap (λ (y : List Span). Some y) (empty_script f.1 f.3); place = place }
+
 module _ (m : Machine) (checked : IsChecked m) (undisturbed : IsUndisturbed m) (law : NextMomentLaw m) (i r : ℕ) (config : PoolConfig) (there : slice_get m.config.pools i ≡ Some config) (one : config.cores ≡ 2 ^ r) (kind : config.kind ≡ kinds.Rtds)
-    (awake : All (λ (domain : DomConfig). domain.home.0 ≡ i → DomainNeverSleeps domain) m.config.domains) (fit : FitOneProcessor (reservations m.config.granularity i m.config.domains)) where
-  abbrev pub g : ℕ
-  g = m.config.granularity
-
-  abbrev pub fs : List (ℕ × ℕ)
-  fs = reservations m.config.granularity i m.config.domains
-
+    (fs : Watch) (sleeps_is : (u : UnitId) (c : DomConfig) → slice_get m.config.domains u.dom.0 ≡ Some c → fs.sleeps u ≡ may_sleep m.config.granularity c u.n)
+    (room : (span : ℕ) → fs.period ≤ span → claims m.config.granularity i m.config.domains span ≤ span) (period_is : (c : DomConfig) → slice_get m.config.domains fs.unit.dom.0 ≡ Some c → (reservation c.params).1 ≡ fs.period) where
   g_some : 0 < m.config.granularity
   g_some = some_processor m.config.granularity checked.config.granularity
 
@@ -134,6 +177,13 @@ module _ (m : Machine) (checked : IsChecked m) (undisturbed : IsUndisturbed m) (
     pub at : At i r fs (opening m)
     pub nobody : at.core.cur ≡ None
     pub fresh : (u : UnitId) (x : RtdsUnit) → rtds_unit_at at.domains u ≡ Some x → IsFresh m.config.granularity x
+    pub low : (u : UnitId) (x : RtdsUnit) → rtds_unit_at at.domains u ≡ Some x → (c : DomConfig) → slice_get m.config.domains u.dom.0 ≡ Some c → u.n < configured_units m.config.granularity c
+
+  room_here : (span : ℕ) → fs.period ≤ span → rooms fs span (homes m.config.granularity i m.config.domains) ≤ span
+  room_here span low =
+      let e = claims_from m.config.granularity fs span i 0 m.config.domains pass (λ j c at k. sleeps_is (number (0 + j) k) c (let z : j ≡ 0 + j = omega arith in subst (λ (n : ℕ). slice_get m.config.domains n ≡ Some c) z at)) in
+      let r = room span low in
+      omega (arith, e, r)
 
   pub begins : Begins
   begins =
@@ -159,18 +209,23 @@ module _ (m : Machine) (checked : IsChecked m) (undisturbed : IsUndisturbed m) (
           has = core.1;
           only = only_core m i r config pool stands.meets one;
           tracks = record {
-            base = homes_base m.config.granularity i m.config.domains pass fit;
+            base = homes_base m.config.granularity fs i m.config.domains pass room_here (λ x at_x. (let p = period_in m.config.granularity i m.config.domains pass fs.unit x at_x in p.2 ∙ period_is p.0 p.1));
             own = λ u is_u. absurd (let e : None ≡ Some u = sym none ∙ is_u in cc);
             idle = λ u x at_x not. (fresh_in m.config.granularity i m.config.domains pass u x at_x).burned;
           };
         };
         nobody = none;
         fresh = fresh_in m.config.granularity i m.config.domains pass;
+        low = λ u x at_x c at_c. (
+            let p = period_in m.config.granularity i m.config.domains pass u x at_x in
+            let here_c = p.1 in
+            let same_c : p.0 ≡ c = cc in
+            subst (λ (e : DomConfig). u.n < configured_units m.config.granularity e) same_c p.3);
       }
 
   -- what is known of a unit with a record, in a state of a run
   record UnitKnown (s : State) (pool : Pool) (u : UnitId) : Type 0 where
-    runs : may_unit_run m.config.granularity pool u ≡ true
+    runs : fs.sleeps u ≡ false → may_unit_run m.config.granularity pool u ≡ true
     home : home_pool_of_domain s u.dom.0 ≡ Some i
     listed : 1 ≤ times u (units_from m.config.granularity 0 m.config.domains)
 
@@ -189,21 +244,15 @@ module _ (m : Machine) (checked : IsChecked m) (undisturbed : IsUndisturbed m) (
       let count : length found.0 ≡ configured_units m.config.granularity c = subst (λ (units : List RtdsUnit). length units ≡ configured_units m.config.granularity c) same own.meets.count in
       let low : u.n < configured_units m.config.granularity c = (let l = found_below found.0 u.n x found.2 in omega (arith, l, count)) in
       let inside : u.n * m.config.granularity < length c.guests = first_vcpu u.n m.config.granularity (length c.guests) g_some low in
-      let script = item_below c.guests (u.n * m.config.granularity) inside in
-      let sleepless : DomainNeverSleeps c = each_get (λ (domain : DomConfig). domain.home.0 ≡ i → DomainNeverSleeps domain) m.config.domains u.dom.0 c (recursion_from_All (λ (domain : DomConfig). domain.home.0 ≡ i → DomainNeverSleeps domain) m.config.domains awake) home.1.there home.1.home in
-      let empty : script.0 ≡ [] = each_get (λ (y : List Span). y ≡ []) c.guests (u.n * m.config.granularity) script.0 (recursion_from_All (λ (y : List Span). y ≡ []) c.guests sleepless) script.1 in
-      let zero_rest : u.n * m.config.granularity ≡ u.n * m.config.granularity + 0 = omega arith in
-      let place : (u.n * m.config.granularity) / m.config.granularity ≡ u.n = ap (λ (k : ℕ). k / m.config.granularity) zero_rest ∙ div-mul-add u.n m.config.granularity 0 g_some in
-      let never : NeverSleeps m u = record { config = c; there = home.1.there; n = u.n * m.config.granularity; script = script.1 ∙ ap (λ (y : List Span). Some y) empty; place = place } in
       let domain = stays.domains.own u.dom.0 c home.1 in
       record {
-        runs = never_sleeps m checked i config a.pool stays u never c home.1;
+        runs = λ wakes. never_sleeps m checked i config a.pool stays u (wakes_for_ever m g_some u c home.1.there (sym (sleeps_is u c home.1.there) ∙ wakes)) c home.1;
         home = home_of_its_domain m checked before run i u.dom.0 (test_at-some s.pools i (λ p. is_some (at_place p.domains u.dom.0)) a.pool a.at (is_some_at (at_place a.pool.domains u.dom.0) domain.item domain.at));
         listed = unit_is_there m g_some u (record { config = c; at = home.1.there; inside = inside });
       }
 
   facts_after : (before : List Entry) → IsRun m before → (last : Entry) → IsNext m (after_entries m (run_start m) before) last → (a : At i r fs (state_after m before)) → (t : ℕ) → Passes m (state_after m before) last.event t
-      → Facts m (at_moment t (state_after m before)) i r a.pool a.domains a.core
+      → Facts fs m (at_moment t (state_after m before)) i r a.pool a.domains a.core
   facts_after before run last next a t passes =
       let s : State = state_after m before in
       let more : IsRun m (before ++ last ∷ []) = IsRunFrom-append m (run_start m) before last run next in
@@ -225,9 +274,9 @@ module _ (m : Machine) (checked : IsChecked m) (undisturbed : IsUndisturbed m) (
         on_time = on_time_in m checked (at_moment t s) quiet;
       }
 
-  calm_at : (f : Reached) → IsReachedBy m f → (last : Entry) → IsNext m f last → (a : At i r fs f.state) → (t : ℕ) → Passes m f.state last.event t → IsCalm t a.core.cur a.core.due a.domains
-  calm_at f by = subst (λ (x : Reached). (last : Entry) → IsNext m x last → (a : At i r fs x.state) → (t : ℕ) → Passes m x.state last.event t → IsCalm t a.core.cur a.core.due a.domains) by.leads
-      (λ last next a t passes. calm m (at_moment t (state_after m by.before)) i r a.pool a.domains a.core (facts_after by.before by.run last next a t passes))
+  calm_at : (f : Reached) → IsReachedBy m f → (last : Entry) → IsNext m f last → (a : At i r fs f.state) → (t : ℕ) → Passes m f.state last.event t → IsCalm fs t a.core.cur a.core.due a.domains
+  calm_at f by = subst (λ (x : Reached). (last : Entry) → IsNext m x last → (a : At i r fs x.state) → (t : ℕ) → Passes m x.state last.event t → IsCalm fs t a.core.cur a.core.due a.domains) by.leads
+      (λ last next a t passes. calm fs m (at_moment t (state_after m by.before)) i r a.pool a.domains a.core (facts_after by.before by.run last next a t passes))
 
   home_at : (f : Reached) → IsReachedBy m f → (a : At i r fs f.state) → (u : UnitId) (x : RtdsUnit) → rtds_unit_at a.domains u ≡ Some x → home_pool_of_domain f.state u.dom.0 ≡ Some i
   home_at f by = subst (λ (y : Reached). (a : At i r fs y.state) → (u : UnitId) (x : RtdsUnit) → rtds_unit_at a.domains u ≡ Some x → home_pool_of_domain y.state u.dom.0 ≡ Some i) by.leads (λ a u x at. (unit_known by.before by.run a u x at).home)
@@ -257,16 +306,16 @@ module _ (m : Machine) (checked : IsChecked m) (undisturbed : IsUndisturbed m) (
       (λ action on. only_pools m undisturbed (state_after m by.before) (state_after m by.before).now (configured_in_runs m checked undisturbed by.before by.run) action on)
 
   -- nanoseconds pass
-  ticks : (cur : Option UnitId) (due : Option Moment) (domains : List (Option (List RtdsUnit))) (k t : ℕ) → ((t2 : ℕ) → t ≤ t2 → t2 < t + k → IsCalm t2 cur due domains) → Tracks fs t cur due domains → Tracks fs (t + k) cur due domains
+  ticks : (cur : Option UnitId) (due : Option Moment) (domains : List (Option (List RtdsUnit))) (k t : ℕ) → ((t2 : ℕ) → t ≤ t2 → t2 < t + k → IsCalm fs t2 cur due domains) → Tracks fs t cur due domains → Tracks fs (t + k) cur due domains
   ticks cur due domains zero t calms here = (let e : t ≡ t + 0 = omega arith in subst (λ (n : ℕ). Tracks fs n cur due domains) e here)
   ticks cur due domains (suc k) t calms here =
       let e : suc t + k ≡ t + suc k = omega arith in
       subst (λ (n : ℕ). Tracks fs n cur due domains) e
-      (ticks cur due domains k (suc t) (λ t2 low high. calms t2 (omega (arith, low)) (omega (arith, high))) (tick fs fit t due domains cur here (calms t (omega arith) (omega arith))))
+      (ticks cur due domains k (suc t) (λ t2 low high. calms t2 (omega (arith, low)) (omega (arith, high))) (tick fs t due domains cur here (calms t (omega arith) (omega arith))))
 
   -- an event without an action
-  goes_quiet : (f : Reached) → IsReachedBy m f → (e : Entry) → IsNext m f e → event_action e.event ≡ None → (a : At i r fs f.state) (u : UnitId) → Goes m i r fs u f.state a e.event (after_quiet (named_next_moment e.event) f).state
-  goes_quiet f by e next none a u = go (named_next_moment e.event) refl
+  goes_quiet : (f : Reached) → IsReachedBy m f → (e : Entry) → IsNext m f e → event_action e.event ≡ None → (a : At i r fs f.state) (u : UnitId) → fs.sleeps u ≡ false → Goes m i r fs u f.state a e.event (after_quiet (named_next_moment e.event) f).state
+  goes_quiet f by e next none a u wakes = go (named_next_moment e.event) refl
     where
       late : {X : Type 0} (k : ℕ) → late_of r e.event ≡ Some k → X
       late k is = (let no : None ≡ Some k = sym (quiet_late r e.event none) ∙ is in absurd (cc))
@@ -280,7 +329,7 @@ module _ (m : Machine) (checked : IsChecked m) (undisturbed : IsUndisturbed m) (
         stays = λ is. refl;
         decides = λ k is. late k is;
         left = λ is j at. record { job = j; is = at; deadline = refl; few = omega arith; in_time = inl refl };
-        none = λ no. (quiet_renews u e.event none, no);
+        none = λ v at_home no. (quiet_renews v e.event none, no);
         renewed = λ is j at. renewal is;
       }
       go (Some n) named =
@@ -298,7 +347,7 @@ module _ (m : Machine) (checked : IsChecked m) (undisturbed : IsUndisturbed m) (
                 let x = faced f.state.now a.domains u (rtds_unit_at a.domains u) j refl at in
                 let record_at : rtds_unit_at a.domains u ≡ Some x.0 = x.1 in
                 let deadline : (job n x.0).deadline ≡ j.deadline = ap (λ (k : Job). k.deadline) x.2 in
-                let on_time : n ≤ x.0.deadline = (tracks.base.fit u x.0 x.1).on_time in
+                let on_time : n ≤ x.0.deadline = (tracks.base.fit u x.0 x.1).on_time wakes in
                 record {
                   job = job n x.0;
                   is = ap (option_map (job n)) record_at;
@@ -306,7 +355,7 @@ module _ (m : Machine) (checked : IsChecked m) (undisturbed : IsUndisturbed m) (
                   few = subst (λ (k : Job). k.left ≤ (job n x.0).left + cond (is_unit a.core.cur u) (n - f.state.now) 0) x.2 (few x.0 x.1);
                   in_time = inr (omega (arith, deadline, on_time));
                 });
-            none = λ no. (quiet_renews u e.event none, no);
+            none = λ v at_home no. (quiet_renews v e.event none, no);
             renewed = λ is j at. renewal is;
           }
         where
@@ -480,10 +529,10 @@ module _ (m : Machine) (checked : IsChecked m) (undisturbed : IsUndisturbed m) (
         le_from : (n k : ℕ) → nat_le n k ≡ true → n ≤ k
         le_from n k is = grind (arith, is)
 
-    unit_none : IsAtHome m i u.dom.0 → rtds_unit_at a.domains u ≡ None → (renews u e ≡ false) × (rtds_unit_at moved.new.domains u ≡ None)
-    unit_none at_home none =
-        let not : action ≡ Repl u → ⊥ = λ is. no_renewal f by a u at_home none (subst (λ (y : Action). is_action_enabled m s s.now y ≡ true) is on) in
-        (false_if (renews u e) (λ renewal. not (renewal_of f u action of renewal)), none_mapped (rtds_unit_at moved.new.domains u) (moved.faces u not ∙ ap (option_map (job s.now)) none))
+    unit_none : (v : UnitId) → IsAtHome m i v.dom.0 → rtds_unit_at a.domains v ≡ None → (renews v e ≡ false) × (rtds_unit_at moved.new.domains v ≡ None)
+    unit_none v at_home none =
+        let not : action ≡ Repl v → ⊥ = λ is. no_renewal f by a v at_home none (subst (λ (y : Action). is_action_enabled m s s.now y ≡ true) is on) in
+        (false_if (renews v e) (λ renewal. not (renewal_of f v action of renewal)), none_mapped (rtds_unit_at moved.new.domains v) (moved.faces v not ∙ ap (option_map (job s.now)) none))
       where
         false_if : (b : Bool) → (b ≡ true → ⊥) → b ≡ false
         false_if true never = absurd (never refl)
@@ -493,13 +542,13 @@ module _ (m : Machine) (checked : IsChecked m) (undisturbed : IsUndisturbed m) (
         none_mapped None is = refl
         none_mapped (Some x) is = absurd (cc)
 
-    goes_action : IsAtHome m i u.dom.0 → Goes m i r fs u s a e s2
-    goes_action at_home = record { new = moved.new; stays = unit_stays; decides = core_decides; left = unit_left; none = unit_none at_home; renewed = unit_renewed }
+    goes_action : Goes m i r fs u s a e s2
+    goes_action = record { new = moved.new; stays = unit_stays; decides = core_decides; left = unit_left; none = unit_none; renewed = unit_renewed }
 
   -- each entry of a run
-  pub goes : (u : UnitId) → IsAtHome m i u.dom.0 → (f : Reached) → IsReachedBy m f → (e : Entry) → IsNext m f e → (a : At i r fs f.state) → Goes m i r fs u f.state a e.event (after_entry m f e).state
-  goes u at_home f by e next a = go (event_action e.event) refl next.event
+  pub goes : (u : UnitId) → fs.sleeps u ≡ false → (f : Reached) → IsReachedBy m f → (e : Entry) → IsNext m f e → (a : At i r fs f.state) → Goes m i r fs u f.state a e.event (after_entry m f e).state
+  goes u wakes f by e next a = go (event_action e.event) refl next.event
     where
       go : (o : Option Action) → event_action e.event ≡ o → IsNextEvent m f.state e.event o → Goes m i r fs u f.state a e.event (after_event m e.event o f).state
-      go None is ev = goes_quiet f by e next is a u
-      go (Some action) is ev = subst (λ (x : Event). Goes m i r fs u f.state a x (after m f.state f.state.now action)) (sym ev.1) (goes_action f by action ev.0 a u at_home)
+      go None is ev = goes_quiet f by e next is a u wakes
+      go (Some action) is ev = subst (λ (x : Event). Goes m i r fs u f.state a x (after m f.state f.state.now action)) (sym ev.1) (goes_action f by action ev.0 a u)

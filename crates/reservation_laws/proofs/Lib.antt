@@ -1,4 +1,6 @@
 pub mod Jobs
+pub mod Asks
+pub mod UnitSums
 pub mod Tracks
 pub mod Ticks
 pub mod PoolJobs
@@ -9,4 +11,5 @@ pub mod RunJobs
 pub mod Follows
 pub mod LegSums
 pub mod Reserved
+pub mod Feasible
 pub mod ExamplesComputed

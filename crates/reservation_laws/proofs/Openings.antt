@@ -1,8 +1,9 @@
 -- The records of an RTDS pool at the opening, as the file gives them.
-use Rattle.std.proofs.Common.{◌≡◌, ◌<◌, ◌+◌, ◌-◌, ◌/◌, ℕ, zero, suc, Bool, true, false, List, [], ◌∷◌, ◌++◌, refl, arith, cond, subst, sym, ◌∙◌, ap, append_assoc, length}
-use Rattle.std.specs.Prelude.{Option, Some, None, map, replicate, slice_get, ◌==◌, ◌&&◌}
+use Rattle.std.proofs.Common.{◌≡◌, ◌<◌, ◌+◌, ◌-◌, ◌/◌, ℕ, zero, suc, Bool, true, false, List, [], ◌∷◌, ◌++◌, refl, arith, cond, subst, sym, ◌∙◌, ap, append_assoc, length, ◌≤◌, inr}
+use Rattle.std.specs.Prelude.{Option, Some, None, replicate, slice_get, ◌==◌, ◌&&◌, sum_by}
 use Rattle.std.specs.List.{AllByRecursion}
-use Rattle.std.proofs.lemmas.List.{map-append, length-map, length-append}
+use Rattle.std.proofs.lemmas.List.Sums.{sum_by-cons}
+use Rattle.std.proofs.lemmas.List.{length-map, length-append}
 use Rattle.sched_base.specs.Numbers.{domain as domain_number}
 use Rattle.sched_base.specs.declared.Cores.{Cores}
 use Rattle.sched_base.specs.declared.UnitId.{UnitId}
@@ -26,11 +27,12 @@ use Rattle.sched_model.specs.Rtds.{fresh_rtds_units}
 use Rattle.sched_model.specs.State.{may_unit_run}
 use Rattle.sched_laws.proofs.EachPlace.{by_cond}
 use Rattle.sched_laws.proofs.Opened.{pins_keep}
-use Rattle.service_laws.specs.Demand.{Job, FitOneProcessor, IsServable, opened}
-use Rattle.reservation_laws.specs.Reservations.{reservation, reservations}
-use Rattle.service_laws.proofs.DemandSums.{opens}
-use Rattle.reservation_laws.proofs.Jobs.{job, rate, flat}
-use Rattle.reservation_laws.proofs.Tracks.{Base}
+use Rattle.reservation_laws.specs.Reservations.{reservation}
+use Rattle.reservation_laws.specs.Sleepers.{claim, claims, domain_claims, may_sleep}
+use Rattle.reservation_laws.proofs.Asks.{ask, room_of, sleeper_most, waker_most}
+use Rattle.reservation_laws.proofs.Jobs.{first_left, job, since}
+use Rattle.reservation_laws.proofs.Tracks.{Base, Watch, asks, rooms}
+use Rattle.reservation_laws.proofs.UnitSums.{items_sum, number, sum_from, sum_le}
 
 -- the queue and the sets of cores change no record
 queued_records : (g : ℕ) (u : UnitId) (pool : Pool) → (pool_with_queued_if_off g u pool).scheduler.records ≡ pool.scheduler.records
@@ -107,71 +109,6 @@ module _ (g : ℕ) where
           ∙ joined c.params d (configured_units g c) done (replicate (length configs) None) (pass.0 (is_home c.home.0 i home)) is
       step false home = at
 
-  map_replicate : {X Y : Type 0} (f : X → Y) (n : ℕ) (x : X) → map f (replicate n x) ≡ replicate n (f x)
-  map_replicate f zero x = refl
-  map_replicate f (suc n) x = ap (λ ys. f x ∷ ys) (map_replicate f n x)
-
-  pair_is : (a b c : ℕ) → b ≡ c → ◌≡◌ {A = ℕ × ℕ} (a, b) (a, c)
-  pair_is a b c same = ap (λ (n : ℕ). (a, n)) same
-
-  fresh_rates : (params : DomParams) (count : ℕ) → DomParamsPass kinds.Rtds params → map rate (fresh_units params count) ≡ replicate count (reservation params)
-  fresh_rates (dom_params.Credit2 weight cap) count passed = absurd passed
-  fresh_rates (dom_params.Rtds period budget extra) count passed = map_replicate rate count _
-  fresh_rates dom_params.Arinc653 count passed = absurd passed
-  fresh_rates dom_params.Null count passed = absurd passed
-
-  job_opened : (l1 l2 d1 d2 p b : ℕ) → l1 ≡ l2 → d1 ≡ d2 → ◌≡◌ {A = Job} (record { left = l1; deadline = d1; period = p; budget = b }) (record { left = l2; deadline = d2; period = p; budget = b })
-  job_opened l1 l2 d1 d2 p b l d = ap (λ (n : ℕ). record { left = n; deadline = d1; period = p; budget = b }) l ∙ ap (λ (n : ℕ). record { left = l2; deadline = n; period = p; budget = b }) d
-
-  fresh_jobs : (params : DomParams) (count : ℕ) → DomParamsPass kinds.Rtds params → map (job 0) (fresh_units params count) ≡ map opened (replicate count (reservation params))
-  fresh_jobs (dom_params.Credit2 weight cap) count passed = absurd passed
-  fresh_jobs (dom_params.Rtds period budget extra) count passed =
-      map_replicate (job 0) count _ ∙ ap (λ (j : Job). replicate count j) (job_opened (budget.0 - 0) budget.0 (0 + period.0) period.0 period.0 budget.0 (omega arith) (omega arith)) ∙ sym (map_replicate opened count (budget.0, period.0))
-  fresh_jobs dom_params.Arinc653 count passed = absurd passed
-  fresh_jobs dom_params.Null count passed = absurd passed
-
-  -- what the file's reservations are
-  module _ {Y : Type 0} (f : RtdsUnit → Y) (h : ℕ × ℕ → Y) (each : (params : DomParams) (count : ℕ) → DomParamsPass kinds.Rtds params → map f (fresh_units params count) ≡ map h (replicate count (reservation params))) where
-    pub homes_map : (i : ℕ) (configs : List DomConfig) → AreRtds i configs → map f (flat (homes i configs)) ≡ map h (reservations g i configs)
-    homes_map i [] pass = refl
-    homes_map i (c ∷ configs) pass = go (homes_map i configs pass.1) (c.home.0 == i) refl
-      where
-        go : map f (flat (homes i configs)) ≡ map h (reservations g i configs) → (b : Bool) → (c.home.0 == i) ≡ b → map f (flat (cond b (Some (fresh_units c.params (configured_units g c))) None ∷ homes i configs)) ≡ map h (cond b (replicate (configured_units g c) (reservation c.params)) [] ++ reservations g i configs)
-        go rest true home =
-            map-append f (fresh_units c.params (configured_units g c)) (flat (homes i configs)) ∙ ap (λ ys. ys ++ map f (flat (homes i configs))) (each c.params (configured_units g c) (pass.0 (is_home c.home.0 i home)))
-            ∙ ap (λ ys. map h (replicate (configured_units g c) (reservation c.params)) ++ ys) rest ∙ sym (map-append h (replicate (configured_units g c) (reservation c.params)) (reservations g i configs))
-        go rest false home = rest
-
-  same_map : (fs : List (ℕ × ℕ)) → map (λ (f : ℕ × ℕ). f) fs ≡ fs
-  same_map [] = refl
-  same_map (f ∷ fs) = ap (λ rest. f ∷ rest) (same_map fs)
-
-  pub homes_rates : (i : ℕ) (configs : List DomConfig) → AreRtds i configs → map rate (flat (homes i configs)) ≡ reservations g i configs
-  homes_rates i configs pass = homes_map rate (λ f. f) (λ params count passed. fresh_rates params count passed ∙ sym (same_map (replicate count (reservation params)))) i configs pass ∙ same_map (reservations g i configs)
-
-  -- periods are above 0
-  each_same : {X : Type 0} (P : X → Type 0) (n : ℕ) (x : X) → P x → AllByRecursion P (replicate n x)
-  each_same P zero x here = tt
-  each_same P (suc n) x here = (here, each_same P n x here)
-
-  both : {X : Type 0} (P : X → Type 0) (xs ys : List X) → AllByRecursion P xs → AllByRecursion P ys → AllByRecursion P (xs ++ ys)
-  both P [] ys a b = b
-  both P (x ∷ xs) ys a b = (a.0, both P xs ys a.1 b)
-
-  some_period : (params : DomParams) → DomParamsPass kinds.Rtds params → 0 < (reservation params).1
-  some_period (dom_params.Credit2 weight cap) passed = absurd passed
-  some_period (dom_params.Rtds period budget extra) passed = (let low = passed.0.least in omega (arith, low))
-  some_period dom_params.Arinc653 passed = absurd passed
-  some_period dom_params.Null passed = absurd passed
-
-  periods : (i : ℕ) (configs : List DomConfig) → AreRtds i configs → AllByRecursion (λ (f : ℕ × ℕ). 0 < f.1) (reservations g i configs)
-  periods i [] pass = tt
-  periods i (c ∷ configs) pass = go (periods i configs pass.1) (c.home.0 == i) refl
-    where
-      go : AllByRecursion (λ (f : ℕ × ℕ). 0 < f.1) (reservations g i configs) → (b : Bool) → (c.home.0 == i) ≡ b → AllByRecursion (λ (f : ℕ × ℕ). 0 < f.1) (cond b (replicate (configured_units g c) (reservation c.params)) [] ++ reservations g i configs)
-      go rest true home = both (λ (f : ℕ × ℕ). 0 < f.1) (replicate (configured_units g c) (reservation c.params)) (reservations g i configs) (each_same (λ (f : ℕ × ℕ). 0 < f.1) (configured_units g c) (reservation c.params) (some_period c.params (pass.0 (is_home c.home.0 i home)))) rest
-      go rest false home = rest
-
   -- a unit at the beginning of its first term
   pub record IsFresh (x : RtdsUnit) : Type 0 where
     pub next_period : x.next_period ≡ x.period
@@ -207,12 +144,101 @@ module _ (g : ℕ) where
   pub fresh_in : (i : ℕ) (configs : List DomConfig) → AreRtds i configs → (u : UnitId) (x : RtdsUnit) → rtds_unit_at (homes i configs) u ≡ Some x → IsFresh x
   fresh_in i configs pass u x at = homes_fresh i configs pass u.dom.0 u.n x at
 
-  pub homes_base : (i : ℕ) (configs : List DomConfig) → AreRtds i configs → FitOneProcessor (reservations g i configs) → Base (reservations g i configs) 0 (homes i configs)
-  homes_base i configs pass fit = record {
-    fit = λ u x at. (
-        let f = fresh_in i configs pass u x at in
-        let left = f.left in
-        record { period = f.next_period; budget = f.next_budget; some = f.some; full = omega (arith, left); on_time = omega arith });
-    rates = homes_rates i configs pass;
-    servable = subst (IsServable 0) (sym (homes_map (job 0) opened fresh_jobs i configs pass)) (opens (reservations g i configs) (periods i configs pass) fit);
-  }
+  item_low : {X : Type 0} (n k : ℕ) (x y : X) → slice_get (replicate n x) k ≡ Some y → k < n
+  item_low zero k x y at = absurd (cc)
+  item_low (suc n) zero x y at = omega arith
+  item_low (suc n) (suc k) x y at = (let l = item_low n k x y at in omega (arith, l))
+
+  fresh_low : (params : DomParams) (count k : ℕ) (x : RtdsUnit) → DomParamsPass kinds.Rtds params → slice_get (fresh_units params count) k ≡ Some x → k < count
+  fresh_low (dom_params.Credit2 weight cap) count k x passed at = absurd passed
+  fresh_low (dom_params.Rtds period budget extra) count k x passed at = item_low count k _ x at
+  fresh_low dom_params.Arinc653 count k x passed at = absurd passed
+  fresh_low dom_params.Null count k x passed at = absurd passed
+
+  -- its period is that of the file, and it is one of the domain's units
+  fresh_period : (params : DomParams) (count k : ℕ) (x : RtdsUnit) → DomParamsPass kinds.Rtds params → slice_get (fresh_units params count) k ≡ Some x → x.period ≡ (reservation params).1
+  fresh_period (dom_params.Credit2 weight cap) count k x passed at = absurd passed
+  fresh_period (dom_params.Rtds period budget extra) count k x passed at = sym (ap (λ (y : RtdsUnit). y.period) (same_item count k _ x at))
+  fresh_period dom_params.Arinc653 count k x passed at = absurd passed
+  fresh_period dom_params.Null count k x passed at = absurd passed
+
+  homes_period : (i : ℕ) (configs : List DomConfig) → AreRtds i configs → (d n : ℕ) (x : RtdsUnit) → rtds_unit_at (homes i configs) (record { dom = domain_number d; n = n }) ≡ Some x → (c : DomConfig) × (slice_get configs d ≡ Some c) × (x.period ≡ (reservation c.params).1) × (n < configured_units g c)
+  homes_period i [] pass d n x at = absurd (cc)
+  homes_period i (c ∷ configs) pass zero n x at = go (c.home.0 == i) refl at
+    where
+      go : (b : Bool) → (c.home.0 == i) ≡ b → elim (cond b (Some (fresh_units c.params (configured_units g c))) None) as (λ _. Option RtdsUnit) [ None ↦ None | Some units ↦ slice_get units n ] ≡ Some x → (e : DomConfig) × (slice_get (c ∷ configs) 0 ≡ Some e) × (x.period ≡ (reservation e.params).1) × (n < configured_units g e)
+      go true home there = (c, refl, fresh_period c.params (configured_units g c) n x (pass.0 (is_home c.home.0 i home)) there, fresh_low c.params (configured_units g c) n x (pass.0 (is_home c.home.0 i home)) there)
+      go false home there = absurd (cc)
+  homes_period i (c ∷ configs) pass (suc d) n x at = homes_period i configs pass.1 d n x at
+
+  pub period_in : (i : ℕ) (configs : List DomConfig) → AreRtds i configs → (u : UnitId) (x : RtdsUnit) → rtds_unit_at (homes i configs) u ≡ Some x → (c : DomConfig) × (slice_get configs u.dom.0 ≡ Some c) × (x.period ≡ (reservation c.params).1) × (u.n < configured_units g c)
+  period_in i configs pass u x at = homes_period i configs pass u.dom.0 u.n x at
+
+  -- what they claim is what the file says
+  module _ (fs : Watch) (span : ℕ) where
+    abbrev room_at : UnitId → RtdsUnit → ℕ
+    room_at u x = room_of (fs.sleeps u) span (job 0 x)
+
+    items_claim : (d n count : ℕ) (c : DomConfig) (x : RtdsUnit) → ((k : ℕ) → fs.sleeps (number d k) ≡ may_sleep g c k) → ((s : Bool) → room_of s span (job 0 x) ≡ claim c.params s span)
+        → items_sum room_at d n (replicate count x) ≡ sum_by (λ k. claim c.params (may_sleep g c k) span) (numbers_from n count)
+    items_claim d n zero c x same is = refl
+    items_claim d n (suc count) c x same is =
+        let rest = items_claim d (suc n) count c x same is in
+        let here : room_at (number d n) x ≡ claim c.params (may_sleep g c n) span = is (fs.sleeps (number d n)) ∙ ap (λ (s : Bool). claim c.params s span) (same n) in
+        let more = sum_by-cons (λ (k : ℕ). claim c.params (may_sleep g c k) span) n (numbers_from (suc n) count) in
+        omega (arith, rest, here, more)
+
+    fresh_claim : (d : ℕ) (c : DomConfig) (params : DomParams) → c.params ≡ params → DomParamsPass kinds.Rtds params → ((k : ℕ) → fs.sleeps (number d k) ≡ may_sleep g c k) → items_sum room_at d 0 (fresh_units params (configured_units g c)) ≡ domain_claims g c span
+    fresh_claim d c (dom_params.Credit2 weight cap) is passed same = absurd passed
+    fresh_claim d c (dom_params.Rtds period budget extra) is passed same = items_claim d 0 (configured_units g c) c _ same (λ s. sym (ap (λ (p : DomParams). claim p s span) is))
+    fresh_claim d c dom_params.Arinc653 is passed same = absurd passed
+    fresh_claim d c dom_params.Null is passed same = absurd passed
+
+    pub claims_from : (i d : ℕ) (configs : List DomConfig) → AreRtds i configs → ((j : ℕ) (c : DomConfig) → slice_get configs j ≡ Some c → (k : ℕ) → fs.sleeps (number (d + j) k) ≡ may_sleep g c k) → sum_from room_at d (homes i configs) ≡ claims g i configs span
+    claims_from i d [] pass same = refl
+    claims_from i d (c ∷ configs) pass same =
+        let zero_d : d + 0 ≡ d = omega arith in
+        let here : (k : ℕ) → fs.sleeps (number d k) ≡ may_sleep g c k = λ k. subst (λ (n : ℕ). fs.sleeps (number n k) ≡ may_sleep g c k) zero_d (same 0 c refl k) in
+        go (c.home.0 == i) refl here (claims_from i (suc d) configs pass.1 (λ j e at k. (let next : d + suc j ≡ suc d + j = omega arith in subst (λ (n : ℕ). fs.sleeps (number n k) ≡ may_sleep g e k) next (same (suc j) e at k))))
+      where
+        go : (b : Bool) → (c.home.0 == i) ≡ b → ((k : ℕ) → fs.sleeps (number d k) ≡ may_sleep g c k) → sum_from room_at (suc d) (homes i configs) ≡ claims g i configs span
+            → sum_from room_at d (cond b (Some (fresh_units c.params (configured_units g c))) None ∷ homes i configs) ≡ cond b (domain_claims g c span) 0 + claims g i configs span
+        go true home here rest = (let f = fresh_claim d c c.params refl (pass.0 (is_home c.home.0 i home)) here in omega (arith, f, rest))
+        go false home here rest = omega (arith, rest)
+
+  module _ (fs : Watch) (i : ℕ) (configs : List DomConfig) (pass : AreRtds i configs) where
+    homes_later : ((span : ℕ) → fs.period ≤ span → rooms fs span (homes i configs) ≤ span) → (until : ℕ) → 0 + fs.period ≤ until → 0 + asks fs 0 until (homes i configs) ≤ until
+    homes_later room until far =
+        let most = sum_le (λ u x. ask (fs.sleeps u) 0 until (job 0 x)) (λ u x. room_of (fs.sleeps u) until (job 0 x)) (homes i configs) (λ u x at. each u x at (fs.sleeps u)) in
+        let r = room until (omega (arith, far)) in
+        omega (arith, most, r)
+      where
+        each : (u : UnitId) (x : RtdsUnit) → rtds_unit_at (homes i configs) u ≡ Some x → (s : Bool) → ask s 0 until (job 0 x) ≤ room_of s until (job 0 x)
+        each u x at s =
+            let f = fresh_in i configs pass u x at in
+            let low : first_left x.level (x.left - since 0 x.burned) ≡ x.left - since 0 x.burned = ap (λ (n : ℕ). first_left n (x.left - since 0 x.burned)) f.level in
+            let none : since 0 x.burned ≡ 0 = ap (since 0) f.burned in
+            let full = f.left in
+            let left : (job 0 x).left ≡ x.budget = omega (arith, low, none, full) in
+            go s f.some left f.deadline
+          where
+            go : (s : Bool) → 0 < x.period → (job 0 x).left ≡ x.budget → x.deadline ≡ x.period → ask s 0 until (job 0 x) ≤ room_of s until (job 0 x)
+            go true some left first =
+                let zero_is : until - 0 ≡ until = omega arith in
+                subst (λ (n : ℕ). ask true 0 until (job 0 x) ≤ room_of true n (job 0 x)) zero_is (sleeper_most until 0 (job 0 x) some (omega (arith, left)) (omega arith))
+            go false some left first = waker_most until (job 0 x) some left first
+
+    pub homes_base : ((span : ℕ) → fs.period ≤ span → rooms fs span (homes i configs) ≤ span) → ((x : RtdsUnit) → rtds_unit_at (homes i configs) fs.unit ≡ Some x → x.period ≡ fs.period) → Base fs 0 (homes i configs)
+    homes_base room period = record {
+      fit = λ u x at. (
+          let f = fresh_in i configs pass u x at in
+          let left = f.left in
+          record { period = f.next_period; budget = f.next_budget; some = f.some; full = omega (arith, left); on_time = λ wakes. omega arith });
+      room = room;
+      later = homes_later room;
+      own = λ x at. (
+          let f = fresh_in i configs pass fs.unit x at in
+          let p = period x at in
+          let d = f.deadline in
+          record { period = p; fits = inr (homes_later room x.deadline (omega (arith, p, d))) });
+    }

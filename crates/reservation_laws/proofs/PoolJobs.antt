@@ -31,7 +31,7 @@ use Rattle.sched_laws.proofs.Choices.{same_unit_same}
 use Rattle.sched_laws.proofs.OnePlace.{decided_cur}
 use Rattle.sched_laws.specs.PoolFacts.{IfUnit}
 use Rattle.service_laws.specs.Demand.{Job}
-use Rattle.reservation_laws.proofs.Tracks.{Tracks, Freed, face, freed, runs_now, runs_face, renewed_tracks, renewed_face, due_falls}
+use Rattle.reservation_laws.proofs.Tracks.{Watch, Tracks, Freed, face, freed, runs_now, runs_face, renewed_tracks, renewed_face, due_falls}
 
 -- the core keeps its unit, and its due does not rise
 record SameUnit (c d : Resource) : Type 0 where
@@ -48,7 +48,7 @@ pub record Changes : Type 1 where
   pub chosen : Option UnitId
 
 -- what the pool's core and records have, and what they had before
-pub record HasJobs (fs : List (ℕ × ℕ)) (r t : ℕ) (may : Changes) (cur : Option UnitId) (look : UnitId → Option Job) (pool : Pool) : Type 0 where
+pub record HasJobs (fs : Watch) (r t : ℕ) (may : Changes) (cur : Option UnitId) (look : UnitId → Option Job) (pool : Pool) : Type 0 where
   pub domains : List (Option (List RtdsUnit))
   pub records : pool.scheduler.records ≡ RtdsPool domains
   pub core : Resource
@@ -100,13 +100,13 @@ choice_has ask scheduler domains =
         (λ u is any. may_have (rtds_unit_at domains u) (and_right (is_unit_allowed scheduler ask.home.0 ask.core.0 u) _ is)) scheduler.queue (every (λ u. Unit {0}) scheduler.queue (λ u. tt))
 
 -- what a decision leaves
-record Decided (fs : List (ℕ × ℕ)) (t : ℕ) (old : List (Option (List RtdsUnit))) (decision : Decision) : Type 0 where
+record Decided (fs : Watch) (t : ℕ) (old : List (Option (List RtdsUnit))) (decision : Decision) : Type 0 where
   domains : List (Option (List RtdsUnit))
   records : decision.records ≡ RtdsPool domains
   tracks : Tracks fs t decision.unit decision.due domains
   faces : (u : UnitId) → face t domains u ≡ face t old u
 
-decides_for : (fs : List (ℕ × ℕ)) (ask : Ask) (due : Option Moment) (old : List (Option (List RtdsUnit))) → Tracks fs ask.at.0 ask.cur due old → (choice : Option UnitId) → IfUnit (HasLeft (own_burned_domains ask.cur ask.at.0 old)) choice
+decides_for : (fs : Watch) (ask : Ask) (due : Option Moment) (old : List (Option (List RtdsUnit))) → Tracks fs ask.at.0 ask.cur due old → (choice : Option UnitId) → IfUnit (HasLeft (own_burned_domains ask.cur ask.at.0 old)) choice
     → Decided fs ask.at.0 old (rtds.rtds_decision_for ask (own_burned_domains ask.cur ask.at.0 old) choice)
 decides_for fs ask due old here None has =
     let f = freed fs ask.at.0 ask.cur due old here in
@@ -132,7 +132,7 @@ decides_for fs ask due old here (Some u) has =
           faces = λ v. runs_face fs ask.at.0 u x off is f.tracks v ∙ f.face v;
         }
 
-decides_rtds : (fs : List (ℕ × ℕ)) (ask : Ask) (scheduler : Scheduler) (due : Option Moment) (old : List (Option (List RtdsUnit))) → scheduler.records ≡ RtdsPool old → Tracks fs ask.at.0 ask.cur due old → Decided fs ask.at.0 old (decision_of ask scheduler)
+decides_rtds : (fs : Watch) (ask : Ask) (scheduler : Scheduler) (due : Option Moment) (old : List (Option (List RtdsUnit))) → scheduler.records ≡ RtdsPool old → Tracks fs ask.at.0 ask.cur due old → Decided fs ask.at.0 old (decision_of ask scheduler)
 decides_rtds fs ask scheduler due old is here =
     subst (Decided fs ask.at.0 old) (sym (ap (λ (x : Records). decision_by x ask scheduler) is))
     (decides_for fs ask due old here (rtds.rtds_choice ask scheduler (own_burned_domains ask.cur ask.at.0 old)) (choice_has ask scheduler (own_burned_domains ask.cur ask.at.0 old)))
@@ -140,7 +140,7 @@ decides_rtds fs ask scheduler due old is here =
 decided_due : (t : ℕ) (decision : Decision) (c : Resource) → (decided_core t decision c).due ≡ decision.due
 decided_due t decision c = by_test (λ (d : Resource). d.due ≡ decision.due) (pools.same_choice decision.unit c.cur) _ _ (λ is. refl) (λ is. refl)
 
-module _ (fs : List (ℕ × ℕ)) (g r t : ℕ) (may : Changes) (cur : Option UnitId) (look : UnitId → Option Job) where
+module _ (fs : Watch) (g r t : ℕ) (may : Changes) (cur : Option UnitId) (look : UnitId → Option Job) where
   abbrev H : Pool → Type 0
   H = HasJobs fs r t may cur look
 

@@ -40,6 +40,7 @@ use Rattle.service_laws.specs.Service.{HasNoLaterUnit, MostUrgentRun, is_usable}
 use Rattle.service_laws.proofs.Quiet.{parts_of}
 use Rattle.undisturbed_laws.specs.Undisturbed.{CoreStays}
 use Rattle.reservation_laws.proofs.Ticks.{IsCalm}
+use Rattle.reservation_laws.proofs.Tracks.{Watch}
 
 map_back : {X : Type 0} (P : Action → Type 0) (f : X → Action) (xs : List X) → AllByRecursion P (map f xs) → AllByRecursion (λ x. P (f x)) xs
 map_back P f [] each = tt
@@ -77,7 +78,7 @@ first_up t [] some each = absurd (omega (arith, some))
 first_up t (p ∷ ps) some each = up_is p.stall_end.0 t each.0
 
 -- what is known of the pool and of its core at a state at which nothing may come
-pub record Facts (m : Machine) (s : State) (i r : ℕ) (pool : Pool) (domains : List (Option (List RtdsUnit))) (c : Resource) : Type 0 where
+pub record Facts (fs : Watch) (m : Machine) (s : State) (i r : ℕ) (pool : Pool) (domains : List (Option (List RtdsUnit))) (c : Resource) : Type 0 where
   pub at : at_place s.pools i ≡ Some pool
   pub records : pool.scheduler.records ≡ RtdsPool domains
   pub has : at_place pool.resources r ≡ Some c
@@ -85,14 +86,14 @@ pub record Facts (m : Machine) (s : State) (i r : ℕ) (pool : Pool) (domains : 
   pub stays : CoreStays c
   pub whole : 0 < length c.processors
   pub one : OnePlace m.config.granularity pool
-  pub runs : (u : UnitId) (x : RtdsUnit) → rtds_unit_at domains u ≡ Some x → may_unit_run m.config.granularity pool u ≡ true
+  pub runs : (u : UnitId) (x : RtdsUnit) → rtds_unit_at domains u ≡ Some x → fs.sleeps u ≡ false → may_unit_run m.config.granularity pool u ≡ true
   pub home : (u : UnitId) (x : RtdsUnit) → rtds_unit_at domains u ≡ Some x → home_pool_of_domain s u.dom.0 ≡ Some i
   pub listed : (u : UnitId) (x : RtdsUnit) → rtds_unit_at domains u ≡ Some x → 1 ≤ times u (units_from m.config.granularity 0 m.config.domains)
   pub off : AllByRecursion (λ action. is_action_enabled m s s.now action ≡ false) (candidates m.config)
   pub urgent : MostUrgentRun s
   pub on_time : CoresAreOnTime s
 
-module _ (m : Machine) (s : State) (i r : ℕ) (pool : Pool) (domains : List (Option (List RtdsUnit))) (c : Resource) (f : Facts m s i r pool domains c) where
+module _ (fs : Watch) (m : Machine) (s : State) (i r : ℕ) (pool : Pool) (domains : List (Option (List RtdsUnit))) (c : Resource) (f : Facts fs m s i r pool domains c) where
   up : list_all (is_not_stalled s.now) c.processors ≡ true
   up = all_up s.now c.processors f.stays.unstalled
 
@@ -102,14 +103,14 @@ module _ (m : Machine) (s : State) (i r : ℕ) (pool : Pool) (domains : List (Op
   core_on_time : IsOnTime s.now c
   core_on_time = f.on_time i pool f.at r c f.has up
 
-  -- a unit of the pool waits, or the core has it
-  stands : (u : UnitId) (x : RtdsUnit) → rtds_unit_at domains u ≡ Some x → (has_listed_unit pool.scheduler.queue u ≡ true) ⊎ (c.cur ≡ Some u)
-  stands u x at =
+  -- a unit of the pool that never sleeps waits, or the core has it
+  stands : (u : UnitId) (x : RtdsUnit) → rtds_unit_at domains u ≡ Some x → fs.sleeps u ≡ false → (has_listed_unit pool.scheduler.queue u ≡ true) ⊎ (c.cur ≡ Some u)
+  stands u x at wakes =
       elim (cases_Bool (has_listed_unit pool.scheduler.queue u)) [
         | inl waits ↦ inl waits
         | inr gone ↦ inr (
             let none = times_none u pool.scheduler.queue gone in
-            let some : 1 ≤ places pool u = elim (f.one.runs u (f.runs u x at)) [ inl there ↦ there | inr rest ↦ absurd rest ] in
+            let some : 1 ≤ places pool u = elim (f.one.runs u (f.runs u x at wakes)) [ inl there ↦ there | inr rest ↦ absurd rest ] in
             let on : 1 ≤ total (core_places u) pool.resources = omega (arith, none, some) in
             let t = total_some (core_places u) pool.resources on in
             let same : t.0 ≡ r = f.only t.0 t.1 t.2 in
@@ -153,8 +154,8 @@ module _ (m : Machine) (s : State) (i r : ℕ) (pool : Pool) (domains : List (Op
           or_true true = refl
           or_true false = refl
 
-  terms : (u : UnitId) (x : RtdsUnit) → rtds_unit_at domains u ≡ Some x → s.now < x.deadline
-  terms u x at =
+  terms : (u : UnitId) (x : RtdsUnit) → rtds_unit_at domains u ≡ Some x → (has_listed_unit pool.scheduler.queue u ≡ true) ⊎ (c.cur ≡ Some u) → s.now < x.deadline
+  terms u x at there =
       elim (dec_le x.deadline s.now) [
         | no later ↦ omega (arith, later)
         | yes over ↦ absurd (
@@ -162,7 +163,7 @@ module _ (m : Machine) (s : State) (i r : ℕ) (pool : Pool) (domains : List (Op
             let due_here : is_replenish_due pool.scheduler.records s.now u ≡ true = subst (λ (y : Records). is_replenish_due y s.now u ≡ true) (sym f.records) due in
             clash (enabled_in m.config.granularity s.now pool (Repl u))
             (and_from ((has_listed_unit pool.scheduler.queue u || is_some (unit_core pool u)) && is_replenish_due pool.scheduler.records s.now u) (is_lowest_processor_up s.now pool)
-            (and_from (has_listed_unit pool.scheduler.queue u || is_some (unit_core pool u)) (is_replenish_due pool.scheduler.records s.now u) (placed u (stands u x at)) due_here) lowest)
+            (and_from (has_listed_unit pool.scheduler.queue u || is_some (unit_core pool u)) (is_replenish_due pool.scheduler.records s.now u) (placed u there) due_here) lowest)
             (no_repl u x at))
       ]
     where
@@ -182,21 +183,22 @@ module _ (m : Machine) (s : State) (i r : ℕ) (pool : Pool) (domains : List (Op
       lt_is : (n : ℕ) → 0 < n → nat_lt 0 n ≡ true
       lt_is n some = grind (arith, some)
 
-  pub calm : IsCalm s.now c.cur c.due domains
+  pub calm : IsCalm fs s.now c.cur c.due domains
   calm = record {
-    terms = terms;
+    terms = λ u x at wakes. terms u x at (stands u x at wakes);
+    own_term = λ w y own at. terms w y at (inr own);
     later = later c.due core_on_time.due;
-    idles = λ none u x at. (
+    idles = λ none u x at wakes. (
         elim (dec_le x.left 0) [
           | yes low ↦ omega (arith, low)
           | no some ↦ absurd (
-              elim (stands u x at) [
+              elim (stands u x at wakes) [
                 | inl waits ↦ (let h = before u x at waits (omega (arith, some)) in let cur = h.cur in some_none c.cur h.own none cur)
                 | inr own ↦ some_none c.cur u none own
               ])
         ]);
-    first = λ w u y x cur at_w at_u other some. (
-        elim (stands u x at_u) [
+    first = λ w u y x cur at_w at_u other wakes some. (
+        elim (stands u x at_u wakes) [
           | inl waits ↦ (
               let h = before u x at_u waits some in
               let own_is = h.cur in

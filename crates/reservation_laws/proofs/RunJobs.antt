@@ -29,9 +29,10 @@ use Rattle.term_laws.specs.RtdsTerm.{taken_by}
 use Rattle.term_laws.proofs.UnitTracks.{renews}
 use Rattle.service_laws.specs.Demand.{Job}
 use Rattle.undisturbed_laws.proofs.Runs.{after_pool}
+use Rattle.undisturbed_laws.specs.Undisturbed.{IsAtHome}
 use Rattle.reservation_laws.proofs.Jobs.{first_left, job, since}
 use Rattle.reservation_laws.proofs.StateJobs.{At}
-use Rattle.reservation_laws.proofs.Tracks.{face}
+use Rattle.reservation_laws.proofs.Tracks.{Watch, face}
 
 -- a run leads there
 pub record IsReachedBy (m : Machine) (f : Reached) : Type 0 where
@@ -102,14 +103,14 @@ pub record IsRenewed (u : UnitId) (e : Event) (now now2 : ℕ) (j : Job) (next :
   pub extra : Bool
   pub prints : e ≡ event.Repl u start (moment job.deadline) (span job.budget) extra
 
-module _ (m : Machine) (i r : ℕ) (fs : List (ℕ × ℕ)) where
+module _ (m : Machine) (i r : ℕ) (fs : Watch) where
   -- what an event does to the unit u and to the core
   pub record Goes (u : UnitId) (s : State) (a : At i r fs s) (e : Event) (s2 : State) : Type 0 where
     pub new : At i r fs s2
     pub stays : late_of r e ≡ None → new.core.cur ≡ a.core.cur
     pub decides : (late : ℕ) → late_of r e ≡ Some late → (s2.now ≡ s.now) × (taken_by u e ≡ cond (is_unit new.core.cur u) (Some r) None)
     pub left : renews u e ≡ false → (j : Job) → face s.now a.domains u ≡ Some j → LeftGoes u s.now s2.now a.core.cur j (face s2.now new.domains u)
-    pub none : rtds_unit_at a.domains u ≡ None → (renews u e ≡ false) × (rtds_unit_at new.domains u ≡ None)
+    pub none : (v : UnitId) → IsAtHome m i v.dom.0 → rtds_unit_at a.domains v ≡ None → (renews v e ≡ false) × (rtds_unit_at new.domains v ≡ None)
     pub renewed : renews u e ≡ true → (j : Job) → face s.now a.domains u ≡ Some j → IsRenewed u e s.now s2.now j (face s2.now new.domains u)
 
   -- the pool after an action that is its own

@@ -21,11 +21,11 @@ use Rattle.std.specs.Prelude.{◌&&◌}
 use Rattle.sched_laws.proofs.EachPlace.{at_place-change_at, at_place-set_other}
 use Rattle.sched_laws.proofs.Kept.{passes_at}
 use Rattle.sched_laws.proofs.Lists.{some-test_at}
-use Rattle.reservation_laws.proofs.Tracks.{Tracks, face}
+use Rattle.reservation_laws.proofs.Tracks.{Watch, Tracks, face}
 use Rattle.reservation_laws.proofs.PoolJobs.{Changes, Comes, HasJobs, h_event}
 
 -- the pool i is one of RTDS with the core r alone, and its units are followed
-pub record At (i r : ℕ) (fs : List (ℕ × ℕ)) (s : State) : Type 0 where
+pub record At (i r : ℕ) (fs : Watch) (s : State) : Type 0 where
   pub pool : Pool
   pub at : at_place s.pools i ≡ Some pool
   pub domains : List (Option (List RtdsUnit))
@@ -35,7 +35,7 @@ pub record At (i r : ℕ) (fs : List (ℕ × ℕ)) (s : State) : Type 0 where
   pub only : (k : ℕ) (c : Resource) → at_place pool.resources k ≡ Some c → k ≡ r
   pub tracks : Tracks fs s.now core.cur core.due domains
 
-module _ (m : Machine) (i r : ℕ) (fs : List (ℕ × ℕ)) where
+module _ (m : Machine) (i r : ℕ) (fs : Watch) where
   -- what the action leaves of them: the core has its unit, or the one that it chose; no reservation is another one, but that of a replenished unit
   pub record Stepped (s : State) (action : Action) (a : At i r fs s) (s2 : State) : Type 0 where
     pub new : At i r fs s2

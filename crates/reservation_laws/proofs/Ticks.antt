@@ -1,7 +1,6 @@
 -- A nanosecond that passes at a core with the most urgent unit leaves time for what is asked.
-use Rattle.std.proofs.Common.{◌≡◌, ◌≤◌, ◌<◌, ◌+◌, ◌-◌, ℕ, suc, Bool, true, false, List, [], ◌∷◌, ◌++◌, refl, arith, cond, subst, sym, ◌∙◌, ap, inl, inr}
-use Rattle.std.specs.Prelude.{Option, Some, None, map, nat_lt, ◌==◌, ◌&&◌, ◌||◌}
-use Rattle.std.specs.List.{AllByRecursion}
+use Rattle.std.proofs.Common.{◌≡◌, ◌≤◌, ◌<◌, ◌+◌, ◌-◌, ◌⊎◌, ℕ, suc, Bool, true, false, List, refl, arith, cond, subst, sym, ◌∙◌, ap, inl, inr}
+use Rattle.std.specs.Prelude.{Option, Some, None, nat_lt, ◌==◌, ◌&&◌, ◌||◌}
 use Rattle.std.proofs.lemmas.Bool.{cases_Bool}
 use Rattle.std.proofs.Math.Decide.{dec_le}
 use Rattle.sched_base.specs.declared.Moment.{Moment}
@@ -11,22 +10,21 @@ use Rattle.sched_model.specs.Places.{same_unit}
 use Rattle.sched_model.specs.EligibleUnits.{rtds_unit_at}
 use Rattle.sched_model.specs.Rtds.{is_record_before}
 use Rattle.sched_laws.proofs.Choices.{same_unit_same}
-use Rattle.sched_base.proofs.Bools.{clash}
-use Rattle.service_laws.specs.Demand.{Job, EndsAfter, FitOneProcessor, IsServable, IsSpentBefore, fractions, served}
-use Rattle.service_laws.proofs.DemandSums.{serves, idles}
-use Rattle.reservation_laws.proofs.Jobs.{since, first_left, job, flat, jobs, fractions_are, IsOther, Split, split, jobs_split, each_unit, each_job}
-use Rattle.reservation_laws.proofs.Tracks.{Runs, Base, Tracks}
+use Rattle.service_laws.specs.Demand.{Job}
+use Rattle.sched_laws.proofs.EachPlace.{by_cond}
+use Rattle.reservation_laws.proofs.Asks.{ask, asked_none, room_of, sleeper_falls, sleeper_most, sleeper_served, waker_falls, waker_served}
+use Rattle.reservation_laws.proofs.Jobs.{since, first_left, job}
+use Rattle.reservation_laws.proofs.Tracks.{Base, OwnFits, Runs, Tracks, Watch, asks, rooms}
+use Rattle.reservation_laws.proofs.UnitSums.{sum_gain, sum_le}
 
--- no term is over at t, and the core is due later; a unit that waits with budget is not more urgent than the core's own, and there is none where the core idles
-pub record IsCalm (t : ℕ) (cur : Option UnitId) (due : Option Moment) (domains : List (Option (List RtdsUnit))) : Type 0 where
-  pub terms : (u : UnitId) (x : RtdsUnit) → rtds_unit_at domains u ≡ Some x → t < x.deadline
+-- at t no term of a unit that never sleeps is over, nor that of the core's own, and the core is due later; a unit that never sleeps and has budget left is
+-- not more urgent than the core's own, and there is none where the core idles
+pub record IsCalm (fs : Watch) (t : ℕ) (cur : Option UnitId) (due : Option Moment) (domains : List (Option (List RtdsUnit))) : Type 0 where
+  pub terms : (u : UnitId) (x : RtdsUnit) → rtds_unit_at domains u ≡ Some x → fs.sleeps u ≡ false → t < x.deadline
+  pub own_term : (w : UnitId) (y : RtdsUnit) → cur ≡ Some w → rtds_unit_at domains w ≡ Some y → t < y.deadline
   pub later : (at : Moment) → due ≡ Some at → t < at.0
-  pub idles : cur ≡ None → (u : UnitId) (x : RtdsUnit) → rtds_unit_at domains u ≡ Some x → x.left ≡ 0
-  pub first : (w u : UnitId) (y x : RtdsUnit) → cur ≡ Some w → rtds_unit_at domains w ≡ Some y → rtds_unit_at domains u ≡ Some x → same_unit u w ≡ false → 0 < x.left → is_record_before x y ≡ false
-
-map_same : (f g : RtdsUnit → Job) (xs : List RtdsUnit) → AllByRecursion (λ x. f x ≡ g x) xs → map f xs ≡ map g xs
-map_same f g [] each = refl
-map_same f g (x ∷ xs) each = ap (λ (j : Job). j ∷ map f xs) each.0 ∙ ap (λ js. g x ∷ js) (map_same f g xs each.1)
+  pub idles : cur ≡ None → (u : UnitId) (x : RtdsUnit) → rtds_unit_at domains u ≡ Some x → fs.sleeps u ≡ false → x.left ≡ 0
+  pub first : (w u : UnitId) (y x : RtdsUnit) → cur ≡ Some w → rtds_unit_at domains w ≡ Some y → rtds_unit_at domains u ≡ Some x → same_unit u w ≡ false → fs.sleeps u ≡ false → 0 < x.left → is_record_before x y ≡ false
 
 job_left : (l1 l2 d p b : ℕ) → l1 ≡ l2 → ◌≡◌ {A = Job} (record { left = l1; deadline = d; period = p; budget = b }) (record { left = l2; deadline = d; period = p; budget = b })
 job_left l1 l2 d p b same = ap (λ (n : ℕ). record { left = n; deadline = d; period = p; budget = b }) same
@@ -83,27 +81,71 @@ below_left lx ly dx dy left e order high_level =
       ]
     ]
 
-module _ (fs : List (ℕ × ℕ)) (fit : FitOneProcessor fs) (t : ℕ) (due : Option Moment) (domains : List (Option (List RtdsUnit))) where
-  fits : Base fs t domains → FitOneProcessor (fractions (jobs t domains))
-  fits base = subst FitOneProcessor (sym (fractions_are t (flat domains) ∙ base.rates)) fit
+-- what is left does not rise
+left_less : (level left s1 s2 : ℕ) → s1 ≤ s2 → first_left level (left - s2) ≤ first_left level (left - s1)
+left_less level left s1 s2 less = go (level == 0)
+  where
+    go : (b : Bool) → cond b (left - s2) 0 ≤ cond b (left - s1) 0
+    go true = omega (arith, less)
+    go false = omega arith
 
-  ends : Base fs t domains → ((u : UnitId) (x : RtdsUnit) → rtds_unit_at domains u ≡ Some x → t < x.deadline) → AllByRecursion (EndsAfter t) (jobs t domains)
-  ends base terms = each_job (EndsAfter t) t domains (λ u x at. record { later = terms u x at; period = (base.fit u x at).some })
+since_more : (t : ℕ) (o : Option ℕ) → since t o ≤ since (suc t) o
+since_more t None = omega arith
+since_more t (Some from) = omega arith
 
-  -- nobody is served
-  idle_tick : Base fs t domains → ((u : UnitId) (x : RtdsUnit) → rtds_unit_at domains u ≡ Some x → t < x.deadline) → ((u : UnitId) (x : RtdsUnit) → rtds_unit_at domains u ≡ Some x → (job t x).left ≡ 0)
-      → ((u : UnitId) (x : RtdsUnit) → rtds_unit_at domains u ≡ Some x → job (suc t) x ≡ job t x) → IsServable (suc t) (jobs (suc t) domains)
-  idle_tick base terms none same =
-      subst (IsServable (suc t)) (sym (map_same (job (suc t)) (job t) (flat domains) (each_unit (λ x. job (suc t) x ≡ job t x) domains same)))
-      (idles t (jobs t domains) (fits base) (ends base terms) (each_job (λ (j : Job). j.left ≡ 0) t domains none))
+-- of one that has nothing left at the level 0, or is at another
+level_of : (level n : ℕ) → 0 < first_left level n → (level == 0) ≡ true
+level_of level n some = go (level == 0) refl some
+  where
+    go : (b : Bool) → (level == 0) ≡ b → 0 < cond b n 0 → (level == 0) ≡ true
+    go true is some2 = is
+    go false is some2 = absurd (omega (arith, some2))
 
-  -- the core's own unit is
-  module _ (w : UnitId) (here : Tracks fs t (Some w) due domains) (calm : IsCalm t (Some w) due domains) where
+some_of : (level n : ℕ) → 0 < first_left level n → 0 < n
+some_of level n some = go (level == 0) some
+  where
+    go : (b : Bool) → 0 < cond b n 0 → 0 < n
+    go true some2 = some2
+    go false some2 = absurd (omega (arith, some2))
+
+-- a unit that is not less urgent than another of the level 0
+no_later : (lx ly dx dy : ℕ) → (nat_lt lx ly || (lx == ly && nat_lt dx dy)) ≡ false → (lx == 0) ≡ true → ((ly == 0) ≡ true) × (dy ≤ dx)
+no_later lx ly dx dy order zero_level = (grind (arith, order, zero_level), grind (arith, order, zero_level))
+
+module _ (fs : Watch) (t : ℕ) (due : Option Moment) (domains : List (Option (List RtdsUnit))) where
+  abbrev asked : ℕ → ℕ → UnitId → RtdsUnit → ℕ
+  asked n until u x = ask (fs.sleeps u) n until (job n x)
+
+  module _ (base : Base fs t domains) where
+    less : (x : RtdsUnit) → (job (suc t) x).left ≤ (job t x).left
+    less x = left_less x.level x.left (since t x.burned) (since (suc t) x.burned) (since_more t x.burned)
+
+    each_falls : (until : ℕ) (u : UnitId) (x : RtdsUnit) → rtds_unit_at domains u ≡ Some x → asked (suc t) until u x ≤ asked t until u x
+    each_falls until u x at = go (fs.sleeps u)
+      where
+        go : (s : Bool) → ask s (suc t) until (job (suc t) x) ≤ ask s t until (job t x)
+        go true = sleeper_falls until t (job t x) (job (suc t) x).left (base.fit u x at).some (less x)
+        go false = waker_falls until (job t x) (job (suc t) x).left (less x)
+
+    -- nothing is left of what ends by a moment and never sleeps
+    static : (until : ℕ) → suc t ≤ until → ((u : UnitId) (x : RtdsUnit) → rtds_unit_at domains u ≡ Some x → fs.sleeps u ≡ false → t < x.deadline) → ((u : UnitId) (x : RtdsUnit) → rtds_unit_at domains u ≡ Some x → fs.sleeps u ≡ false → x.deadline ≤ until → (job (suc t) x).left ≡ 0)
+        → asks fs (suc t) until domains ≤ rooms fs (until - suc t) domains
+    static until on terms none = sum_le (asked (suc t) until) (λ u x. room_of (fs.sleeps u) (until - suc t) (job 0 x)) domains (λ u x at. go u x at (fs.sleeps u) refl)
+      where
+        go : (u : UnitId) (x : RtdsUnit) → rtds_unit_at domains u ≡ Some x → (s : Bool) → fs.sleeps u ≡ s → ask s (suc t) until (job (suc t) x) ≤ room_of s (until - suc t) (job 0 x)
+        go u x at true is = sleeper_most until (suc t) (job (suc t) x) (base.fit u x at).some (let l = (base.fit u x at).full in let f = few x.level x.left (since (suc t) x.burned) in omega (arith, l, f)) on
+          where
+            few : (level left e : ℕ) → first_left level (left - e) ≤ left
+            few level left e = by_cond (λ (n : ℕ). n ≤ left) (level == 0) (left - e) 0 (λ is2. omega arith) (λ is2. omega arith)
+        go u x at false is = asked_none until (suc t) (job (suc t) x) (base.fit u x at).some (let l = terms u x at is in omega (arith, l)) (none u x at is)
+
+  -- the core's own unit
+  module _ (w : UnitId) (here : Tracks fs t (Some w) due domains) (calm : IsCalm fs t (Some w) due domains) where
     abbrev y : RtdsUnit
     y = (here.own w refl).unit
 
-    order : (u : UnitId) (x : RtdsUnit) → rtds_unit_at domains u ≡ Some x → same_unit u w ≡ false → 0 < x.left → is_record_before x y ≡ false
-    order u x at other some = calm.first w u y x refl (here.own w refl).at at other some
+    order : (u : UnitId) (x : RtdsUnit) → rtds_unit_at domains u ≡ Some x → same_unit u w ≡ false → fs.sleeps u ≡ false → 0 < x.left → is_record_before x y ≡ false
+    order u x at other wakes some = calm.first w u y x refl (here.own w refl).at at other wakes some
 
     is_own : (u : UnitId) (x : RtdsUnit) → rtds_unit_at domains u ≡ Some x → same_unit u w ≡ true → x ≡ y
     is_own u x at same =
@@ -111,66 +153,91 @@ module _ (fs : List (ℕ × ℕ)) (fit : FitOneProcessor fs) (t : ℕ) (due : Op
         let both : Some x ≡ Some y = sym at ∙ subst (λ (k : UnitId). rtds_unit_at domains k ≡ Some y) (sym e) (here.own w refl).at in
         cc
 
-    not_own : (u : UnitId) → same_unit u w ≡ false → ◌≡◌ {A = Option UnitId} (Some w) (Some u) → ⊥
-    not_own u other is =
-        let e : u ≡ w = cc in
-        clash (same_unit u w) (subst (λ (k : UnitId). same_unit k w ≡ true) (sym e) (grind arith)) other
-
-    -- it is at a higher level, and with it all that have something left
-    high_tick : (y.level == 0) ≡ false → IsServable (suc t) (jobs (suc t) domains)
-    high_tick high =
-        idle_tick here.base calm.terms
-        (λ u x at. elim (cases_Bool (same_unit u w)) [
-          | inl same ↦ subst (λ (z : RtdsUnit). (job t z).left ≡ 0) (sym (is_own u x at same)) (high_left y.level (y.left - since t y.burned) high)
-          | inr other ↦ below_left x.level y.level x.deadline y.deadline x.left (since t x.burned) (order u x at other) high
-        ])
-        (λ u x at. elim (cases_Bool (same_unit u w)) [
-          | inl same ↦ subst (λ (z : RtdsUnit). job (suc t) z ≡ job t z) (sym (is_own u x at same))
-              (job_left (first_left y.level (y.left - since (suc t) y.burned)) (first_left y.level (y.left - since t y.burned)) y.deadline y.period y.budget (high_left y.level (y.left - since (suc t) y.burned) high ∙ sym (high_left y.level (y.left - since t y.burned) high)))
-          | inr other ↦ idle_job t (suc t) x (here.idle u x at (not_own u other))
-        ])
-
-    -- it has some of its budget left
-    own_tick : (y.level == 0) ≡ true → IsServable (suc t) (jobs (suc t) domains)
-    own_tick low =
+    -- it is served
+    gain : (until : ℕ) → (y.level == 0) ≡ true → y.deadline ≤ until → asks fs (suc t) until domains + 1 ≤ asks fs t until domains
+    gain until low by =
         let o = here.own w refl in
         let r : Runs t due y = o.runs in
-        let s : Split domains w y = split domains w y o.at in
-        let ahead : List Job = map (job t) s.ahead in
-        let behind : List Job = map (job t) s.behind in
-        let now = jobs_split t domains w y s in
         let left_at : (k : ℕ) → (job k y).left ≡ first_left y.level (y.left - (k - r.from)) = λ k. ap (λ (o : Option ℕ). first_left y.level (y.left - since k o)) r.burned in
         let some : 0 < (job t y).left = subst (λ (n : ℕ). 0 < n) (sym (left_at t)) (some_left y.level y.left r.from t r.at.0 r.past (calm.later r.at r.is) r.low low) in
-        let spent : AllByRecursion (IsSpentBefore y.deadline) (jobs t domains) = each_job (IsSpentBefore y.deadline) t domains
-        (λ u x at before. elim (cases_Bool (same_unit u w)) [
-          | inl same ↦ absurd (let e = ap (λ (z : RtdsUnit). z.deadline) (is_own u x at same) in omega (arith, e, before))
-          | inr other ↦ spent_left x.level y.level x.deadline y.deadline x.left (since t x.burned) (order u x at other) low before
-        ]) in
-        let after : IsServable (suc t) (ahead ++ served (job t y) ∷ behind) = serves t ahead behind (job t y) (subst (λ js. FitOneProcessor (fractions js)) now (fits here.base)) (subst (AllByRecursion (EndsAfter t)) now (ends here.base calm.terms)) (subst (AllByRecursion (IsSpentBefore y.deadline)) now spent) some (subst (IsServable t) now here.base.servable) in
-        let still : (xs : List RtdsUnit) → AllByRecursion (IsOther domains w) xs → map (job (suc t)) xs ≡ map (job t) xs = λ xs each. map_same (job (suc t)) (job t) xs (all_idle xs each) in
-        let own : job (suc t) y ≡ served (job t y) = job_left (job (suc t) y).left ((job t y).left - 1) y.deadline y.period y.budget (left_at (suc t) ∙ less_left y.level y.left r.from t r.past low ∙ sym (ap (λ (n : ℕ). n - 1) (left_at t))) in
-        subst (IsServable (suc t)) (sym (jobs_split (suc t) domains w y s ∙ ap (λ js. js ++ job (suc t) y ∷ map (job (suc t)) s.behind) (still s.ahead s.others_ahead) ∙ ap (λ (j : Job). ahead ++ j ∷ map (job (suc t)) s.behind) own ∙ ap (λ js. ahead ++ served (job t y) ∷ js) (still s.behind s.others_behind))) after
+        let falls : (job (suc t) y).left ≡ (job t y).left - 1 = left_at (suc t) ∙ less_left y.level y.left r.from t r.past low ∙ sym (ap (λ (n : ℕ). n - 1) (left_at t)) in
+        let is : (job t y).left ≡ suc (job (suc t) y).left = omega (arith, some, falls) in
+        sum_gain (asked (suc t) until) (asked t until) 1 w domains y o.at (go until by is (fs.sleeps w)) (each_falls here.base until)
       where
-        all_idle : (xs : List RtdsUnit) → AllByRecursion (IsOther domains w) xs → AllByRecursion (λ x. job (suc t) x ≡ job t x) xs
-        all_idle [] each = tt
-        all_idle (x ∷ xs) each = (idle_job t (suc t) x (here.idle each.0.unit x each.0.at (not_own each.0.unit each.0.other)), all_idle xs each.1)
+        go : (until : ℕ) → y.deadline ≤ until → (job t y).left ≡ suc (job (suc t) y).left → (s : Bool) → ask s (suc t) until (job (suc t) y) + 1 ≤ ask s t until (job t y)
+        go until by is true = sleeper_served until t (job t y) (job (suc t) y).left (here.base.fit w y (here.own w refl).at).some (calm.own_term w y refl (here.own w refl).at) by is
+        go until by is false = waker_served until (job t y) (job (suc t) y).left by is
 
-  servable_tick : (cur : Option UnitId) → Tracks fs t cur due domains → IsCalm t cur due domains → IsServable (suc t) (jobs (suc t) domains)
-  servable_tick None here calm =
-      idle_tick here.base calm.terms (λ u x at. none_left (x.level == 0) (x.left - since t x.burned) (let none = calm.idles refl u x at in omega (arith, none)))
-      (λ u x at. idle_job t (suc t) x (here.idle u x at (λ is. absurd (cc))))
-  servable_tick (Some w) here calm = elim (cases_Bool ((here.own w refl).unit.level == 0)) [ inl low ↦ own_tick w here calm low | inr high ↦ high_tick w here calm high ]
+    -- and so it is where one that never sleeps has some of its budget left
+    gain_for : (u : UnitId) (x : RtdsUnit) → rtds_unit_at domains u ≡ Some x → fs.sleeps u ≡ false → 0 < (job t x).left → (until : ℕ) → x.deadline ≤ until → asks fs (suc t) until domains + 1 ≤ asks fs t until domains
+    gain_for u x at wakes some until by =
+        let low : (x.level == 0) ≡ true = level_of x.level (x.left - since t x.burned) some in
+        elim (cases_Bool (same_unit u w)) [
+          | inl same ↦ (let e = is_own u x at same in gain until (subst (λ (z : RtdsUnit). (z.level == 0) ≡ true) e low) (subst (λ (z : RtdsUnit). z.deadline ≤ until) e by))
+          | inr other ↦ (
+              let left = some_of x.level (x.left - since t x.burned) some in
+              let n = no_later x.level y.level x.deadline y.deadline (order u x at other wakes (omega (arith, left))) low in
+              let d = n.1 in
+              gain until n.0 (omega (arith, d, by)))
+        ]
+
+    own_step : (until : ℕ) → suc t ≤ until → (asks fs (suc t) until domains + 1 ≤ asks fs t until domains) ⊎ (asks fs (suc t) until domains ≤ rooms fs (until - suc t) domains)
+    own_step until on =
+        elim (cases_Bool (y.level == 0)) [
+          | inr high ↦ inr (static here.base until on calm.terms (λ u x at wakes by. (
+              elim (cases_Bool (same_unit u w)) [
+                | inl same ↦ subst (λ (z : RtdsUnit). (job (suc t) z).left ≡ 0) (sym (is_own u x at same)) (high_left y.level (y.left - since (suc t) y.burned) high)
+                | inr other ↦ below_left x.level y.level x.deadline y.deadline x.left (since (suc t) x.burned) (order u x at other wakes) high
+              ])))
+          | inl low ↦ elim (dec_le y.deadline until) [
+            | yes by ↦ inl (gain until low by)
+            | no beyond ↦ inr (static here.base until on calm.terms (λ u x at wakes by. (
+                elim (cases_Bool (same_unit u w)) [
+                  | inl same ↦ absurd (let e = ap (λ (z : RtdsUnit). z.deadline) (is_own u x at same) in omega (arith, e, by, beyond))
+                  | inr other ↦ spent_left x.level y.level x.deadline y.deadline x.left (since (suc t) x.burned) (order u x at other wakes) low (omega (arith, by, beyond))
+                ])))
+          ]
+        ]
+
+  step : (cur : Option UnitId) → Tracks fs t cur due domains → IsCalm fs t cur due domains → (until : ℕ) → suc t ≤ until → (asks fs (suc t) until domains + 1 ≤ asks fs t until domains) ⊎ (asks fs (suc t) until domains ≤ rooms fs (until - suc t) domains)
+  step None here calm until on = inr (static here.base until on calm.terms (λ u x at wakes by. none_left (x.level == 0) (x.left - since (suc t) x.burned) (let none = calm.idles refl u x at wakes in omega (arith, none))))
+  step (Some w) here calm until on = own_step w here calm until on
+
+  -- the unit that is followed has some of its budget left
+  own_gain : (cur : Option UnitId) → Tracks fs t cur due domains → IsCalm fs t cur due domains → (x : RtdsUnit) → rtds_unit_at domains fs.unit ≡ Some x → 0 < (job t x).left → asks fs (suc t) x.deadline domains + 1 ≤ asks fs t x.deadline domains
+  own_gain None here calm x at some = absurd (let none = calm.idles refl fs.unit x at fs.wakes in let left = some_of x.level (x.left - since t x.burned) some in omega (arith, none, left))
+  own_gain (Some w) here calm x at some = gain_for w here calm fs.unit x at fs.wakes some x.deadline (omega arith)
+
+  own_next : (cur : Option UnitId) → Tracks fs t cur due domains → IsCalm fs t cur due domains → (x : RtdsUnit) → rtds_unit_at domains fs.unit ≡ Some x → OwnFits fs (suc t) domains (job (suc t) x)
+  own_next cur here calm x at =
+      let o = here.base.own x at in
+      let falls = less here.base x in
+      record {
+        period = o.period;
+        fits = (elim o.fits [
+          | inl none ↦ inl (omega (arith, none, falls))
+          | inr time ↦ elim (dec_le (job t x).left 0) [
+            | yes low ↦ inl (omega (arith, low, falls))
+            | no some ↦ inr (let g = own_gain cur here calm x at (omega (arith, some)) in omega (arith, g, time))
+          ]
+        ]);
+      }
 
   -- a nanosecond passes
-  pub tick : (cur : Option UnitId) → Tracks fs t cur due domains → IsCalm t cur due domains → Tracks fs (suc t) cur due domains
+  pub tick : (cur : Option UnitId) → Tracks fs t cur due domains → IsCalm fs t cur due domains → Tracks fs (suc t) cur due domains
   tick cur here calm = record {
     base = record {
       fit = λ u x at. (
           let k = here.base.fit u x at in
-          let low = calm.terms u x at in
-          record { period = k.period; budget = k.budget; some = k.some; full = k.full; on_time = omega (arith, low) });
-      rates = here.base.rates;
-      servable = servable_tick cur here calm;
+          record { period = k.period; budget = k.budget; some = k.some; full = k.full; on_time = λ wakes. (let low = calm.terms u x at wakes in omega (arith, low)) });
+      room = here.base.room;
+      later = λ until far. (
+          let before = here.base.later until (omega (arith, far)) in
+          elim (step cur here calm until (omega (arith, far))) [
+            | inl less_now ↦ omega (arith, before, less_now)
+            | inr most ↦ (let r = here.base.room (until - suc t) (omega (arith, far)) in omega (arith, most, r, far))
+          ]);
+      own = own_next cur here calm;
     };
     own = λ u is. (
         let o = here.own u is in

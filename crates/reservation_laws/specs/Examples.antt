@@ -37,3 +37,7 @@ sleeping_guest = span 1 ∷ span 5999999 ∷ span 1000000000 ∷ span 1 ∷ []
 
 unfoldable pub whole_core_with_sleeper : Machine
 whole_core_with_sleeper = one_core 12000000 (domain_of (codes "steady") 6000000 3000000 (endless_script ∷ []) ∷ domain_of (codes "sleeper") 4000000 2000000 (sleeping_guest ∷ []) ∷ [])
+
+-- budgets of 2 of 6 and of 2 of 4 milliseconds, and the same sleeping guest
+unfoldable pub room_beside_sleeper : Machine
+room_beside_sleeper = one_core 12000000 (domain_of (codes "steady") 6000000 2000000 (endless_script ∷ []) ∷ domain_of (codes "sleeper") 4000000 2000000 (sleeping_guest ∷ []) ∷ [])

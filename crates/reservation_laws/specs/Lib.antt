@@ -1,2 +1,3 @@
 pub mod Reservations
 pub mod Examples
+pub mod Sleepers

@@ -1,4 +1,4 @@
-use Rattle.reservation_laws.proofs.Reserved.{gets_each_budget}
+use Rattle.reservation_laws.proofs.Feasible.{gets_each_budget}
 use Rattle.reservation_laws.proofs.reservations.law_reservations.Goals as goal
 
 pub returns : goal.returns
