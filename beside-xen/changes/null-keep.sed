@@ -10,7 +10,10 @@ static void forget_unit(struct null_private *pool, const struct sched_unit *unit
     s/likely\(npc->unit == NULL\)/false/
     s/cpumask_intersects\(.*\) \)/false )/
 }
-/null_unit_remove\(/,/^\}/ s/^ out:/& forget_unit(prv, unit);/
+/null_unit_remove\(/,/^\}/ {
+    s/^ out:/& forget_unit(prv, unit);/
+    s/^    unit_deassign\(prv, unit\);/    if ( ((struct null_pcpu *)get_sched_res(sched_unit_master(unit))->sched_priv)->unit )\n    &/
+}
 /null_unit_wake\(/,/^\}/ {
     s/unlikely\(!list_empty\(&nvc->waitq_elem\)\)/(list_del_init(\&nvc->waitq_elem), false)/
     s/npc->unit == NULL/false/

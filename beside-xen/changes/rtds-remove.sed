@@ -4,3 +4,4 @@
 struct rt_private;\
 static cpumask_t *cores_left(const struct rt_private *prv);
 /^static void move_repl_timer/,/^\}/ s/get_sched_res\(old_cpu\)->cpupool->res_valid/cores_left(prv)/
+/^rt_deinit_pdata/,/^\}/ s/get_sched_res\(cpu\)->cpupool->res_valid/cores_left(prv)/

@@ -11,9 +11,11 @@ void btcpupools_allocate_pools(void)
     int number;
     for ( number = 0; number < plan.pool_count; number++ )
     {
+#if XEN_MINOR >= 15
         struct cpupool *pool = cpupool_create_pool(number, kinds[plan.pools[number].kind]);
         if ( !number )
             cpupool0 = pool;
+#endif
     }
 }
 
@@ -73,6 +75,27 @@ static void start_scheduling(void)
         BUG_ON((*call)());
 }
 
+#if XEN_MINOR < 15
+/* Older than Xen 4.15: at boot all processors are the first pool's. The others are made and get their cores as by xl. */
+static void free_others(void)
+{
+    unsigned int processor;
+    int number;
+    for ( number = 1; number < plan.pool_count; number++ )
+        BUG_ON(change_pool(XEN_SYSCTL_CPUPOOL_OP_CREATE, number, 0, 0, kinds[plan.pools[number].kind]));
+    for ( processor = 0; processor < plan.processors; processor += core_size )
+    {
+        if ( plan.pools[0].processors >> processor & 1 )
+            continue;
+        BUG_ON(change_pool(XEN_SYSCTL_CPUPOOL_OP_RMCPU, 0, processor, 0, 0));
+        settle();
+        for ( number = 1; number < plan.pool_count; number++ )
+            if ( plan.pools[number].processors >> processor & 1 )
+                BUG_ON(change_pool(XEN_SYSCTL_CPUPOOL_OP_ADDCPU, number, processor, 0, 0));
+        settle();
+    }
+}
+#else
 /* Processors that no pool of the input has become free. */
 static void free_others(void)
 {
@@ -85,6 +108,7 @@ static void free_others(void)
         if ( !(taken >> processor & 1) )
             BUG_ON(change_pool(XEN_SYSCTL_CPUPOOL_OP_RMCPU, 0, processor, 0, 0));
 }
+#endif
 
 static void make_guest(struct domain *domain, const struct domain_plan *its, int number)
 {

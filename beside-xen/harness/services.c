@@ -211,7 +211,11 @@ bool is_timer_running;
 /* Domains */
 struct domain *domains[MAX_DOMAINS];
 
+#if XEN_MINOR < 15
+struct domain *domain_create(domid_t number, struct xen_domctl_createdomain *config, bool flags)
+#else
 struct domain *domain_create(domid_t number, struct xen_domctl_createdomain *config, unsigned int flags)
+#endif
 {
     struct domain *domain = host_memory(sizeof(*domain));
     domain->domain_id = number;
@@ -297,3 +301,9 @@ int continue_hypercall_on_cpu(unsigned int processor, long (*function)(void *), 
         let_others_run();
     return answer;
 }
+
+#if XEN_MINOR < 15
+/* In these versions they are part of domctl.c. None of the commands here passes a set of processors so. */
+int xenctl_bitmap_to_bitmap(unsigned long *bitmap, const struct xenctl_bitmap *from, unsigned int bits) { BUG(); return 0; }
+int cpumask_to_xenctl_bitmap(struct xenctl_bitmap *to, const cpumask_t *mask) { BUG(); return 0; }
+#endif

@@ -5,6 +5,7 @@ A change is a file `changes/NAME.sed`, whose first line names the file of Xen th
 """
 import hashlib
 import pathlib
+import re
 import subprocess
 
 import lock
@@ -41,7 +42,8 @@ class Builder:
             path.parent.mkdir(parents=True, exist_ok=True)
             path.touch()
         places = [HERE / "stand-in", folder / "empty", HERE / "harness", xen / "include", xen / "common" / "sched"]
-        self.flags = [*FLAGS, *(f"-I{place}" for place in places), "-D__XEN__", "-include", xen / "include" / "xen" / "config.h"]
+        self.minor = re.search(r"^export XEN_SUBVERSION\s*[:?]?=\s*(\d+)", (xen / "Makefile").read_text(), re.M)[1]
+        self.flags = [*FLAGS, f"-DXEN_MINOR={self.minor}", *(f"-I{place}" for place in places), "-D__XEN__", "-include", xen / "include" / "xen" / "config.h"]
 
     def edited(self, source, change):
         """The file with the change made in it. A change that fits nowhere any more is a fault."""

@@ -6,6 +6,7 @@ import time
 
 import build
 import compare
+import plan
 import rows as table_rows
 from rows import ALL, BY_VCPU, DIFFERS, EQUAL
 
@@ -19,6 +20,8 @@ class Setting:
     kept: pathlib.Path
     pool: object
     rows: str = ""              # what the names of the rows have to have
+    other: build.Builder | None = None      # the harness around another version of Xen, for the table of versions
+    names: tuple = ()           # what the two versions are called
     begun: float = dataclasses.field(default_factory=time.monotonic)
     faults: list = dataclasses.field(default_factory=list)
 
@@ -125,3 +128,38 @@ def differences(setting):
         rest = tuple(tuple(it for it in part if it != change) for part in (row.changes, row.options))
         whole, less = outcomes(setting, row, seeds, [(row.changes, row.options), rest])
         print(f"| {change} | {name} | {count(whole, 'equal')} | {count(less, 'equal')} |", flush=True)
+
+
+@dataclasses.dataclass(frozen=True)
+class Alike:
+    """What two versions of Xen make of a machine: the same log, or one that both break off with the same status."""
+    same: bool
+    stops: bool
+
+
+def alike(job):
+    """One machine of a row, by two versions with the same changes, for each of several changes."""
+    program, texts, variants = job
+    model, found = compare.Model(program, *texts), []
+    for harnesses, options in variants:
+        text = plan.input_for(model.domains, model.work, options, model.run.answers)
+        one, other = (compare.call([harness, "-"], text) for harness in harnesses)
+        found.append(Alike((one.returncode, one.stdout) == (other.returncode, other.stdout), bool(one.returncode)))
+    return found
+
+
+def versions(setting):
+    """Whether two versions of Xen decide alike: their logs, byte for byte."""
+    seeds = setting.seeds()
+    print(f"\n## Versions\n\nXen {setting.names[0]} beside {setting.names[1]}, {len(seeds)} made machines a row: on how many the two logs are the same, byte for byte, and on how many both stop.\n\n"
+          "| Machines | as they are: the same | both stop | with the changes: the same | both stop |\n|---|---|---|---|---|")
+    chosen = [row for row in table_rows.EQUALITY if setting.rows in row.name]
+    for number, row in enumerate(chosen, 1):
+        setting.tell(f"versions, row {number} of {len(chosen)}")
+        variants = [([builder.program(changes) for builder in (setting.builder, setting.other)], (*ALL, *row.own, *options)) for changes, options in [((), ()), (row.changes, row.options)]]
+        as_they_are, changed = zip(*setting.pool.map(alike, [(setting.program, row.machine(seed), variants) for seed in seeds]))
+        for kind, found in [("as they are", as_they_are), ("with the changes", changed)]:
+            for seed, it in zip(seeds, found):
+                if not it.same:
+                    setting.fault(f"{row.name}, {kind}, machine {seed}: Xen {' and '.join(setting.names)} differ")
+        print(f"| {row.name} | {count(as_they_are, 'same')} | {count(as_they_are, 'stops')} | {count(changed, 'same')} | {count(changed, 'stops')} |", flush=True)

@@ -8,3 +8,5 @@
 #define evtchn_move_pirqs(v) ((void)(v))
 #define evtchn_port_poll(d, p) 0
 #define send_timer_event(v) ((void)(v))
+#define port_is_valid(d, p) true
+#define evtchn_port_is_pending(d, p) false
