@@ -19,8 +19,9 @@ def copy_to(top):
 
     for name in ("README.md", "CONTRIBUTING.md", "crates.txt"):
         shutil.copy(TOP / name, top)
-    shutil.copytree(TOP / "docs", top / "docs")
-    for name in ("xensched", "HANDLES", "bench", "examples", "mutants", "beside-xen", ".ci"):
+    for name in ("docs", "beside-xen"):
+        shutil.copytree(TOP / name, top / name, ignore=shutil.ignore_patterns("__pycache__"))
+    for name in ("xensched", "HANDLES", "bench", "examples", "mutants", ".ci"):
         link(name)
     (top / "tools").mkdir()
     for path in (TOP / "tools").iterdir():
