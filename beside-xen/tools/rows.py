@@ -16,7 +16,7 @@ ONE_CORE = ("credit2-rate", "credit2-wait", "credit2-tolerance", "credit2-floor"
 ARINC = ("arinc-pools", "arinc-set", "arinc-grid", "arinc-look")
 NULL = ("null-keep",)
 CORE = ("core-sibling", "core-pin", "core-leave", "core-gather", "core-first", "core-begin", "core-wake")
-CHECKED = ("core-once",)    # what only the checker sees, since no stay depends on it
+CHECKED = ("core-once", "rtds-each")      # what only the checker sees, since no stay depends on it
 EVERY = RTDS + CREDIT2 + ARINC + NULL + CORE
 
 # What Xen as it is has in common with xensched, on every machine of a row.

@@ -72,8 +72,8 @@ def outcome(job):
 
 
 # Rules of Xen's that are left in, one at a time: then the checker is to say no on some machine of the row.
-PLANTED = ("arinc-grid", "null-keep", "rtds-tie", "rtds-replenish", "credit2-rate", "credit2-capcut", "core-sibling", "core-once")
-PLANTED_ROWS = {"core-once": "Credit2, 2 cores of four, caps, stalls, pause"}
+PLANTED = ("arinc-grid", "null-keep", "rtds-tie", "rtds-replenish", "credit2-rate", "credit2-capcut", "core-sibling", "core-once", "rtds-each")
+PLANTED_ROWS = {"core-once": "Credit2, 2 cores of four, caps, stalls, pause", "rtds-each": "RTDS, 1 core, deadlines that meet"}
 
 
 def outcomes(setting, row, seeds, changes, order=""):
