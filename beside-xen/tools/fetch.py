@@ -1,10 +1,12 @@
 """Xen's source, from Debian's source package. Nothing of /etc is changed: apt is given a list of sources and folders of its own."""
+import os
 import pathlib
 import re
 import subprocess
 import sys
 
 TRIED = "4.17"              # the major and minor version that the harness and the changes were written for
+FOLDER = pathlib.Path(os.environ.get("XDG_CACHE_HOME", pathlib.Path.home() / ".cache")) / "beside-xen"    # where all is kept unless told
 KEY = "/usr/share/keyrings/debian-archive-keyring.gpg"
 LIST = f"""deb-src [signed-by={KEY}] http://deb.debian.org/debian bookworm main
 deb-src [signed-by={KEY}] http://deb.debian.org/debian-security bookworm-security main
@@ -38,7 +40,8 @@ class Apt:
         """Whether the package could be had: the newest of the list may be gone from the mirror."""
         done = self.call("apt-get", "source", "-qq", f"xen={version}", where=target)
         if done.returncode:
-            print(f"xen {version} could not be had: {done.stderr.strip().splitlines()[-1]}", file=sys.stderr)
+            said = done.stderr.strip().splitlines() or ["nothing is said why"]
+            print(f"xen {version} could not be had: {next((line for line in said if ' 404 ' in line), said[-1]).strip()}", file=sys.stderr)
         return done.returncode == 0
 
 
@@ -75,7 +78,8 @@ def source(folder, version=None):
         print(f"fetching xen {wanted}", file=sys.stderr)
         if apt.fetch(wanted, folder) and (found := unpacked(folder, wanted)):
             return found
-    raise Refused(f"no source package of Xen could be had; apt says: {done.stderr.strip()}")
+    said = done.stderr.strip().splitlines()
+    raise Refused("no source package of Xen could be had" + (f"; apt says: {said[0]}" if said else ""))
 
 
 if __name__ == "__main__":
