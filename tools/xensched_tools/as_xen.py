@@ -1,13 +1,15 @@
 """A machine run by Xen's own scheduler code, in the harness of beside-xen: its schedule, in the lines of xensched."""
+import collections
 import dataclasses
 import errno
+import itertools
 import pathlib
 import re
 import shutil
 import subprocess
 import sys
 
-from . import making
+from . import making, premises
 from .machine import read_work
 from .measures import Study
 from .words import Refused, warn
@@ -21,7 +23,7 @@ import whole
 
 MOST_PROCESSORS = 62        # the harness has a place for the toolstack besides
 SECONDS = 600
-QUEUES = ("core", "socket", "all")
+MOST_ENTRIES = 100_000      # of one moment: more is a switch to and fro in no time
 ENDLESS, BUG = 4, 70        # statuses of the harness
 ANSWER = re.compile(r"^\d+ xl (\d+) (ok|refused) (-?\d+)$", re.M)
 ADDRESS = re.compile(r"no such address, in the code at (\w+), moment (-?\d+)")
@@ -39,8 +41,8 @@ class Stopped(Refused):
 class Host:
     """What Xen finds when it boots: its parameters, the host's sockets and cores; and the changes of its code."""
 
-    runqueue: str = "socket"
-    most: int = 16
+    runqueue: str = premises.QUEUE_KINDS[0]
+    most: int = premises.RUN_QUEUE
     sockets: int = 1
     threads: int | None = None
     changes: tuple = ()
@@ -61,7 +63,7 @@ class Host:
 def add_words(parser):
     """The words that say what Xen boots on."""
     host = Host()
-    parser.add_argument("--runqueue", choices=QUEUES, default=host.runqueue, help=f"credit2_runqueue of Xen's command line: Credit2 has a run queue for each ({host.runqueue})")
+    parser.add_argument("--runqueue", choices=premises.QUEUE_KINDS, default=host.runqueue, help=f"credit2_runqueue of Xen's command line: Credit2 has a run queue for each ({host.runqueue})")
     parser.add_argument("--max-cpus-runqueue", type=int, default=host.most, metavar="N", help=f"sched_credit2_max_cpus_runqueue: a run queue has at most so many processors ({host.most})")
     parser.add_argument("--sockets", type=int, default=host.sockets, metavar="N", help="the sockets of the host, which have as many processors each (1)")
     parser.add_argument("--threads", type=int, metavar="N", help="the processors of a core of the host, threads_per_core of xl info (the granularity of the machine)")
@@ -133,18 +135,18 @@ def why_stopped(program, done):
     if found := ADDRESS.search(said):
         return f"Xen's code follows a pointer to nothing at {place_of(program, found[1])}, at {found[2]} ns"
     if done.returncode == ENDLESS:
-        return f"Xen's code goes round and round for ever: {said.replace('the moment ', 'the moment at ').replace(' has', ' ns has')}"
+        return f"Xen's code goes round and round: {said.replace('the moment ', 'the moment at ').replace(' has', ' ns has')}"
     if done.returncode == BUG:
         return f"Xen's code stops itself: {said.replace(str(pathlib.Path(program).parent) + '/', '')} ns"
     return f"Xen's code stops: {said or f'status {done.returncode}'}"
 
 
 def place_of(program, address):
-    """The function and line of an address, where addr2line is there to say it."""
+    """The function and line of an address in Xen's own files, where addr2line is there to say it: not that of a small function of a header that is put in."""
     if shutil.which("addr2line") is None:
         return f"address {address}"
-    said = subprocess.run(["addr2line", "-f", "-s", "-e", program, address], capture_output=True, text=True).stdout.split()
-    return f"{said[1]}, in {said[0]}" if len(said) > 1 else f"address {address}"
+    said = subprocess.run(["addr2line", "-f", "-i", "-s", "-e", program, address], capture_output=True, text=True).stdout.split("\n")
+    return next((f"{line.split()[0]}, in {function}" for function, line in zip(said[::2], said[1::2]) if ".c:" in line), f"address {address}")
 
 
 def answered(text):
@@ -175,15 +177,16 @@ def schedule(machine, work, host, tool):
             break
         answers = found
     lines = whole.schedule_of(done.stdout, words, machine.horizon)
+    if crowded := next((moment for moment, count in collections.Counter(line.partition(" ")[0] for line in lines).items() if count > MOST_ENTRIES), None):
+        raise Stopped(f"Xen's code goes round and round: the moment at {crowded} ns has more than {MOST_ENTRIES} entries", before(lines, crowded))
     if done.returncode:
-        raise Stopped(why_stopped(program, done), before_last_moment(lines))
+        raise Stopped(why_stopped(program, done), before(lines, lines[-1].partition(" ")[0]))
     return lines
 
 
-def before_last_moment(lines):
-    """The schedule up to the last moment that is whole: it has no line `finish`."""
-    last = lines[-1].split()[0]
-    return [line for line in lines if line.split()[0] != last]
+def before(lines, moment):
+    """The schedule before a moment: it has no line `finish`."""
+    return list(itertools.takewhile(lambda line: not line.startswith(f"{moment} "), lines))
 
 
 def studied(machine, work, host, tool, prepare=lambda study: None):
