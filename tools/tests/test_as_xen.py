@@ -1,6 +1,10 @@
-"""tools/as-xen: Xen's own code on small machines. Skipped without gcc or Xen's source, which BESIDE_XEN_FOLDER or ~/.cache/beside-xen has once beside-xen/run or tools/as-xen was called."""
+"""tools/as-xen: Xen's own code on small machines. Most is skipped without gcc or Xen's source, which ~/.cache/beside-xen, or the folder that BESIDE_XEN_FOLDER names, has once tools/as-xen was called."""
+import contextlib
+import io
+import json
 import os
 import pathlib
+import re
 import shutil
 import subprocess
 import sys
@@ -8,19 +12,20 @@ import tempfile
 import unittest
 
 from support import PROGRAM, TOP, study_of
-from xensched_tools import as_xen
+from xensched_tools import as_xen, tables
 from xensched_tools.machine import machine_of, read_machine
 from xensched_tools.words import Refused
 
 FOLDER = pathlib.Path(os.environ.get("BESIDE_XEN_FOLDER") or as_xen.Host().folder)
 MACHINE = TOP / "tools" / "tests" / "data" / "trace" / "machine.toml"
 FAULTS = TOP / "beside-xen" / "faults"
-HAS_XEN = as_xen.fetch.unpacked(FOLDER) is not None and shutil.which("gcc") is not None
+SOURCE = as_xen.fetch.unpacked(FOLDER)
+HAS_XEN = SOURCE is not None and as_xen.fetch.version_of(SOURCE) == "4.17.5" and shutil.which("gcc") is not None
 
 
 def called(tool, *words, path=None):
     """A tool's call; `path` stands for the folders of programs."""
-    return subprocess.run([sys.executable, TOP / "tools" / tool, *words], capture_output=True, text=True, env={**os.environ, **({"PATH": path} if path else {})})
+    return subprocess.run([sys.executable, TOP / "tools" / tool, *words], capture_output=True, text=True, cwd=TOP, env={**os.environ, **({"PATH": path} if path else {})})
 
 
 def described(cpus, scheduler="credit2", **guests):
@@ -62,19 +67,11 @@ class Words(unittest.TestCase):
         self.assertEqual(as_xen.before(["0 a", "4 b", "5 c", "5 d"], "5"), ["0 a", "4 b"])
 
 
-@unittest.skipUnless(HAS_XEN, "no gcc, or no source of Xen: tools/as-xen fetches it")
+@unittest.skipUnless(HAS_XEN, "no gcc, or no source of Xen 4.17.5: tools/as-xen fetches it")
 class ByXen(unittest.TestCase):
     def lines(self, machine, work="", **host):
-        return as_xen.schedule(machine, work, as_xen.Host(folder=FOLDER, **host), "test")
-
-    def placed(self, machine, **host):
-        """Which vCPUs each processor ran at all."""
-        found = {}
-        for line in self.lines(machine, **host):
-            words = line.split()
-            if words[1] == "leave" and words[3] != "idle":
-                found.setdefault(words[2], set()).add(words[3])
-        return found
+        with contextlib.redirect_stderr(io.StringIO()):
+            return as_xen.schedule(machine, work, as_xen.Host(folder=FOLDER, **host), "test")
 
     def test_the_study_reads_it(self):
         for path in (MACHINE, FAULTS / "arinc-two-pools" / "domains.toml", FAULTS / "rtds-extra-time" / "domains.toml"):
@@ -98,7 +95,7 @@ class ByXen(unittest.TestCase):
         self.assertTrue(any(" refill d1 periods 1 budget 6000000" in line for line in self.lines(read_machine(MACHINE))))
 
     def test_run_queues(self):
-        # with a queue for each processor the one that is pinned beside another cannot be helped by what the other queue has
+        # five guests on four processors: with two queues one queue has three of them
         machine = described(4, a={"weight": 1024}, b={}, c={}, d={}, e={})
         one, two = (self.lines(machine, runqueue=kind, sockets=sockets) for kind, sockets in (("all", 1), ("socket", 2)))
         self.assertNotEqual(one, two)
@@ -108,7 +105,7 @@ class ByXen(unittest.TestCase):
 
     def test_answers(self):
         # Xen keeps processor 0 in the first pool; what a later command means hangs on the answer before it
-        work = "1000000 xl cpupool-cpu-remove p 0\n2000000 xl cpupool-create name=\"q\" sched=\"credit2\"\n".replace('"', "") + "3000000 xl cpupool-cpu-remove p 1\n4000000 xl cpupool-cpu-add q 1\n"
+        work = "1000000 xl cpupool-cpu-remove p 0\n2000000 xl cpupool-create name=q sched=credit2\n3000000 xl cpupool-cpu-remove p 1\n4000000 xl cpupool-cpu-add q 1\n"
         lines = [line for line in self.lines(described(2, a={}), work) if " xl " in line]
         self.assertEqual(lines, ["1000000 xl 1 refused 22 EINVAL", "2000000 xl 2 ok", "3000000 xl 3 ok", "4000000 xl 4 ok"])
 
@@ -119,16 +116,37 @@ class ByXen(unittest.TestCase):
             self.assertRegex(done.stderr, cause)
             moments = [int(line.split()[0]) for line in done.stdout.splitlines()]
             self.assertTrue(moments and max(moments) < 5_000_000)
-        mended = called("as-xen", FAULTS / "rtds-core-leaves" / "domains.toml", FAULTS / "rtds-core-leaves" / "work.txt", "--folder", FOLDER, "--changes", "rtds-remove")
-        self.assertEqual(mended.returncode, 0, mended.stderr)
-        self.assertTrue(mended.stdout.endswith("30000000 finish\n"))
+
+    def study_of_fault(self, name, *changes):
+        path = FAULTS / name / "domains.toml"
+        lines = self.lines(read_machine(path), (FAULTS / name / "work.txt").read_text(), changes=changes)
+        self.assertTrue(lines[-1].endswith(" finish"))
+        return study_of(path, lines, FAULTS / name / "work.txt")
+
+    def test_the_faults_and_what_mends_them(self):
+        # the figures of docs/XEN.md
+        for name, change in (("rtds-core-leaves", "rtds-remove"), ("credit2-core-leaves", "credit2-leaving")):
+            self.assertTrue(self.study_of_fault(name, change).finished)
+        for name, change, table, key, values in (("rtds-extra-time", "rtds-extra", "terms", "short", [4, 0]), ("rtds-late", "rtds-replenish", "terms", "lates", [0, 4]),
+                                                 ("arinc-two-pools", "arinc-pools", "windows", "lost", [0, 12_000_000, 0, 0])):
+            for changes, wanted in (((), values), ((change,), [0] * len(values))):
+                made = tables.TABLES[table](self.study_of_fault(name, *changes))
+                place = [column.key for column in made.columns].index(key)
+                self.assertEqual([row[place] for row in made.rows], wanted, (name, changes))
 
     @unittest.skipUnless(PROGRAM.exists(), "the program is not built")
     def test_compare(self):
         done = called("compare", MACHINE, f"{MACHINE}@xen", "--folder", FOLDER, "--json")
         self.assertEqual(done.returncode, 0, done.stderr)
-        self.assertIn("waits", done.stdout)
         self.assertIn("compare: Xen 4.17", done.stderr)
+        self.assertIn("waits", {row["table"] for row in json.loads(done.stdout)})
+
+    @unittest.skipUnless(PROGRAM.exists(), "the program is not built")
+    def test_the_page_of_answers(self):
+        page = (TOP / "docs" / "ANSWERS.md").read_text()
+        command, wanted = re.search(r"```text\n\$ tools/compare ([^\n]*)\n(.*?)```", page, re.S).groups()
+        done = called("compare", *command.split(), "--folder", FOLDER)
+        self.assertEqual(done.stdout, wanted, done.stderr)
 
 
 if __name__ == "__main__":
