@@ -33,10 +33,10 @@ static void make_topology(void)
     unsigned int processor, sibling;
     for ( processor = 0; processor < NR_CPUS; processor++ )
     {
-        unsigned int first = processor / core_size * core_size;
+        unsigned int first = processor / siblings * siblings;
         cpumask_clear(per_cpu(cpu_sibling_mask, processor));
         cpumask_setall(per_cpu(cpu_core_mask, processor));
-        for ( sibling = first; sibling < first + core_size; sibling++ )
+        for ( sibling = first; sibling < first + siblings; sibling++ )
             cpumask_set_cpu(sibling, per_cpu(cpu_sibling_mask, processor));
     }
 }

@@ -1,5 +1,6 @@
 /* The one file that is compiled with the host's headers and none of Xen's. */
 #define _GNU_SOURCE
+#include <signal.h>
 #include <stdarg.h>
 #include <stdio.h>
 #include <stdlib.h>
@@ -196,6 +197,16 @@ void host_stop(int number)
 }
 
 extern int simulate(void);
+extern void stop_at_address(void *code);
+
+/* Xen's code follows a pointer to nothing: what was told so far is written, and the signal ends the program. */
+static void end_by_signal(int signal_number, siginfo_t *about, void *context)
+{
+    stop_at_address((void *)((ucontext_t *)context)->uc_mcontext.gregs[REG_RIP]);
+    fflush(stdout);
+    signal(signal_number, SIG_DFL);
+    raise(signal_number);
+}
 
 int main(int words, char **word)
 {
@@ -203,6 +214,7 @@ int main(int words, char **word)
         host_complain("usage: beside INPUT\n");
         return 1;
     }
+    sigaction(SIGSEGV, &(struct sigaction){ .sa_sigaction = end_by_signal, .sa_flags = SA_SIGINFO }, NULL);
     host_open(word[1]);
     host_end(simulate());
 }

@@ -140,7 +140,9 @@ static void read_lateness(void)
 
 static void read_part(const char *word)
 {
-    if ( !strcmp(word, "core") ) core_size = host_number();
+    if ( !strcmp(word, "core") ) siblings = core_size = host_number();
+    else if ( !strcmp(word, "siblings") ) siblings = host_number();
+    else if ( !strcmp(word, "socket") ) socket_size = host_number();
     else if ( !strcmp(word, "processors") ) plan.processors = host_number();
     else if ( !strcmp(word, "horizon") ) plan.horizon = host_number();
     else if ( !strcmp(word, "origin") ) plan.origin = host_number();

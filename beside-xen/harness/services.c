@@ -3,7 +3,7 @@
 #include <xen/cpu.h>
 #include <xen/event.h>
 
-unsigned int present_cpu, core_size = 1;
+unsigned int present_cpu, core_size = 1, siblings = 1, socket_size = NR_CPUS;
 struct vcpu *current_vcpus[NR_CPUS];
 unsigned int nr_cpu_ids = NR_CPUS;
 cpumask_t cpu_online_map;
@@ -29,6 +29,12 @@ void stop_at_bug(const char *what, const char *file, int line)
 {
     host_complain("%s at %s:%d, moment %ld\n", what, file, line, present_moment - plan.origin);
     host_end(70);
+}
+
+/* The host's signal that an address is none. */
+void stop_at_address(void *code)
+{
+    host_complain("no such address, in the code at %p, moment %ld\n", code, present_moment - plan.origin);
 }
 
 void panic(const char *format, ...)

@@ -32,11 +32,22 @@ def call(*words):
     return done.stdout
 
 
-class Builder:
-    """Makes programs from one source of Xen in one folder. An object that was made before is taken again."""
+def place_for(folder, xen):
+    """A folder of its own for each state of the harness and each source, so that no old object is taken."""
+    state = hashlib.sha256(str(xen).encode())
+    parts = [HERE / "tools" / "build.py", *(path for part in ("harness", "stand-in", "changes") for path in sorted((HERE / part).rglob("*")))]
+    for path in parts:
+        state.update(path.read_bytes() if path.is_file() else b"")
+    place = folder / f"builds-{state.hexdigest()[:12]}"
+    place.mkdir(parents=True, exist_ok=True)
+    return place
 
-    def __init__(self, xen, folder):
-        self.xen, self.folder = xen, folder
+
+class Builder:
+    """Makes programs from one source of Xen in one folder. An object that was made before is taken again. `tell` is told how far a program is."""
+
+    def __init__(self, xen, folder, tell=lambda text: None):
+        self.xen, self.folder, self.tell = xen, folder, tell
         for name in EMPTY:
             path = folder / "empty" / name
             path.parent.mkdir(parents=True, exist_ok=True)
@@ -66,13 +77,19 @@ class Builder:
     def compiled(self, source, flags):
         return self.made(f"{source.stem}.o", "-c", *flags, source)
 
+    def path_of(self, changes):
+        """Where the program with these changes is, or will be."""
+        return self.folder / ("beside-" + hashlib.sha256(" ".join(changes).encode()).hexdigest()[:12] if changes else "beside")
+
+    def is_built(self, changes=()):
+        return self.path_of(changes).exists()
+
     def program(self, changes=()):
         """The program with these changes, which are made in their order."""
-        name = "beside-" + hashlib.sha256(" ".join(changes).encode()).hexdigest()[:12] if changes else "beside"
-        if not (self.folder / name).exists():
+        if not self.is_built(changes):
             with lock.alone_in(self.folder):
-                self.link(name, changes)
-        return self.folder / name
+                self.link(self.path_of(changes).name, changes)
+        return self.path_of(changes)
 
     def xenalyze(self):
         """Xen's own reader of traces, from the same source package."""
@@ -88,7 +105,10 @@ class Builder:
             it = file_of(change)
             sources[it] = self.edited(sources[it], change)
         rest = [self.xen / "common" / f"{name}.c" for name in COMMON] + [HERE / "harness" / f"{name}.c" for name in OWN]
-        objects = [self.compiled(source, self.flags) for source in [*sources.values(), *rest]]
+        objects = []
+        for source in (every := [*sources.values(), *rest]):
+            self.tell(f"compiling {source.name}, {len(objects) + 1} of {len(every)} files")
+            objects.append(self.compiled(source, self.flags))
         objects.append(self.compiled(HERE / "harness" / "host.c", ["-O1", "-g", "-Wall", "-fno-pie"]))
         self.made(name, "-no-pie", *objects, "-T", HERE / "harness" / "sections.ld")
 

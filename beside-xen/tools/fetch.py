@@ -1,4 +1,5 @@
 """Xen's source, from Debian's source package. Nothing of /etc is changed: apt is given a list of sources and folders of its own."""
+import os
 import pathlib
 import re
 import subprocess
@@ -8,6 +9,7 @@ import tarfile
 # The major and minor versions that the harness and the changes were tried on, the usual one first, and the suites of Debian that have them.
 SUITES = {"4.17": ["debian bookworm", "debian-security bookworm-security"], "4.14": ["debian bullseye", "debian-security bullseye-security"]}
 TRIED = next(iter(SUITES))
+FOLDER = pathlib.Path(os.environ.get("XDG_CACHE_HOME", pathlib.Path.home() / ".cache")) / "beside-xen"    # where all is kept unless told
 KEY = "/usr/share/keyrings/debian-archive-keyring.gpg"
 
 

@@ -1,14 +1,17 @@
 """The harness's input for a domain file and a work file of xensched.
 
-Options are words beside the two files. `NAME=VALUE` is a parameter of Xen's command line, but for five of the harness's own:
+Options are words beside the two files. `NAME=VALUE` is a parameter of Xen's command line, but for seven of the harness's own:
 `late=SPAN:SEED` has timers noticed up to SPAN nanoseconds late and processors come in another order, `apart` starts the vCPUs
 one after the other, all at 0, `by-rank` takes the events of a moment in the order of xensched's ordered run, `shuffled=SEED` lets
-the processors of a moment go on in an order that chance has, and `whole` has each entry of a schedule in the log.
+the processors of a moment go on in an order that chance has, `whole` has each entry of a schedule in the log, and `siblings=N` and
+`socket=N` say how many processors a core and a socket of the host have: Xen's run queues are made of them. Unless told a core has
+those that decide together, and there is one socket.
 """
 import tomllib
 
 SCHEDULERS = ["credit2", "rtds", "arinc653", "null"]
 ORIGIN = 120_000_000        # Xen's clock at the moment 0: domains are made at 10 ms, and the refills of caps stand on multiples of it
+OWN = ("late", "shuffled", "siblings", "socket")
 
 
 class NoCounterpart(Exception):
@@ -18,7 +21,7 @@ class NoCounterpart(Exception):
 def option_lines(options):
     for option in options:
         name, _, value = option.partition("=")
-        if name in ("late", "shuffled"):
+        if name in OWN:
             yield f"{name} " + value.replace(":", " ")
         else:
             yield f"parameter {name} {value}" if value else name
@@ -158,6 +161,6 @@ def input_for(domains, work="", options=(), answers=()):
     commands = Commands(machine, pools, answers)
     words = [line.split() for line in work.splitlines() if line.strip() and not line.startswith("#")]
     return "\n".join([
-        *option_lines(options), f"core {size}", f"processors {machine['processors']}", f"horizon {machine['horizon_ns']}", f"origin {ORIGIN}",
+        f"core {size}", *option_lines(options), f"processors {machine['processors']}", f"horizon {machine['horizon_ns']}", f"origin {ORIGIN}",
         *(pool_line(pool, size) for pool in pools), *(line for domain in machine.get("domain", []) for line in domain_lines(domain, pools, size)),
         *(commands.line(line) for line in words)]) + "\n"

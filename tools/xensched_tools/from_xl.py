@@ -187,6 +187,17 @@ class Maker:
         core, socket, node = host.topology.get(cpu, (cpu // host.threads, cpu // (host.per_socket or 1 << 30), cpu * host.nodes // (host.processors or 1)))
         return {"cpu": cpu, "core": (socket, core), "node": node, "all": None}.get(kind, socket)
 
+    def boot_words(self):
+        """What of the host tools/as-xen has to be told, to run Credit2 as Xen does there."""
+        host, processors = self.host, len(self.place)
+        given = {"--runqueue": host.options.get("credit2_runqueue"), "--max-cpus-runqueue": host.options.get("sched_credit2_max_cpus_runqueue")}
+        words = [f"{name} {value}" for name, value in given.items() if value and (value in premises.QUEUE_KINDS if name == "--runqueue" else value.isdecimal())]
+        if host.per_socket and processors % host.per_socket == 0 and processors > host.per_socket:
+            words.append(f"--sockets {processors // host.per_socket}")
+        if host.threads > self.granularity and processors % host.threads == 0:
+            words.append(f"--threads {host.threads}")
+        return words
+
     # domains
 
     def pool_of(self, guest):
@@ -370,7 +381,9 @@ def machine_of(host, loads, busy, horizon, granularity=None):
     machine = maker.machine(loads, busy, horizon)
     if host.version and not host.version.startswith(f"{COMPARED}."):
         host.tell(f"the host has Xen {host.version}, and {premises.PAGE} compares with {COMPARED}")
-    told = [*said(host, BEFORE), *premises.of(machine, queues=maker.queues() if host.processors else None), *host.first, *said(host, AFTER)]
+    words = maker.boot_words() if any(pool.sched == "credit2" for pool in machine.pools) else []
+    told = [*said(host, BEFORE), *premises.of(machine, queues=maker.queues() if host.processors else None), *host.first, *said(host, AFTER),
+            *[f"by Xen's own code, as this host boots it: tools/as-xen DOMAINS WORK {' '.join(words)}"] * bool(words)]
     return machine, maker.lines, told
 
 

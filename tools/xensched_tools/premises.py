@@ -4,6 +4,8 @@ from .machine import options_of
 PAGE = "docs/XEN.md"
 # Xen's own bound for a run queue (sched_credit2_max_cpus_runqueue), and a light guest's part of the greatest weight.
 RUN_QUEUE, LIGHT = 16, 10
+# What Xen may make a run queue for (credit2_runqueue), of what the harness of beside-xen has; it boots with the first.
+QUEUE_KINDS = ("socket", "core", "all")
 
 MANY = ("more than 16 processors under Credit2, which in Xen are several run queues: on a host of 32 the greatest wait of all guests was told up to "
         "1.4 times too small, and that of one guest 2.1 times")
