@@ -7,7 +7,7 @@ use Rattle.sched_model.specs.declared.event.Entry.{Entry}
 use Rattle.sched_model.specs.declared.machine.Machine.{Machine}
 use Rattle.sched_model.specs.declared.state.State.{State}
 use Rattle.sched_model.specs.Runs.{run_start}
-use Rattle.sched_examples.specs.Words.{arinc_domain, arinc_pool, endless_script, frame, null_domain, null_pool, run_of, stall, window}
+use Rattle.sched_examples.specs.Words.{arinc_domain, arinc_pool, credit2_domain, credit2_pool, endless_script, frame, null_domain, null_pool, run_of, stall, window}
 use Rattle.term_laws.specs.Term.{late_of}
 use Rattle.service_laws.specs.Service.{fails, has_unit, is_given_in, is_window_of, may_be_used, may_run_in, time_of}
 
@@ -43,6 +43,26 @@ a_core_given = record {
   };
 }
 
+-- one core for two equal guests that always run; what happens at 1 and at 20 nanoseconds is in another pool
+unfoldable pub a_core_shared : Machine
+a_core_shared = record {
+  config = record {
+    granularity = 1;
+    processors = 2;
+    horizon = moment 20;
+    pools = credit2_pool (codes "Pool-0") 1 1000 ∷ null_pool (codes "other") 2 ∷ [];
+    domains =
+        credit2_domain (codes "a") 0 256 0 (endless_script ∷ []) ∷
+        credit2_domain (codes "b") 0 256 0 (endless_script ∷ []) ∷
+        null_domain (codes "c") 1 ((span 1 ∷ span 19 ∷ []) ∷ []) ∷
+        [];
+  };
+  work = record {
+    stalls = [];
+    commands = [];
+  };
+}
+
 -- for how many nanoseconds a unit had a claim to the core, had it, was not to run, and the core could not be used
 pub record Service : Type 0 where
   pub claimed : ℕ
@@ -65,6 +85,10 @@ window_service m u = service_of m (is_window_of 0 u) u
 
 abbrev pub given_service : Machine → UnitId → Service
 given_service m u = service_of m (is_given_in 0 0 u) u
+
+-- for how many nanoseconds the unit had the core
+abbrev pub time_on_core : Machine → UnitId → ℕ
+time_on_core m u = time_of m (has_unit 0 0 u) (run_start m) (run_of m)
 
 -- the printed latenesses of the core 0, in the order of its decisions
 abbrev pub lates : Machine → List ℕ

@@ -4,7 +4,8 @@ ghost use Rattle.std.specs.Prelude.{◌≡◌, ◌∷◌, [], take, length};
 ghost use Rattle.sched_examples.specs.Words.{run_of, unit};
 ghost use Rattle.service_laws.specs.Ends.{most_entries};
 ghost use Rattle.service_laws.specs.Late.{hindered_for};
-ghost use Rattle.service_examples.specs.Counted.{a_core_given, given_service, lates, service, two_windows, window_service};
+ghost use Rattle.share_laws.specs.Shares.{longest_slice, pool_units, total_weight};
+ghost use Rattle.service_examples.specs.Counted.{a_core_given, a_core_shared, given_service, lates, service, time_on_core, two_windows, window_service};
 
 /// Two windows of 4 and 2 of each 10 nanoseconds, and a stall from 12 to 17. The first unit, which never sleeps, has its window from 0, 10 and 20 on. It
 /// keeps the core while that is stalled, beyond its window. The second one sleeps from 5 to 13 and from 25 on; its window from 14 to 16 is lost to the
@@ -25,6 +26,15 @@ pub fn late_by_a_stall()
 pub fn a_core_for_good()
     ensures first { given_service a_core_given (unit 0 0) ≡ service 9 6 3 3 }
     ensures second { given_service a_core_given (unit 1 0) ≡ service 0 0 0 3 }
+{}
+
+/// Two equal guests that always run: the first one has the core all the time, and the other waits. It is behind by less than one longest slice, which is 10
+/// milliseconds.
+pub fn behind_by_less_than_a_slice()
+    ensures first { time_on_core a_core_shared (unit 0 0) ≡ 20 }
+    ensures second { time_on_core a_core_shared (unit 1 0) ≡ 0 }
+    ensures weight { total_weight (pool_units a_core_shared 0) ≡ 512 }
+    ensures slice { longest_slice 1000 ≡ 10000000 }
 {}
 
 /// A run has far fewer entries than the bound that follows from its machine.
