@@ -202,7 +202,11 @@ extern void stop_at_address(void *code);
 /* Xen's code follows a pointer to nothing: what was told so far is written, and the signal ends the program. */
 static void end_by_signal(int signal_number, siginfo_t *about, void *context)
 {
-    stop_at_address((void *)((ucontext_t *)context)->uc_mcontext.gregs[REG_RIP]);
+    void *code = NULL;                  /* where, as far as the host says it */
+#ifdef __x86_64__
+    code = (void *)((ucontext_t *)context)->uc_mcontext.gregs[REG_RIP];
+#endif
+    stop_at_address(code);
     fflush(stdout);
     signal(signal_number, SIG_DFL);
     raise(signal_number);

@@ -51,7 +51,7 @@ class Words(unittest.TestCase):
             as_xen.schedule(described(64, a={}), "", as_xen.Host(), "test")
 
     def test_a_line_that_xl_would_refuse(self):
-        with self.assertRaisesRegex(Refused, "a line that cannot be carried"):
+        with self.assertRaisesRegex(Refused, "the line '5 xl sched-credit2 -d nobody -w 5' of the work file cannot be carried"):
             as_xen.schedule(described(1, a={}), "5 xl sched-credit2 -d nobody -w 5\n", as_xen.Host(), "test")
 
     def test_neither_source_nor_compiler(self):
@@ -108,6 +108,12 @@ class ByXen(unittest.TestCase):
         work = "1000000 xl cpupool-cpu-remove p 0\n2000000 xl cpupool-create name=q sched=credit2\n3000000 xl cpupool-cpu-remove p 1\n4000000 xl cpupool-cpu-add q 1\n"
         lines = [line for line in self.lines(described(2, a={}), work) if " xl " in line]
         self.assertEqual(lines, ["1000000 xl 1 refused 22 EINVAL", "2000000 xl 2 ok", "3000000 xl 3 ok", "4000000 xl 4 ok"])
+        # a pool with a core stays, so that its name is known
+        work += "5000000 xl cpupool-destroy q\n6000000 xl cpupool-cpu-remove q 1\n"
+        lines = [line for line in self.lines(described(2, a={}), work) if " xl " in line]
+        self.assertEqual(lines[4:], ["5000000 xl 5 refused 16 EBUSY", "6000000 xl 6 ok"])
+        with self.assertRaisesRegex(Refused, "the line '8000000 xl cpupool-cpu-add q 1' "):
+            self.lines(described(2, a={}), work + "7000000 xl cpupool-destroy q\n8000000 xl cpupool-cpu-add q 1\n")
 
     def test_where_xens_code_stops(self):
         for name, cause in (("rtds-core-leaves", r"follows a pointer to nothing at (rt\.c:756, in move_repl_timer|address 0x\w+), at 5000000 ns"), ("credit2-core-leaves", "the moment at 5000000 ns has no end")):

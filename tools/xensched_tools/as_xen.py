@@ -8,6 +8,7 @@ import re
 import shutil
 import subprocess
 import sys
+import tomllib
 
 from . import making, premises
 from .machine import read_work
@@ -111,14 +112,20 @@ def harness(host, tool):
         raise Refused(" ".join(str(fault).split("\n")[:2])) from None
 
 
-def input_of(machine, work, options, answers):
-    """The harness's input; a line of the work file that it cannot carry is refused."""
-    try:
-        return plan.input_for(machine.text(), work, options, answers)
-    except plan.NoCounterpart as line:
-        raise Refused(f"Xen's code has no counterpart of the line {line}") from None
-    except (KeyError, ValueError, IndexError, StopIteration):
-        raise Refused("the work file has a line that cannot be carried to Xen's code: a name that nobody has, or a word that `xl` would refuse") from None
+def carried(machine, lines, answers):
+    """How many of the lines of the work file have a counterpart, after these answers: what a command names hangs on those before it."""
+    described = tomllib.loads(machine.text())
+    commands = plan.Commands(described, plan.pools_of(described), answers)
+    for number, line in enumerate(lines):
+        try:
+            commands.line(line.split())
+        except (plan.NoCounterpart, KeyError, ValueError, IndexError, StopIteration):
+            return number
+    return len(lines)
+
+
+def refuse(line):
+    raise Refused(f"the line {line!r} of the work file cannot be carried to Xen's code: it names nobody, or has a word that `xl` refuses")
 
 
 def called(program, text, seconds):
@@ -164,18 +171,24 @@ def schedule(machine, work, host, tool):
         if None in domain.guests:
             raise Refused(f"what the vCPUs of {domain.name} do is not known, so there is nothing to run")
     options = host.options(machine)
-    input_of(machine, work, options, ())
+    told = [line for line in work.splitlines() if line.strip() and not line.startswith("#")]
+    count = carried(machine, told, ())
+    if count < len(told) and not any(" xl " in line for line in told[:count]):
+        refuse(told[count])
     program, version = harness(host, tool)
     warn(tool, f"Xen {version}, {'as it is' if not host.changes else 'with ' + ', '.join(host.changes)}; " + ", ".join(options[:2])
          + f", {host.sockets} socket{'s' * (host.sockets > 1)}, cores of {host.threads or machine.granularity}")
-    answers = ()
+    answers = []
     while True:
-        # which pools there are a command asks of those before it: one more answer is right each time, and mostly all are
-        done = called(program, input_of(machine, work, options, answers), host.seconds)
+        # at least one more answer is right each time, and mostly all are at once
+        count = carried(machine, told, answers)
+        done = called(program, plan.input_for(machine.text(), "\n".join(told[:count]), options, answers), host.seconds)
         found, words = answered(done.stdout)
-        if list(answers) + ["ok"] * (len(found) - len(answers)) == found:
+        if answers + ["ok"] * (len(found) - len(answers)) == found:
             break
         answers = found
+    if count < len(told) and not done.returncode:
+        refuse(told[count])
     lines = whole.schedule_of(done.stdout, words, machine.horizon)
     if crowded := next((moment for moment, count in collections.Counter(line.partition(" ")[0] for line in lines).items() if count > MOST_ENTRIES), None):
         raise Stopped(f"Xen's code goes round and round: the moment at {crowded} ns has more than {MOST_ENTRIES} entries", before(lines, crowded))
