@@ -9,11 +9,16 @@ import tomllib
 import plan
 
 ENTRIES = "4000000"         # the most that a run of xensched may have
+NO_END, BUG = 4, 70         # statuses of the harness: a moment without an end, and an assertion of Xen's that fails
 SECONDS = 60
 
 
 class Fault(Exception):
     """One of the two programs failed, or Xen's own account does not agree with the log."""
+
+
+class Stops(Fault):
+    """Xen's own code stops: a moment without an end, a null pointer, one of its assertions."""
 
 
 @dataclasses.dataclass
@@ -50,10 +55,12 @@ class Run:
         """When each vCPU runs, on whichever processor."""
         return {vcpu: joined(stays) for vcpu, stays in self.by_vcpu.items()}
 
-    def latencies(self):
-        """From each waking to the next moment at which the vCPU runs."""
+    def latencies(self, domain=None):
+        """From each waking to the next moment at which the vCPU runs, of all vCPUs or of those of a domain."""
         found = []
         for vcpu, wakings in grouped(self.wakings).items():
+            if domain is not None and not vcpu.startswith(f"d{domain}v"):
+                continue
             stays = iter(self.by_vcpu[vcpu])
             stay = next(stays, None)
             for moment in wakings:
@@ -220,7 +227,8 @@ class Both:
     def run_harness(self, beside):
         done = call([beside, "-"], self.input)
         if done.returncode:
-            raise Fault(f"{pathlib.Path(beside).name} ends with {done.returncode}: {done.stderr.strip()}")
+            kind = Stops if done.returncode in (NO_END, BUG) or done.returncode < 0 else Fault
+            raise kind(f"{pathlib.Path(beside).name} ends with {done.returncode}: {done.stderr.strip()}")
         return done.stdout
 
     def check_accounts(self):

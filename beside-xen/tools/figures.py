@@ -2,9 +2,14 @@
 import compare
 import machines as made
 from rows import ALL, Row
+from tables import TOLD
 
 # The most that a row's mean and greatest distance of shares may be: what docs/XEN.md promises.
 MEAN, GREATEST = 0.06, 0.60
+QUANTILES = .5, .95, .99
+# How far the mean and the percentiles of waits may be from Xen's, as a part of the greater, with caps on several cores and else: what docs/XEN.md says.
+WAITS, WAITS_OF_CAPS = (.05, .21, .21, .21), (.15, .21, .36, .21)
+LEAST = 100                 # microseconds: what two waits are apart is a part of no less than this
 LATE = 2000                 # how late Xen's timers may be noticed, in nanoseconds, where its own spread is measured
 
 
@@ -92,27 +97,44 @@ def quantile(values, part):
     return sorted(values)[min(len(values) - 1, int(part * len(values)))] / 1000 if values else 0
 
 
+def waits_of(runs):
+    """Mean, percentiles and the greatest of the waits of several runs, in microseconds."""
+    values = [value for run in runs for value in run]
+    return [sum(values) / max(1, len(values)) / 1000, *(quantile(values, part) for part in QUANTILES), max(values, default=0) / 1000]
+
+
+def beside(figures):
+    """The figures of several sides in one cell each."""
+    return [" / ".join(f"{value:.0f}" for value in values) for values in zip(*figures)]
+
+
+def too_far(one, other, most):
+    """The figures of which two sides are further apart than they may be, with that distance."""
+    parts = [abs(a - b) / max(a, b, LEAST) for a, b in zip(one, other)]
+    return [f"{name} {part:.3f}" for name, part, bound in zip(("mean", "50 %", "95 %", "99 %"), parts, most) if part > bound]
+
+
 def shares(setting):
     seeds = setting.seeds()
     print(f"\n## Shares and latencies of Credit2\n\n{len(seeds)} made machines a row. Share: |xensched - Xen| / the greater, of each domain. Spread: the same "
           f"of Xen and Xen, where timers are noticed up to {LATE} ns late. Behind it: xensched / Xen.\n\n| Machines | share: mean | greatest | spread: mean | "
           "greatest | switches a second | moves | resets | latency, us: mean | 50 % | 95 % | 99 % |\n" + "|---" * 12 + "|")
-    beside = setting.builder.program()
+    harness = setting.builder.program()
     for row in SHARES:
         setting.tell(f"shares, {row.name}")
-        found = list(setting.pool.map(shared, [(setting.program, beside, row.machine(seed), seed) for seed in seeds]))
+        found = list(setting.pool.map(shared, [(setting.program, harness, row.machine(seed), seed) for seed in seeds]))
         apart, spread = ([value for it in found for value in it[place]] for place in (0, 1))
         seconds = sum(it[2] for it in found)
         counts = [f"{sum(it[3][0][what] for it in found) / seconds:.0f} / {sum(it[3][1][what] for it in found) / seconds:.0f}" for what in range(3)]
-        late = [[value for it in found for value in it[4][side]] for side in (0, 1)]
-        means = " / ".join(f"{sum(values) / max(1, len(values)) / 1000:.0f}" for values in late)
-        quantiles = [" / ".join(f"{quantile(values, part):.0f}" for values in late) for part in (.5, .95, .99)]
+        waits = [waits_of(it[4][side] for it in found)[:4] for side in (0, 1)]
         mean = sum(apart) / len(apart)
-        print("| " + " | ".join([row.name, f"{mean:.4f}", f"{max(apart):.3f}", f"{sum(spread) / len(spread):.4f}", f"{max(spread):.3f}", *counts, means,
-                                 *quantiles]) + " |", flush=True)
+        setting.row(row.name, f"{mean:.4f}", f"{max(apart):.3f}", f"{sum(spread) / len(spread):.4f}", f"{max(spread):.3f}", *counts, *beside(waits))
         if mean > MEAN or max(apart) > GREATEST:
             seed = max(seeds, key=lambda seed: max(found[seed - 1][0]))
             setting.fault(f"shares, {row.name}: mean {mean:.4f} of at most {MEAN}, greatest {max(apart):.3f} of at most {GREATEST}", row, seed)
+        told = too_far(*(waits_of(it[4][side] for it in found[:TOLD]) for side in (0, 1)), WAITS_OF_CAPS if row.name == "4 cores, caps" else WAITS)
+        if told and len(seeds) >= TOLD:
+            setting.fault(f"shares, {row.name}: the waits of {TOLD} machines are further from Xen's than they may be: {', '.join(told)}")
 
 
 # ---- both forms of the run ----

@@ -6,6 +6,7 @@ where a kind is there to have them meet.
 MILLISECOND = 1_000_000
 PERIODS_US = [5000, 8000, 10000, 20000, 25000, 40000, 50000, 100000]
 WEIGHTS = [64, 128, 256, 256, 512, 1024]
+ODD_WEIGHTS = [63, 100, 255, 300, 777, 1000]    # most divide no other, so that a charge leaves a residual
 RATE_LIMITS_US = [0, 100, 500, 1000, 2000, 5000, 30000]
 
 
@@ -73,6 +74,18 @@ def rtds(random, cores=1, extra=False, meeting=False):
     return machine("rtds", cores, 2000, domains)
 
 
+def short_terms(random, cores, extra):
+    """RTDS with periods of 0.1 to 2 ms."""
+    count = random.randrange(2, 3 + 2 * cores)
+    domains = []
+    for number in range(count):
+        period = random.randrange(100, 2000) // 32 * 32 + 2 * number + 1
+        budget = random.randrange(10, max(11, int(period * 2 * cores / count)))
+        domains.append({"period_us": period, "budget_us": max(10, min(budget, period)),
+                        "extratime": random.random() < 0.5 if extra is None else extra, "guests": guests(random, 1, 0.5)})
+    return machine("rtds", cores, 200, domains)
+
+
 def reserved(random, extra):
     """One core, guests that always run, and reservations that all fit."""
     parts = [random.random() + 0.2 for _ in range(random.randrange(2, 5))]
@@ -92,6 +105,40 @@ def credit2(random, cores=1, caps=False, busy=0.4, limits=False, milliseconds=20
             domain["cap"] = random.randrange(10, 100 * len(domain["guests"]) + 1)
         domains.append(domain)
     return machine("credit2", cores, milliseconds, domains, **({"ratelimit_us": random.choice(RATE_LIMITS_US)} if limits else {}))
+
+
+def host(random, cores, filled, caps=False, milliseconds=500):
+    """A host of Credit2: domains of one to eight vCPUs and of odd weights, until each core has so many vCPUs in the mean."""
+    domains, left = [], int(cores * filled)
+    while left > 0:
+        own = guests(random, min(left, random.randrange(1, 9)), 0.2)
+        cap = {"cap": random.randrange(10, 100 * len(own) + 1)} if caps and random.random() < 0.6 else {}
+        domains.append({"weight": random.choice(ODD_WEIGHTS), "guests": own, **cap})
+        left -= len(own)
+    return machine("credit2", cores, milliseconds, domains)
+
+
+def lasting(made, milliseconds):
+    """The same machine for another span."""
+    return made | {"horizon_ns": milliseconds * MILLISECOND}
+
+
+def odd(random, made):
+    """The same machine with odd weights."""
+    return made | {"domain": [domain | {"weight": random.choice(ODD_WEIGHTS)} for domain in made["domain"]]}
+
+
+def small_caps(random, made):
+    """The same machine with caps of 1 to 9 percent in place of its own."""
+    return made | {"domain": [domain | ({"cap": random.randrange(1, 10)} if "cap" in domain else {}) for domain in made["domain"]]}
+
+
+def many(random, made):
+    """The same machine with one to eight vCPUs in each domain, and caps of at most 100 for each."""
+    def filled(domain):
+        own = guests(random, random.randrange(1, 9))
+        return domain | {"guests": own} | ({"cap": random.randrange(10, 100 * len(own) + 1)} if "cap" in domain else {})
+    return made | {"domain": [filled(domain) for domain in made["domain"]]}
 
 
 def of_two(random, made, size=2):
@@ -175,8 +222,18 @@ class Work:
     def extra(self, random):
         return f"xl sched-rtds -d {self.domain('rtds')[0]} -e {random.randrange(2)}"
 
+    def one(self, random):
+        """The parameters of one vCPU."""
+        name, domain = self.domain("rtds")
+        period = random.randrange(8000, 60000) // 32 * 32 + 2 * self.made["domain"].index(domain) + 1
+        vcpu = random.randrange(len(domain["guests"]))
+        return f"xl sched-rtds -d {name} -v {vcpu} -p {period} -b {max(10, period // random.randrange(2, 20))} -e {random.randrange(2)}"
+
     def weight(self, random):
         return f"xl sched-credit2 -d {self.domain('credit2')[0]} -w {random.choice(WEIGHTS)}"
+
+    def odd_weight(self, random):
+        return f"xl sched-credit2 -d {self.domain('credit2')[0]} -w {random.choice(ODD_WEIGHTS)}"
 
     def cap(self, random):
         name, domain = self.domain("credit2")

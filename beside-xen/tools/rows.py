@@ -19,8 +19,8 @@ CORE = ("core-sibling", "core-pin", "core-leave", "core-gather", "core-first", "
 CHECKED = ("core-once", "rtds-each")      # what only the checker sees, since no stay depends on it
 EVERY = RTDS + CREDIT2 + ARINC + NULL + CORE
 
-# What Xen as it is has in common with xensched, on every machine of a row.
-EQUAL, BY_VCPU, DIFFERS = "equal", "by vCPU", "differs"
+# What Xen as it is has in common with xensched, on every machine of a row; and where Xen's own code stops on some.
+EQUAL, BY_VCPU, DIFFERS, STOPS = "equal", "by vCPU", "differs", "stops"
 
 
 @dataclasses.dataclass(frozen=True)
@@ -60,8 +60,8 @@ def credit2(name, make, lines=()):
     return Row("Credit2, " + name, make, lines, DIFFERS, CREDIT2 + CORE, BY_RANK + NO_RESISTANCE)
 
 
-def several(name, make, lines=()):
-    return Row("pools, " + name, make, lines, DIFFERS, EVERY, BY_RANK + NO_RESISTANCE)
+def several(name, make, lines=(), as_it_is=DIFFERS):
+    return Row("pools, " + name, make, lines, as_it_is, EVERY, BY_RANK + NO_RESISTANCE)
 
 
 def unsettled(row):
@@ -83,6 +83,8 @@ def credit2_and_rtds(random):
 def two_null(random):
     return made.pools(made.null(random, 2), made.null(random, 2))
 
+
+OWN_ORDER = Row("Credit2, 1 core, five changes, Xen's own order", made.credit2, (), DIFFERS, ONE_CORE, ())
 
 EQUALITY = [
     arinc("1 core", as_it_is=EQUAL),
@@ -116,7 +118,7 @@ EQUALITY = [
     rtds("4 cores, extra time set", lambda r: made.rtds(r, 4), ("extra",)),
     rtds("4 cores, pins set", lambda r: made.rtds(r, 4), ("pin",)),
     rtds("2 cores of two, pause, pins and parameters set", lambda r: made.of_two(r, made.rtds(r, 2)), ("pause", "pin", "budget", "extra")),
-    Row("Credit2, 1 core, five changes, Xen's own order", made.credit2, (), DIFFERS, ONE_CORE, ()),
+    OWN_ORDER,
     credit2("1 core", made.credit2),
     credit2("2 cores", lambda r: made.credit2(r, 2)),
     credit2("4 cores", lambda r: made.credit2(r, 4)),
@@ -138,19 +140,35 @@ EQUALITY = [
     credit2("2 cores of two, caps, all of these set", lambda r: made.of_two(r, made.credit2(r, 2, True)), ("pause", "weight", "cap", "limit", "pin")),
     several("one of each scheduler", made.all_schedulers),
     several("one of each scheduler, stalls, pause and parameters set", made.all_schedulers, ("stall", "pause", "weight", "cap", "budget", "extra", "frame")),
-    several("two of Credit2, cores moved", two_credit2, ("core",)),
-    several("two of RTDS, cores moved", two_rtds, ("core",)),
-    several("Credit2 and RTDS, cores moved", credit2_and_rtds, ("core",)),
+    several("two of Credit2, cores moved", two_credit2, ("core",), STOPS),
+    several("two of RTDS, cores moved", two_rtds, ("core",), STOPS),
+    several("Credit2 and RTDS, cores moved", credit2_and_rtds, ("core",), STOPS),
     several("two of Credit2, domains moved", two_credit2, ("migrate",)),
     several("Credit2 and RTDS, domains moved", credit2_and_rtds, ("migrate",)),
     several("two of null, cores and domains moved", two_null, ("core", "migrate")),
     arinc("1 core of two, stalls", lambda r: made.of_two(r, made.arinc(r)), ("stall",)),
     credit2("2 cores of two, stalls", lambda r: made.of_two(r, made.credit2(r, 2)), ("stall",)),
-    several("Credit2 and RTDS, a third made and destroyed", credit2_and_rtds, ("life",)),
+    several("Credit2 and RTDS, a third made and destroyed", credit2_and_rtds, ("life",), STOPS),
     arinc("1 core of four, stalls", lambda r: made.of_four(r, made.arinc(r)), ("stall",)),
     null("cores of four, pause", lambda r: made.of_four(r, made.null(r, 3)), ("pause",)),
     rtds("2 cores of four, stalls, pins set", lambda r: made.of_four(r, made.rtds(r, 2)), ("stall", "pin")),
     credit2("2 cores of four, caps, stalls, pause", lambda r: made.of_four(r, made.credit2(r, 2, True)), ("stall", "pause")),
+    dataclasses.replace(OWN_ORDER, name="Credit2, 1 core, odd weights, five changes, Xen's own order", make=lambda r: made.odd(r, made.credit2(r))),
+    credit2("1 core, odd weights", lambda r: made.odd(r, made.credit2(r))),
+    credit2("4 cores, odd weights", lambda r: made.odd(r, made.credit2(r, 4))),
+    credit2("4 cores, odd weights, caps", lambda r: made.odd(r, made.credit2(r, 4, True))),
+    credit2("4 cores, odd weights set", lambda r: made.odd(r, made.credit2(r, 4, True)), ("odd_weight",)),
+    credit2("4 cores, caps of 1 to 9", lambda r: made.small_caps(r, made.credit2(r, 4, True, milliseconds=500))),
+    credit2("4 cores, one to eight vCPUs a domain, caps", lambda r: made.many(r, made.credit2(r, 4, True, milliseconds=500))),
+    credit2("1 core, 20 s", lambda r: made.credit2(r, milliseconds=20000)),
+    credit2("16 cores, full", lambda r: made.host(r, 16, 2, milliseconds=200)),
+    credit2("32 cores, full, pinned units", lambda r: made.pinned(r, made.host(r, 32, 2, milliseconds=100))),
+    credit2("62 cores, full, caps", lambda r: made.host(r, 62, 2, True, milliseconds=20)),
+    rtds("1 core, periods of 0.1 to 2 ms, no extra time", lambda r: made.short_terms(r, 1, False)),
+    rtds("4 cores, periods of 0.1 to 2 ms, some extra time", lambda r: made.short_terms(r, 4, None)),
+    rtds("4 cores, one to eight vCPUs a domain, parameters of one vCPU set", lambda r: made.many(r, made.lasting(made.rtds(r, 4, None), 500)), ("one",)),
+    rtds("16 cores, no extra time", lambda r: made.lasting(made.rtds(r, 16), 300), as_it_is=BY_VCPU),
+    null("32 cores", lambda r: made.lasting(made.null(r, 32), 300)),
 ]
 
 # For each change of Xen's code, and for each option that stands for one, the row on which it is tried without it.
@@ -160,10 +178,10 @@ WITNESSES = {
     "rtds-due": "RTDS, 4 cores, budgets and periods set", "rtds-term": "RTDS, 4 cores, extra time set",
     "credit2-look": "Credit2, 4 cores", "credit2-rate": "Credit2, 4 cores", "credit2-most": "Credit2, 4 cores, rate limits",
     "credit2-wait": "Credit2, 4 cores", "credit2-other": "Credit2, 4 cores, pinned units", "credit2-floor": "Credit2, 4 cores",
-    "credit2-reset": "Credit2, 4 cores, pinned units", "credit2-arrival": "Credit2, 4 cores, guests that always run",
+    "credit2-reset": "Credit2, 4 cores, pinned units", "credit2-arrival": "Credit2, 4 cores, caps",
     "credit2-compensation": "Credit2, 4 cores", "sched_credit2_migrate_resist=0": "Credit2, 4 cores", "by-rank": "Credit2, 4 cores",
     "credit2-capcut": "Credit2, 4 cores, caps", "credit2-budget": "Credit2, 4 cores, caps", "credit2-refill": "Credit2, 4 cores, caps",
-    "credit2-setcap": "Credit2, 4 cores, caps set", "credit2-residual": "Credit2, 4 cores, weights set",
+    "credit2-setcap": "Credit2, 4 cores, caps set", "credit2-residual": "Credit2, 4 cores, odd weights set",
     "credit2-timer": "Credit2, 4 cores, stalls, caps", "credit2-tolerance": "Credit2, 1 core, five changes, Xen's own order",
     "credit2-head": "Credit2, 1 core, five changes, Xen's own order", "core-sibling": "Credit2, 2 cores of two", "core-pin": "Credit2, 4 cores, pins set",
     "arinc-pools": "ARINC 653, two pools", "arinc-set": "ARINC 653, frames set", "arinc-grid": "ARINC 653, stalls",

@@ -8,7 +8,10 @@ import build
 import compare
 import plan
 import rows as table_rows
-from rows import ALL, BY_VCPU, DIFFERS, EQUAL
+from rows import ALL, BY_VCPU, DIFFERS, EQUAL, STOPS
+
+PAGE = pathlib.Path(__file__).resolve().parent.parent.parent / "docs" / "XEN.md"
+TOLD = 20                   # how many machines the rows of figures on that page have
 
 
 @dataclasses.dataclass
@@ -31,6 +34,13 @@ class Setting:
     def tell(self, what):
         print(f"{(time.monotonic() - self.begun) / 60:4.1f} minutes: {what}", file=sys.stderr, flush=True)
 
+    def row(self, *cells):
+        """Prints a row of figures. Of as many machines as the page tells of it has to stand there, letter for letter."""
+        line = "| " + " | ".join(cells) + " |"
+        print(line, flush=True)
+        if self.machines == TOLD and line not in PAGE.read_text().splitlines():
+            self.fault(f"docs/XEN.md has another row: {line}")
+
     def fault(self, text, row=None, seed=None, changes=(), options=()):
         """Remembers what is not as expected, and keeps the files of the first machine of which that is known."""
         self.faults.append(text)
@@ -44,13 +54,14 @@ class Outcome:
     equal: bool
     by_vcpu: bool
     where: str
+    stops: bool = False         # Xen's own code stops
 
 
 def outcome_of(model, beside, options):
     try:
         both = compare.Both(model, beside, options)
     except compare.Fault as fault:
-        return Outcome(False, False, f"failed: {fault}")
+        return Outcome(False, False, f"failed: {fault}", isinstance(fault, compare.Stops))
     found = both.first_difference()
     answers = both.model.answers == both.xen.answers
     replenished = sorted(both.model.replenishments) == sorted(both.xen.replenishments)
@@ -95,24 +106,26 @@ def count(found, what):
 
 def demand(setting, row, seeds, found, expected, changes=(), options=()):
     """A fault for each machine on which the two are not equal in the sense that is expected."""
+    side = "with the changes" if changes else "Xen as it is"
     for seed, outcome in zip(seeds, found):
-        if not {EQUAL: outcome.equal, BY_VCPU: outcome.by_vcpu, DIFFERS: True}[expected]:
-            side = "with the changes" if changes else "Xen as it is"
+        if not {EQUAL: outcome.equal, BY_VCPU: outcome.by_vcpu, DIFFERS: not outcome.stops, STOPS: True}[expected]:
             setting.fault(f"{row.name}, {side}, machine {seed}: {outcome.where}", row, seed, changes, options)
+    if expected == STOPS and len(seeds) >= TOLD and not count(found, "stops"):
+        setting.fault(f"{row.name}, {side}: Xen's code stops on no machine, and was to")
 
 
 def equality(setting):
     """Which machines are equal with Xen as it is, and with the changes."""
     seeds = setting.seeds()
-    print(f"## Equality\n\n{len(seeds)} made machines a row. By vCPU: each vCPU runs at the same moments, on whichever core.\n\n"
-          "| Machines | Xen as it is: equal | by vCPU | with the changes: equal |\n|---|---|---|---|")
+    print(f"## Equality\n\n{len(seeds)} made machines a row. By vCPU: each vCPU runs at the same moments, on whichever core. Stops: Xen's own code does.\n\n"
+          "| Machines | Xen as it is: equal | by vCPU | stops | with the changes: equal |\n|---|---|---|---|---|")
     chosen = [row for row in table_rows.EQUALITY if setting.rows in row.name]
     for number, row in enumerate(chosen, 1):
         setting.tell(f"equality, row {number} of {len(chosen)}")
         as_it_is, changed = outcomes(setting, row, seeds, [((), ()), (row.changes, row.options)])
         demand(setting, row, seeds, as_it_is, row.as_it_is)
         demand(setting, row, seeds, changed, row.with_changes, row.changes, row.options)
-        print(f"| {row.name} | {count(as_it_is, 'equal')} | {count(as_it_is, 'by_vcpu')} | {count(changed, 'equal')} |", flush=True)
+        print(f"| {row.name} | {count(as_it_is, 'equal')} | {count(as_it_is, 'by_vcpu')} | {count(as_it_is, 'stops')} | {count(changed, 'equal')} |", flush=True)
 
 
 def differences(setting):

@@ -7,11 +7,11 @@ RUN_QUEUE, LIGHT = 16, 10
 # What Xen may make a run queue for (credit2_runqueue), of what the harness of beside-xen has; it boots with the first.
 QUEUE_KINDS = ("socket", "core", "all")
 
-MANY = ("more than 16 processors under Credit2, which in Xen are several run queues: on a host of 32 the greatest wait of all guests was told up to "
-        "1.4 times too small, and that of one guest 2.1 times")
-QUEUES = "Xen has {} run queues of Credit2 here, and the model has one: on a host with two the greatest wait of all guests was told up to 1.4 times too small, and that of one guest 2.1 times"
-PINNED = "with pinned units the greatest wait was told up to 5 times too small, and one domain's share was off by 72 percent"
-CAPS = "with caps on several cores the mean wait was told 14 percent too small, and the 95th percentile 35 percent"
+FREE = "where nothing is pinned or capped the greatest wait was told up to 1.7 times too small with two of them, and up to 87 times with four"
+MANY = f"more than 16 processors under Credit2, which in Xen are several run queues: {FREE}"
+QUEUES = "Xen has {} run queues of Credit2 here, and the model has one: " + FREE
+PINNED = "with pinned units the greatest wait was told up to 7 times too small with one run queue, and one domain's share was off by 72 percent"
+CAPS = "with caps on several cores the mean wait was told up to 1.4 times too small, the 95th percentile 2.2 times and the greatest wait 14 times"
 BUSY = "where all guests always run on several cores, one domain's share was off by 28 percent by `run --ordered`; `run` is nearer"
 EXTRA = "RTDS with extra time: in Xen a unit had less than its budget in 3,705 of 13,608 periods, here in none"
 LIGHT_GUEST = "a weight below a tenth of the greatest: Xen gives such a guest 1 ms in every 21 ms, whatever its weight"
