@@ -63,6 +63,8 @@ static void start_scheduling(void)
         set_parameter("sched-gran", "core");
     present_cpu = 0;
     cpumask_set_cpu(0, &cpu_online_map);
+    timer_init();
+    set_slop(0);
     scheduler_init();
     current_vcpus[0] = idle_vcpu[0];
     for ( processor = 1; processor < plan.processors; processor++ )
@@ -263,6 +265,7 @@ void begin(void)
     present_moment = plan.origin;
     run_timers();                       /* those of this very moment, as of caps */
     is_begun = true;
+    set_slop(plan.slop);
     for ( number = 0; number < plan.pool_count; number++ )
         if ( plan.pools[number].frame.count )
             BUG_ON(set_frame(number, &plan.pools[number].frame));

@@ -57,6 +57,8 @@ struct plan {
     bool is_shuffled;                   /* the processors go on in an order that chance has */
     long most_late;                     /* how late a timer may be noticed */
     unsigned long seed;
+    bool has_xens_timers;               /* timer.c keeps the timers, and not the harness */
+    long slop;                          /* its timer_slop from the moment 0 on */
     struct pool_plan pools[MAX_POOLS];
     struct domain_plan domains[MAX_DOMAINS];
     struct line lines[MAX_LINES];
@@ -75,13 +77,16 @@ extern bool is_begun;
 #define tell(...) do { if ( is_begun ) host_entry(present_moment - plan.origin, __VA_ARGS__); } while (0)
 
 /* services.c */
-extern bool is_timer_running;           /* what happens now, a timer brought about */
 extern struct domain *domains[MAX_DOMAINS];
 void start_processor(unsigned int number);
 unsigned long chance(void);
+
+/* timers.c */
+extern bool is_timer_running;           /* what happens now, a timer brought about */
 long chance_of_lateness(void);
 long next_timer(const long *stalled_until);
 int run_timer(const long *stalled_until);
+void set_slop(long nanoseconds);
 
 /* boot.c */
 void boot(void);
@@ -103,6 +108,7 @@ extern long stalled_until[NR_CPUS];
 void settle(void);
 void look(int pool);
 bool is_asked(unsigned int first);
+bool is_at_rest(unsigned int processor);
 bool run_timers(void);
 void run_moment(void);
 long next_moment(void);

@@ -151,6 +151,7 @@ static void read_part(const char *word)
     else if ( !strcmp(word, "whole") ) plan.whole = true;
     else if ( !strcmp(word, "shuffled") ) plan.is_shuffled = true, plan.seed = host_number();
     else if ( !strcmp(word, "late") ) read_lateness();
+    else if ( !strcmp(word, "slop") ) plan.has_xens_timers = true, plan.slop = host_number();
     else if ( !strcmp(word, "parameter") ) read_parameter();
     else if ( !strcmp(word, "pool") ) read_pool();
     else if ( !strcmp(word, "domain") ) read_domain();

@@ -89,6 +89,12 @@ static bool (*rule_of(int scheduler))(unsigned int processor)
     }
 }
 
+/* Whether the processor is not in the midst of a switch. */
+bool is_at_rest(unsigned int processor)
+{
+    return places[processor] == AT_REST && !is_waiting[processor];
+}
+
 /* Whether a processor of the core is to schedule already. */
 bool is_asked(unsigned int first)
 {

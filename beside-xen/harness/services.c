@@ -108,111 +108,12 @@ void start_processor(unsigned int number)
     cpumask_set_cpu(number, &cpu_online_map);
 }
 
-/* Timers. One is noticed at its moment, or up to plan.most_late after it. */
-static struct timer *timers[4096];
-static long noticed[4096];              /* when each is noticed */
-static int timer_count;
-
 /* The next number of a generator of Knuth's. */
 unsigned long chance(void)
 {
     plan.seed = plan.seed * 6364136223846793005ul + 1442695040888963407ul;
     return plan.seed >> 33;
 }
-
-/* At most the greatest lateness. */
-long chance_of_lateness(void)
-{
-    return plan.most_late ? chance() % (plan.most_late + 1) : 0;
-}
-
-void init_timer(struct timer *timer, void (*function)(void *), void *data, unsigned int processor)
-{
-    memset(timer, 0, sizeof(*timer));
-    timer->function = function;
-    timer->data = data;
-    timer->cpu = processor;
-    timer->status = TIMER_STATUS_inactive;
-}
-
-void set_timer(struct timer *timer, s_time_t expires)
-{
-    if ( timer->status == TIMER_STATUS_killed )
-        return;
-    BUG_ON(timer->status == TIMER_STATUS_invalid);
-    if ( timer->status != TIMER_STATUS_in_heap )
-    {
-        BUG_ON(timer_count == ARRAY_SIZE(timers));
-        timer->heap_offset = timer_count;
-        timer->status = TIMER_STATUS_in_heap;
-        timers[timer_count++] = timer;
-    }
-    timer->expires = expires;
-    noticed[timer->heap_offset] = expires + chance_of_lateness();
-}
-
-void stop_timer(struct timer *timer)
-{
-    unsigned int hole = timer->heap_offset;
-    if ( timer->status != TIMER_STATUS_in_heap )
-        return;
-    timers[hole] = timers[--timer_count];
-    noticed[hole] = noticed[timer_count];
-    timers[hole]->heap_offset = hole;
-    timer->status = TIMER_STATUS_inactive;
-}
-
-void migrate_timer(struct timer *timer, unsigned int processor)
-{
-    if ( timer->status != TIMER_STATUS_killed )
-        timer->cpu = processor;
-}
-
-void kill_timer(struct timer *timer)
-{
-    stop_timer(timer);
-    timer->status = TIMER_STATUS_killed;
-}
-
-static long comes_at(int place, const long *stalled_until)
-{
-    return max(noticed[place], stalled_until[timers[place]->cpu]);
-}
-
-/* When the first timer comes, LONG_MAX where none is set. */
-long next_timer(const long *stalled_until)
-{
-    long best = LONG_MAX;
-    int place;
-    for ( place = 0; place < timer_count; place++ )
-        best = min(best, comes_at(place, stalled_until));
-    return best;
-}
-
-/* Runs one timer that has come, on its processor. Which processor that is, -1 where none has come. */
-int run_timer(const long *stalled_until)
-{
-    int place;
-    for ( place = 0; place < timer_count; place++ )
-        if ( comes_at(place, stalled_until) <= present_moment )
-        {
-            struct timer *timer = timers[place];
-            int processor = timer->cpu;
-            stop_timer(timer);
-            if ( plan.whole && timer == &get_sched_res(processor)->s_timer && !get_sched_res(processor)->curr->rendezvous_in_cnt &&
-                 !is_asked(processor / core_size * core_size) )
-                tell("slice c%u", processor / core_size);
-            present_cpu = processor;
-            is_timer_running = true;
-            timer->function(timer->data);
-            is_timer_running = false;
-            present_cpu = TOOLSTACK;
-            return processor;
-        }
-    return -1;
-}
-
-bool is_timer_running;
 
 /* Domains */
 struct domain *domains[MAX_DOMAINS];

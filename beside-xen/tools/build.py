@@ -12,8 +12,10 @@ import lock
 
 HERE = pathlib.Path(__file__).resolve().parent.parent
 SCHEDULERS = ["null", "arinc653", "rt", "credit2", "core", "cpupool"]
+TIMERS = "timer"            # compiled with names of its own
+ALWAYS = ("timer-moment",)  # changes that each program has, since the clock stands still while Xen's code runs
 COMMON = ["softirq", "bitmap"]
-OWN = ["machine", "guests", "commands", "boot", "input", "services"]
+OWN = ["machine", "guests", "commands", "boot", "input", "services", "timers"]
 # Headers that Xen's files name and of which they need nothing here.
 EMPTY = ["asm/cpufeature.h", "asm/delay.h", "asm/desc.h", "asm/event.h", "asm/flushtlb.h", "asm/guest.h", "asm/init.h", "asm/page.h",
          "asm/percpu.h", "asm/string.h", "asm/trace.h", "xen/hypercall.h", "xen/hypfs.h", "xen/iommu.h", "xen/symbols.h"]
@@ -101,14 +103,16 @@ class Builder:
 
     def link(self, name, changes):
         sources = {it: self.xen / "common" / "sched" / f"{it}.c" for it in SCHEDULERS}
-        for change in changes:
+        sources[TIMERS] = self.xen / "common" / f"{TIMERS}.c"
+        for change in dict.fromkeys((*changes, *ALWAYS)):
             it = file_of(change)
             sources[it] = self.edited(sources[it], change)
         rest = [self.xen / "common" / f"{name}.c" for name in COMMON] + [HERE / "harness" / f"{name}.c" for name in OWN]
         objects = []
         for source in (every := [*sources.values(), *rest]):
             self.tell(f"compiling {source.name}, {len(objects) + 1} of {len(every)} files")
-            objects.append(self.compiled(source, self.flags))
+            names = ["-include", HERE / "harness" / "timer_names.h"] if source is sources[TIMERS] else []
+            objects.append(self.compiled(source, [*self.flags, *names]))
         objects.append(self.compiled(HERE / "harness" / "host.c", ["-O1", "-g", "-Wall", "-fno-pie"]))
         self.made(name, "-no-pie", *objects, "-T", HERE / "harness" / "sections.ld")
 

@@ -1,17 +1,17 @@
 """The harness's input for a domain file and a work file of xensched.
 
-Options are words beside the two files. `NAME=VALUE` is a parameter of Xen's command line, but for seven of the harness's own:
-`late=SPAN:SEED` has timers noticed up to SPAN nanoseconds late and processors come in another order, `apart` starts the vCPUs
-one after the other, all at 0, `by-rank` takes the events of a moment in the order of xensched's ordered run, `shuffled=SEED` lets
-the processors of a moment go on in an order that chance has, `whole` has each entry of a schedule in the log, and `siblings=N` and
-`socket=N` say how many processors a core and a socket of the host have: Xen's run queues are made of them. Unless told a core has
-those that decide together, and there is one socket.
+Options are words beside the two files. `NAME=VALUE` is a parameter of Xen's command line, but for eight of the harness's own:
+`late=SPAN:SEED` has timers noticed up to SPAN nanoseconds late and processors come in another order, `slop=SPAN` has Xen's own
+timers with that `timer_slop`, `apart` starts the vCPUs one after the other, all at 0, `by-rank` takes the events of a moment in the
+order of xensched's ordered run, `shuffled=SEED` lets the processors of a moment go on in an order that chance has, `whole` has each
+entry of a schedule in the log, and `siblings=N` and `socket=N` say how many processors a core and a socket of the host have: Xen's
+run queues are made of them. Unless told a core has those that decide together, and there is one socket.
 """
 import tomllib
 
 SCHEDULERS = ["credit2", "rtds", "arinc653", "null"]
 ORIGIN = 120_000_000        # Xen's clock at the moment 0: domains are made at 10 ms, and the refills of caps stand on multiples of it
-OWN = ("late", "shuffled", "siblings", "socket")
+OWN = ("late", "slop", "shuffled", "siblings", "socket")
 
 
 class NoCounterpart(Exception):

@@ -45,6 +45,7 @@ class Words(unittest.TestCase):
         self.assertIn("2 processors are not 3 sockets of whole cores of 1", self.refused("--sockets", "3"))
         self.assertIn("2 processors are not 1 sockets of whole cores of 4", self.refused("--threads", "4"))
         self.assertIn("'nothing' is no change of Xen's code", self.refused("--changes", "nothing"))
+        self.assertIn("--slop -1: nanoseconds, 0 to 1000000000", self.refused("--slop", "-1"))
 
     def test_too_many_processors(self):
         with self.assertRaisesRegex(Refused, "64 processors, and Xen's code is run on at most 62"):
@@ -102,6 +103,14 @@ class ByXen(unittest.TestCase):
         self.assertEqual(one, self.lines(machine, sockets=1))
         self.assertEqual(two, self.lines(machine, most=2))
         self.assertEqual(two, self.lines(machine, runqueue="core", threads=2))
+
+    def test_slop(self):
+        # b is replenished at 13.99 ms, and the clock is set for 50 us later: a runs 4.04 ms of its 4
+        machine = described(1, "rtds", a={"period_us": 10_000, "budget_us": 4_000, "extratime": False}, b={"period_us": 13_990, "budget_us": 1_000, "extratime": False})
+        exact, late = self.lines(machine), self.lines(machine, slop=50_000)
+        self.assertEqual(exact, self.lines(machine, slop=0))
+        self.assertIn("14000000 decide c0 d1u0 due 15000000 late 0 reset 0", exact)
+        self.assertIn("14040000 decide c0 d1u0 due 15040000 late 40000 reset 0", late)
 
     def test_answers(self):
         # Xen keeps processor 0 in the first pool; what a later command means hangs on the answer before it

@@ -24,6 +24,7 @@ import whole
 
 MOST_PROCESSORS = 62        # the harness has a place for the toolstack besides
 SECONDS = 600
+MOST_SLOP = 10**9
 MOST_ENTRIES = 100_000      # of one moment: more is a switch to and fro in no time
 ENDLESS, BUG = 4, 70        # statuses of the harness
 ANSWER = re.compile(r"^\d+ xl (\d+) (ok|refused) (-?\d+)$", re.M)
@@ -49,6 +50,7 @@ class Host:
     changes: tuple = ()
     folder: pathlib.Path = fetch.FOLDER
     seconds: int = SECONDS
+    slop: int | None = None     # nanoseconds; without it timers are never late
 
     def options(self, machine):
         """The words of the harness's input."""
@@ -58,7 +60,8 @@ class Host:
         per_socket, rest = divmod(machine.processors, self.sockets)
         if rest or per_socket % threads:
             raise Refused(f"{machine.processors} processors are not {self.sockets} sockets of whole cores of {threads}")
-        return (f"credit2_runqueue={self.runqueue}", f"sched_credit2_max_cpus_runqueue={self.most}", f"siblings={threads}", f"socket={per_socket}", "whole")
+        return (f"credit2_runqueue={self.runqueue}", f"sched_credit2_max_cpus_runqueue={self.most}", f"siblings={threads}", f"socket={per_socket}", "whole",
+                *(() if self.slop is None else (f"slop={self.slop}",)))
 
 
 def add_words(parser):
@@ -68,6 +71,7 @@ def add_words(parser):
     parser.add_argument("--max-cpus-runqueue", type=int, default=host.most, metavar="N", help=f"sched_credit2_max_cpus_runqueue: a run queue has at most so many processors ({host.most})")
     parser.add_argument("--sockets", type=int, default=host.sockets, metavar="N", help="the sockets of the host, which have as many processors each (1)")
     parser.add_argument("--threads", type=int, metavar="N", help="the processors of a core of the host, threads_per_core of xl info (the granularity of the machine)")
+    parser.add_argument("--slop", type=int, metavar="NS", help="timer_slop: timers are Xen's own, which come up to so many nanoseconds late; 50000 on a host that sets nothing (timers are never late)")
     parser.add_argument("--changes", default="", metavar="NAME,..", help="changes of Xen's code, scripts of beside-xen/changes (none: Xen as it is)")
     parser.add_argument("--folder", type=pathlib.Path, default=host.folder, help="where Xen's source and what is built of it are kept (~/.cache/beside-xen)")
     parser.add_argument("--seconds", type=int, default=host.seconds, metavar="N", help=f"a run that takes longer has no end ({host.seconds})")
@@ -78,12 +82,14 @@ def host_of(given):
     for name, value in (("--max-cpus-runqueue", given.max_cpus_runqueue), ("--sockets", given.sockets), ("--threads", given.threads), ("--seconds", given.seconds)):
         if value is not None and value < 1:
             raise Refused(f"{name} {value}: a number from 1 on")
+    if given.slop is not None and not 0 <= given.slop <= MOST_SLOP:
+        raise Refused(f"--slop {given.slop}: nanoseconds, 0 to {MOST_SLOP}")
     changes = tuple(name for name in given.changes.split(",") if name)
     known = sorted(path.stem for path in (build.HERE / "changes").glob("*.sed"))
     for name in changes:
         if name not in known:
             raise Refused(f"{name!r} is no change of Xen's code; these are: {', '.join(known)}")
-    return Host(given.runqueue, given.max_cpus_runqueue, given.sockets, given.threads, changes, given.folder, given.seconds)
+    return Host(given.runqueue, given.max_cpus_runqueue, given.sockets, given.threads, changes, given.folder, given.seconds, given.slop)
 
 
 def harness(host, tool):
@@ -177,7 +183,8 @@ def schedule(machine, work, host, tool):
         refuse(told[count])
     program, version = harness(host, tool)
     warn(tool, f"Xen {version}, {'as it is' if not host.changes else 'with ' + ', '.join(host.changes)}; " + ", ".join(options[:2])
-         + f", {host.sockets} socket{'s' * (host.sockets > 1)}, cores of {host.threads or machine.granularity}")
+         + f", {host.sockets} socket{'s' * (host.sockets > 1)}, cores of {host.threads or machine.granularity}"
+         + ("" if host.slop is None else f", timer_slop {host.slop} ns"))
     answers = []
     while True:
         # at least one more answer is right each time, and mostly all are at once
