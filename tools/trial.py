@@ -107,10 +107,10 @@ def ready(sources):
             try:
                 fcntl.flock(lock, fcntl.LOCK_EX | fcntl.LOCK_NB)
             except BlockingIOError:
-                say("another call is building that trial now: waiting for it")
+                say("another call is building a trial of these sources now: waiting for it")
                 fcntl.flock(lock, fcntl.LOCK_EX)
             if not stamp_of_these(sources):
-                say("that trial is being built now, once for these sources: some two minutes")
+                say("a trial of these sources is being built now, once: some two minutes")
                 build(kit)
     except OSError as fault:
         raise NotBuilt(f"the trial could not be built: {fault}") from fault

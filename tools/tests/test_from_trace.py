@@ -128,7 +128,7 @@ class Stored(unittest.TestCase):
             domains = {row["name"]: row["run_ns"] for row in found["domains"]}
             self.assertEqual(domains, {"web": accounts["d0v0"] + accounts["d0v1"], "batch": accounts["d1v0"], "mail": accounts["d2v0"]})
             self.assertEqual({row["work_ns"] for row in found["jobs"]}, {None})
-            self.assertNotIn("releases", found)
+            self.assertEqual(found["releases"], [])
             self.assertIn("<html", page.read_text())
             for words in (["tools/draw", "--form", "svg"], ["tools/draw", "--form", "text"]):
                 done = call(*words, host, schedule)

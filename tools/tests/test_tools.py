@@ -1,9 +1,12 @@
 """The tools as they are called: their forms, their statuses, and what they say of wrong words."""
 import csv
+import importlib.util
 import io
 import json
+import os
 import pathlib
 import shutil
+import subprocess
 import sys
 import tempfile
 import unittest
@@ -20,19 +23,62 @@ EXTRA = f"study: {premises.EXTRA} (Pool-0): {premises.PAGE}"
 BUILT = unittest.skipUnless(PROGRAM.exists(), "the program is not built")
 
 
+def plain(value):
+    """A value as a table has it: the number of a row is text in JSON, and pandas takes it as a number where the whole column is such."""
+    return float(value) if isinstance(value, (int, float)) or value is not None and value.isdecimal() else value
+
+
 class Forms(unittest.TestCase):
     def test_the_three_forms_agree(self):
-        text, comma, found = (call("tools/study", *FILES, *words) for words in ([], ["--csv"], ["--json"]))
-        self.assertEqual([it.returncode for it in (text, comma, found)], [0, 0, 0])
+        with tempfile.TemporaryDirectory() as folder:
+            text, comma, files, found = (call("tools/study", *FILES, *words) for words in ([], ["--csv"], ["--csv", folder], ["--json"]))
+            self.assertEqual([(it.returncode, bool(it.stdout)) for it in (text, comma, files, found)], [(0, True), (0, True), (0, False), (0, True)])
+            of_files = {path.stem: list(csv.DictReader(path.open())) for path in pathlib.Path(folder).iterdir()}
         self.assertIn("d0v0  a         4  0.25       0    1    1      1         1  21            -", text.stdout)
-        waits = next(block for block in comma.stdout.split("\n\n") if block.startswith("vcpu,name,count,"))
-        self.assertEqual(next(csv.DictReader(io.StringIO(waits)))["p95_ns"], "1000000")
         read = json.loads(found.stdout)
         self.assertEqual((read["run"]["counted_to_ns"], read["waits"][0]["mean_ns"], read["domains"][0]["share"]), (32 * MS, 250_000, 0.21875))
+        # JSON as CSV writes it, row by row
+        del read["run"]
+        written = {table: [{key: "" if value is None else str(value) for key, value in record.items()} for record in records] for table, records in read.items()}
+        self.assertEqual(of_files, written)
+        rows = list(csv.DictReader(io.StringIO(comma.stdout)))
+        self.assertEqual([{key: row[key] for key in record} for row, record in zip(rows, (record for records in written.values() for record in records), strict=True)],
+                         [record for records in written.values() for record in records])
+        self.assertEqual([row["table"] for row in rows], [table for table, records in written.items() for _ in records])
+
+    def test_json_has_all_tables(self):
+        for words in ([], ["--table", "waits"], ["--deadline", "a=2ms"]):
+            found = json.loads(call("tools/study", *FILES, "--json", *words).stdout)
+            self.assertEqual([*found], ["run", *tables.USUAL, "limits"])
+            self.assertEqual((found["windows"], len(found["limits"])), ([], int("--deadline" in words)))
+        self.assertEqual(len(json.loads(call("tools/study", *FILES, "--json", "--table", "promises").stdout)["promises"]), 2)
 
     def test_a_table_alone(self):
         done = call("tools/study", *FILES, "--table", "releases", "--csv")
-        self.assertEqual(done.stdout, "vcpu,name,releases,delayed,drifted,drift_ns\nd0v0,a,4,1,1,1000000\n")
+        self.assertEqual(done.stdout, "table,vcpu,name,releases,delayed,drifted,drift_ns\nreleases,d0v0,a,4,1,1,1000000\n")
+        with tempfile.TemporaryDirectory() as folder:
+            call("tools/study", *FILES, "--table", "releases", "--table", "windows", "--csv", f"{folder}/new/one")
+            found = {path.name: path.read_text().count("\n") for path in pathlib.Path(folder, "new", "one").iterdir()}
+        self.assertEqual(found, {"releases.csv": 2, "windows.csv": 1})
+
+    @unittest.skipUnless(importlib.util.find_spec("pandas"), "pandas is not installed")
+    def test_pandas_reads_each(self):
+        import pandas
+        with tempfile.TemporaryDirectory() as folder:
+            call("tools/study", *FILES, "--deadline", "a=2ms", "--csv", folder)
+            files = {path.stem: pandas.read_csv(path) for path in pathlib.Path(folder).iterdir()}
+        whole = pandas.read_csv(io.StringIO(call("tools/study", *FILES, "--deadline", "a=2ms", "--csv").stdout))
+        found = json.loads(call("tools/study", *FILES, "--deadline", "a=2ms", "--json").stdout)
+        self.assertEqual(set(files), set(found) - {"run"})
+        for name, frame in files.items():
+            with self.subTest(table=name):
+                own = whole[whole["table"] == name]
+                self.assertEqual((len(own), len(pandas.DataFrame(found[name]))), (len(frame), len(frame)))
+                for key in frame.columns:
+                    expected = [plain(record[key]) for record in found[name]]
+                    for column in (frame[key], own[key]):
+                        self.assertEqual([None if pandas.isna(value) else plain(value) for value in column], expected)
+        self.assertEqual(whole.loc[whole["table"] == "waits", "mean_ns"].tolist(), [250_000, 2 * MS])
 
     def test_standard_input(self):
         done = call("tools/study", FILES[0], "-", "--table", "terms", "--csv", text=(TOP / FILES[1]).read_text())
@@ -49,16 +95,16 @@ class Forms(unittest.TestCase):
         self.assertEqual(terms, [("0", "15000000", "6000000", "5000000"), ("15000000", "30000000", "6000000", "7000000")])
 
     def test_times(self):
-        self.assertEqual([time_of(text) for text in ("2ms", "1.5s", "300us", "40ns", "40", "0.25ms")], [2 * MS, 1500 * MS, 300_000, 40, 40, 250_000])
+        self.assertEqual([time_of(text) for text in ("2ms", "1.5s", "300us", "40ns", "0", "0.25ms")], [2 * MS, 1500 * MS, 300_000, 40, 0, 250_000])
         self.assertEqual([milliseconds(span) for span in (0, 1, 2 * MS, 1_500_000, -500_000)], ["0", "0.000001", "2", "1.5", "-0.5"])
-        for text in ("", "ms", "2 ms", "-1ms", "1.5", "1e3"):
+        for text in ("", "ms", "2 ms", "-1ms", "1", "40", "1.5", "00", "1e3"):
             with self.subTest(text=text), self.assertRaises(Refused):
                 time_of(text)
 
 
 class Limits(unittest.TestCase):
     def test_statuses(self):
-        for words, status in ((["--deadline", "a=3ms"], 0), (["--deadline", "d0v0=2.5ms"], 1), (["--deadline", "d0=2ms"], 1), (["--latency", "a=1ms"], 0), (["--latency", "a=999999"], 1),
+        for words, status in ((["--deadline", "a=3ms"], 0), (["--deadline", "d0v0=2.5ms"], 1), (["--deadline", "d0=2ms"], 1), (["--latency", "a=1ms"], 0), (["--latency", "a=999999ns"], 1),
                               (["--latency", "b=2ms"], 0), (["--share", "a=21%"], 0), (["--share", "a=22%"], 1), (["--share", "d1=78"], 0)):
             with self.subTest(words=words):
                 self.assertEqual(call("tools/study", *FILES, *words).returncode, status)
@@ -268,6 +314,29 @@ class Drawing(unittest.TestCase):
         legend = {it.firstChild.data for it in texts}
         self.assertLessEqual({"Domain-0", "nav", "a vCPU waits for a processor", "decided late"}, legend)
         self.assertIn("p0 stalls to 203 ms", legend)
+
+
+class Explaining(unittest.TestCase):
+    def explained(self, program, *words):
+        return subprocess.run([TOP / "tools" / "explain", *words], capture_output=True, text=True, env={**os.environ, "XENSCHED_PROGRAM": str(program)})
+
+    def test_the_program_is_the_one_that_is_named(self):
+        with tempfile.TemporaryDirectory() as folder:
+            program = pathlib.Path(folder) / "program"
+            program.write_text('#!/bin/sh\necho "named $*"\necho "xensched: usage" >&2\nexit 1\n')
+            done = self.explained(program, "run", "one")
+            self.assertEqual((done.returncode, done.stdout), (70, ""))
+            self.assertRegex(done.stderr, r"\Aexplain: .* does not start: Permission denied\n\Z")
+            program.chmod(0o755)
+            done = self.explained(program, "run", "one")
+            self.assertEqual((done.returncode, done.stdout), (1, "named run one\n"))
+            self.assertRegex(done.stderr, r"\Axensched: usage\nexplain: .*run.*\n\Z")
+
+    def test_help_needs_no_program(self):
+        for word in ("--help", "-h"):
+            done = self.explained("/no/such/program", word)
+            self.assertEqual((done.returncode, done.stderr), (0, ""))
+            self.assertIn("Usage: tools/explain WORDS", done.stdout)
 
 
 if __name__ == "__main__":

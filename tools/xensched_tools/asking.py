@@ -1,7 +1,29 @@
 """What `--deadline`, `--latency` and `--share` ask of a study, and whether it was kept."""
-from .measures import Limit, capacity_of, ran_by, since_release
+from .measures import Limit, capacity_of, since_release
 from .schedule import SLEEPS
 from .words import Refused, milliseconds, percent, time_of
+
+
+def add_part(given):
+    """The words of a tool that name the part of the run that is counted."""
+    given.add_argument("--from", dest="begin", metavar="TIME", default="0", help="count from this moment on, as 100ms")
+    given.add_argument("--to", dest="until", metavar="TIME", help="count up to this moment")
+    given.add_argument("--warmup", metavar="TIME", default="0", help="leave out so much at the beginning of what is counted")
+
+
+def part_words(given):
+    """The same words again, for another call."""
+    return ["--from", given.begin, "--warmup", given.warmup, *(["--to", given.until] if given.until else [])]
+
+
+def is_part(given):
+    """Whether a part alone was asked for."""
+    return given.until is not None or time_of(given.begin) + time_of(given.warmup) > 0
+
+
+def take_part(study, given):
+    """Has the study count what the words name, before its first line."""
+    study.count_part(time_of(given.begin) + time_of(given.warmup), None if given.until is None else time_of(given.until))
 
 
 def vcpus_of(study, who):
@@ -77,6 +99,6 @@ def broken_limits(asked):
 def broken_shares(study, shares):
     """A sentence for each share that is too low."""
     for domain, least in shares:
-        had = ran_by(domain, study.end) / (capacity_of(study, domain) or 1)
+        had = sum(study.ran(unit) for unit in domain.units) / (capacity_of(study, domain) or 1)
         if had < least:
             yield f"{domain.name} has {percent(had)} of its pool, and {percent(least)} were asked for"

@@ -44,8 +44,7 @@ def named(table, records):
 
 def records_of(study, asked):
     """The tables of a study as JSON has them, and what was asked of it."""
-    made = tables.tables_of(study) + ([tables.limits(study, asked)] if asked else [])
-    return json.loads(tables.as_json(study, made))
+    return json.loads(tables.as_json(study, tables.tables_of(study, asked=asked)))
 
 
 def shown(key, value):

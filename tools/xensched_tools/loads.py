@@ -219,7 +219,7 @@ def read_pairs(path):
                 continue
             if len(spans) != 2:
                 raise Refused(f"{path}: line {number} has {len(spans)} words: a run and a sleep are wanted")
-            pairs.append(tuple(span_of(span, f"{path}: line {number}") for span in spans))
+            pairs.append(tuple(span_of(f"{span}ns" if span.isdecimal() else span, f"{path}: line {number}") for span in spans))
     if not pairs:
         raise Refused(f"{path} has no pairs: a run and a sleep in each line, as 2ms 3ms")
     return pairs

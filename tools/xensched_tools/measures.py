@@ -83,6 +83,10 @@ class Limit:
 
     def __init__(self, kind, vcpu, span):
         self.kind, self.vcpu, self.span = kind, vcpu, span
+        self.forget()
+
+    def forget(self):
+        """Counting begins."""
         self.met = self.missed = 0
         self.first_missed = None
 
@@ -106,6 +110,13 @@ class VcpuTally:
         self.waits, self.jobs = Distribution(), [Distribution() for _ in ([None] if vcpu.script is None else vcpu.script[::2])]
         self.due = self.delayed = self.drifted = self.drift = self.paused_before = 0
         self.releases, self.deadlines, self.latencies = int(vcpu.job_from is not None), [], []
+
+    def forget(self):
+        """Counting begins; what is due and how far it has drifted stays."""
+        self.waits, self.jobs = Distribution(), [Distribution() for _ in self.jobs]
+        self.delayed = self.releases = self.drifted = 0
+        for limit in (*self.deadlines, *self.latencies):
+            limit.forget()
 
 
 class Term:
@@ -149,8 +160,14 @@ class Window:
     """A window of a frame: what its unit had of it, and what it lost."""
 
     def __init__(self, unit, length):
-        self.unit, self.length, self.count, self.had, self.lost, self.most_lost, self.most_lost_at = unit, length, 0, 0, 0, 0, None
+        self.unit, self.length = unit, length
         self.begin = self.ran = self.waited = None
+        self.forget()
+
+    def forget(self):
+        """Counting begins; a window that is open stays so."""
+        self.count = self.had = self.lost = self.most_lost = 0
+        self.most_lost_at = None
 
     def open(self, at):
         self.begin, self.ran, self.waited = at, self.unit.ran_by(at), self.unit.waited_by(at)
@@ -221,9 +238,13 @@ class Caps:
     """The terms of a capped domain, from one refill to the next."""
 
     def __init__(self):
+        self.begin = self.ran = self.cap = None
+        self.forget()
+
+    def forget(self):
+        """Counting begins; the present term stays."""
         self.count = self.allowed = self.had = self.used_up = self.most_over = 0
         self.most, self.most_at, self.most_over_at = 0, None, None
-        self.begin = self.ran = self.cap = None
 
     def open(self, at, domain, cap):
         self.begin, self.ran, self.cap = at, ran_by(domain, at), cap
@@ -278,6 +299,22 @@ class PoolTally:
     def __init__(self, begin):
         self.capacity = self.ran = 0
         self.settled, self.frames = begin, []
+
+
+class Before:
+    """What units, vCPUs and cores had before the part that is counted."""
+
+    def __init__(self, study):
+        now = study.now
+        self.ran = {unit: unit.ran_by(now) for unit in study.units.values()}
+        self.waited = {unit: unit.waited_by(now) for unit in study.units.values()}
+        self.times = {vcpu: list(vcpu.times) for vcpu in study.vcpus.values()}
+        self.busy = {core: busy_by(core, now) for core in study.core_list}
+
+
+def busy_by(core, moment):
+    """The time in which some unit had the core, up to the present moment."""
+    return core.ran + (moment - core.since if core.unit else 0)
 
 
 def since_release(vcpu, at):
@@ -357,7 +394,7 @@ class Study(Follower):
 
     def __init__(self, machine, work=None, each=None):
         super().__init__(machine, work)
-        self.each, self.promises = each, None
+        self.each, self.promises, self._each_of_part = each, None, each
         self.visits, self.frames, self.next_boundary = [], [], None
         for home in self.pools.values():
             home.tally = PoolTally(0)
@@ -369,6 +406,55 @@ class Study(Follower):
         for home in self.pools.values():
             if home.settings.get("frame"):
                 self.frame_set(home)
+        self.before = Before(self)
+
+    # the part that is counted
+
+    def count_part(self, begin, until):
+        super().count_part(begin, until)
+        self.each = self._each_of_part if self.is_begun else None
+
+    def part_begins(self):
+        """All counts begin anew; what is under way goes on."""
+        self.parameters_change()
+        self.before, self.each, self.visits = Before(self), self._each_of_part, []
+        for home in self.pools.values():
+            home.tally.capacity = home.tally.ran = 0
+            for frame in home.tally.frames:
+                for window in frame.windows:
+                    window.forget()
+        for domain in self.domain_list:
+            domain.tally.visit = Visit(domain, domain.home, self.now)
+            self.visits.append(domain.tally.visit)
+            domain.tally.caps.forget()
+        for unit in self.units.values():
+            unit.picks = unit.moves = unit.preempted = unit.repl = unit.late = 0
+            unit.tally[1] = Terms()
+        for core in self.core_list:
+            core.decides = core.late = core.lates = core.most_late = core.most_late_at = 0
+        for vcpu in self.vcpus.values():
+            vcpu.tally.forget()
+
+    @property
+    def span(self):
+        """How long the part is that is counted."""
+        return self.end - self.begin
+
+    def ran(self, unit):
+        """The unit's time on cores in the part that is counted."""
+        return unit.ran_by(self.end) - self.before.ran[unit]
+
+    def waited(self, unit):
+        """The unit's time without a core though it could run, in the part that is counted."""
+        return unit.waited_by(self.end) - self.before.waited[unit]
+
+    def times(self, vcpu):
+        """What the vCPU did with the part that is counted, by state."""
+        return [time - before for time, before in zip(vcpu.times, self.before.times[vcpu])]
+
+    def busy(self, core):
+        """The time of the core with a unit in the part that is counted."""
+        return busy_by(core, self.end) - self.before.busy[core]
 
     # what the laws promise
 
@@ -578,24 +664,24 @@ class Study(Follower):
     # the end
 
     def _close(self):
-        """The figures that a report has are those of the last entry; all others go to the end."""
-        self.reported = Reported(self)
+        """The figures that a report has are those of the last entry; all others go to the end. A term is over at its replenishment, or at the end of the run."""
         super()._close()
+        self.reported = Reported(self)
         self.parameters_change()
         for domain in self.domain_list:
             domain.tally.visit.leave(self.end)
         for unit in self.units.values():
-            if unit.tally[0] is not None and unit.tally[0].deadline <= self.end:
+            if self.end == self.run_end and unit.tally[0] is not None and unit.tally[0].deadline <= self.end:
                 self._end_term(unit)
 
 
 class Reported:
-    """What `xensched report` says of the same entries: up to the last one."""
+    """What `xensched report` says of the same entries: up to the last one. Of a part, what is up to there."""
 
     def __init__(self, study):
-        self.end = study.last
-        self.units = {unit.name: (unit.ran_by(self.end), unit.picks, unit.repl, unit.late) for unit in study.units.values()}
+        self.end = max(study.begin, min(study.last, study.end))
+        self.units = {unit.name: (unit.ran_by(self.end) - study.before.ran[unit], unit.picks, unit.repl, unit.late) for unit in study.units.values()}
         self.cores = {}
         for name, core in study.cores.items():
-            ran = core.ran + (self.end - core.since if core.unit else 0)
-            self.cores[name] = (ran, self.end - ran, core.decides)
+            ran = busy_by(core, self.end) - study.before.busy[core]
+            self.cores[name] = (ran, self.end - study.begin - ran, core.decides)

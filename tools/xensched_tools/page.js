@@ -4,7 +4,9 @@ const data = JSON.parse(document.getElementById("data").textContent);
 const frame = document.getElementById("timeline"), spacer = document.getElementById("spacer"), canvas = document.getElementById("canvas");
 const tip = document.getElementById("tip"), statusLine = document.getElementById("status"), paper = canvas.getContext("2d");
 const LEFT = 132, HEAD = 34, HIGH = 20, GAP = 6, LOW = 11, RIGHT = 12, LEAST = 20;
-const view = { from: 0, to: Math.max(1, data.end), only: -1 };
+// The moments that can be shown.
+const FIRST = data.begin, LAST = Math.max(data.begin + 1, data.end);
+const view = { from: FIRST, to: LAST, only: -1 };
 
 // The numbers of a packed text: seven bits a byte, the lowest first.
 function unpacked(text) {
@@ -277,8 +279,8 @@ function redraw() {
 }
 
 function show(from, to) {
-  const span = Math.min(Math.max(LEAST, to - from), Math.max(1, data.end));
-  view.from = Math.min(Math.max(0, from), Math.max(1, data.end) - span);
+  const span = Math.min(Math.max(LEAST, to - from), LAST - FIRST);
+  view.from = Math.min(Math.max(FIRST, from), LAST - span);
   view.to = view.from + span;
   redraw();
 }
@@ -313,7 +315,7 @@ canvas.addEventListener("pointerleave", () => { tip.hidden = true; });
 frame.addEventListener("keydown", (event) => {
   const middle = (view.from + view.to) / 2, by = (view.to - view.from) / 5;
   const does = {
-    "+": () => zoom(0.5, middle), "=": () => zoom(0.5, middle), "-": () => zoom(2, middle), "0": () => show(0, data.end), Home: () => show(0, data.end),
+    "+": () => zoom(0.5, middle), "=": () => zoom(0.5, middle), "-": () => zoom(2, middle), "0": () => show(FIRST, LAST), Home: () => show(FIRST, LAST),
     ArrowLeft: () => show(view.from - by, view.to - by), ArrowRight: () => show(view.from + by, view.to + by),
     ArrowUp: () => { frame.scrollTop -= 60; }, ArrowDown: () => { frame.scrollTop += 60; },
   }[event.key];
@@ -356,7 +358,7 @@ function pointAt(event) {
 document.addEventListener("click", (event) => {
   const link = event.target.closest("[data-at]"), button = event.target.closest("[data-domain]");
   if (link) {
-    const at = Number(link.dataset.at), span = Math.min(view.to - view.from, Math.max(data.end / 50, 1e6));
+    const at = Number(link.dataset.at), span = Math.min(view.to - view.from, Math.max((LAST - FIRST) / 50, 1e6));
     show(at - span / 2, at + span / 2);
   }
   if (button) {

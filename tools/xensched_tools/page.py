@@ -60,7 +60,7 @@ def waits_of(study):
 def data_of(study):
     """All that the page draws."""
     return {
-        "end": study.end, "siblings": study.machine.granularity, "bars": bars_of(study), "waits": waits_of(study),
+        "begin": study.begin, "end": study.end, "siblings": study.machine.granularity, "bars": bars_of(study), "waits": waits_of(study),
         "domains": [{"name": domain.name, "colour": colour(domain.index)[0], "stripes": colour(domain.index)[1], "text": text_colour(domain.index)} for domain in study.domain_list],
         "vcpus": [[vcpu.name, vcpu.domain.index] for vcpu in study.vcpus.values()],
         "housed": [[it.core, it.begin, it.end, it.home] for it in study.housed], "stalls": [list(it) for it in study.stalls],

@@ -3,9 +3,12 @@
 `Follower` keeps the present. What is made of it (measures, a timeline) stands in classes that override `change`, `turn`, `released` and
 the other methods marked as told. docs/FORMATS.md has the lines.
 """
+import itertools
+import math
+
 from . import commands
 from .machine import Pool
-from .words import Refused
+from .words import Refused, milliseconds
 
 RUNS, WAITS, SLEEPS, PAUSED = range(4)
 IDLE, HELD = "idle", "held"
@@ -97,6 +100,9 @@ class Follower:
         self.now = self.end = self.entries = 0
         self.finished, self.faults, self.fault_count = False, [], 0
         self.refused, self.answered, self.unknown_commands = [], 0, 0
+        # The part that is counted, the next moment at which it begins or ends, and the entries before it.
+        self.begin, self.until, self.is_begun = 0, None, True
+        self._edge, self._entries_before = math.inf, 0
         self._make_cores()
         self._make_pools()
         self._make_domains()
@@ -142,27 +148,76 @@ class Follower:
             self.vcpus.update((vcpu.name, vcpu) for vcpu in domain.vcpus)
         self.domains = {f"d{domain.index}": domain for domain in self.domain_list}
 
+    # the part that is counted
+
+    def count_part(self, begin, until):
+        """Asks for what is between two moments alone, before the first line; None is the end of the run. A line counts where its moment is, and that of
+        `until` belongs to the part behind it."""
+        horizon = self.machine.horizon
+        if until is not None and until > horizon:
+            raise Refused(f"the part is to end at {milliseconds(until)} ms, and the horizon is at {milliseconds(horizon)} ms")
+        if begin >= (horizon if until is None else until):
+            raise Refused(f"there is nothing between {milliseconds(begin)} ms and {milliseconds(horizon if until is None else until)} ms")
+        # all lines of the horizon belong to the last part
+        self.begin, self.until, self.is_begun = begin, None if until == horizon else until, not begin
+        self._edge = self._end_edge() if self.is_begun else begin
+
+    @property
+    def is_part(self):
+        """Whether not all of the run is counted."""
+        return self.begin > 0 or self.until is not None
+
+    def _end_edge(self):
+        return math.inf if self.until is None else self.until
+
+    def _pass_edge(self, moment):
+        """The part begins or ends up to this moment. Answers whether it ends."""
+        if not self.is_begun:
+            self._begin_part()
+        return moment >= self._edge
+
+    def _begin_part(self):
+        self._go_to(self.begin)
+        self.is_begun, self._edge, self._entries_before = True, self._end_edge(), self.entries
+        for vcpu in self.vcpus.values():
+            self.change(vcpu, vcpu.state)
+        for processor in self.processor_list:
+            self.turn(processor, processor.doing)
+        self.part_begins()
+
     # reading
 
     def follow(self, lines):
         """Reads the lines to their end, and closes what is open."""
-        number, told = 0, None
-        handlers = self._handlers
+        number, told, is_over = 0, None, False
+        handlers, numbered = self._handlers, enumerate(lines, 1)
         try:
-            for number, line in enumerate(lines, 1):
+            for number, line in numbered:
                 words = line.split()
                 if words[0] != told:
                     told = words[0]
+                    if int(told) >= self._edge and self._pass_edge(int(told)):
+                        is_over = True
+                        break
                     self._go_to(int(told))
                 self.entries = number
                 handlers[words[1]](words)
+            self.counted = self.entries - self._entries_before if self.is_begun else 0
+            if is_over:
+                # behind the part only the answers to commands and the last line matter
+                for number, line in itertools.chain([(number, line)], numbered):
+                    words = line.split()
+                    if words[1] == "xl":
+                        self.answered = int(words[2])
+                self.entries, told, self.finished = number, words[0], words[1] == "finish"
+                int(told)
         except UnicodeDecodeError:
             raise Refused(f"line {number + 1} or one behind it is no text: this is no schedule") from None
         except (IndexError, KeyError, ValueError):
             raise Refused(self._odd_line(number, line)) from None
         if not number:
             raise Refused("the schedule is empty")
-        self.last = self.now
+        self.last = int(told)
         self._close()
         return self
 
@@ -183,7 +238,12 @@ class Follower:
         """The run is over, or cut: what goes on at the last entry goes on to the end."""
         if self.last > self.machine.horizon:
             raise Refused(f"the last entry is at {self.last}, and the horizon is {self.machine.horizon}: is the domain file that of the run?")
-        self.end = self.machine.horizon if self.finished else self.last
+        self.run_end = self.machine.horizon if self.finished else self.last
+        self.end = self.run_end if self.until is None else min(self.run_end, self.until)
+        if self.begin and self.begin >= self.end:
+            raise Refused(f"the schedule ends at {milliseconds(self.end)} ms, and the part begins at {milliseconds(self.begin)} ms")
+        if not self.is_begun:
+            self._begin_part()
         self._go_to(self.end)
         for vcpu in self.vcpus.values():
             self.change(vcpu, vcpu.state)
@@ -200,6 +260,9 @@ class Follower:
             self.faults.append(f"line {self.entries}: {text}")
 
     # what classes that make something of it override
+
+    def part_begins(self):
+        """Told that what is counted begins now."""
 
     def moment_comes(self, moment):
         """Told before the first line of a later moment: up to it everything stays as it is."""

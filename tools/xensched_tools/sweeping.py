@@ -33,10 +33,10 @@ def in_all(study, subjects, value):
     return sum(value(subject) for subject in getattr(study, subjects).values())
 
 
-# The figures of a whole run. What a report says ends at the last entry; all others are those of docs/MEASURES.md.
+# The figures of a run, or of the part that is counted. What a report says ends at the last entry; all others are those of docs/MEASURES.md.
 WHOLE = {
-    "entries": lambda study: study.entries,
-    "end": lambda study: study.last,
+    "entries": lambda study: study.counted,
+    "end": lambda study: study.reported.end,
     "units": lambda study: len(study.units),
     "run": lambda study: sum(it[0] for it in study.reported.units.values()),
     "idle": lambda study: sum(it[1] for it in study.reported.cores.values()),
@@ -57,7 +57,7 @@ USUAL = ["entries", "end", "units", "run", "idle", "picks", "late", "wait_mean",
 
 
 def figure(study, column):
-    """A figure of the whole run, or TABLE.ROW.KEY: that of a row of a study's table, as domains.web.share."""
+    """A figure of the run, or TABLE.ROW.KEY: that of a row of a study's table, as domains.web.share."""
     if column in WHOLE:
         return WHOLE[column](study)
     table, _, rest = column.partition(".")
@@ -82,13 +82,13 @@ def made_files(folder, seed, processors, domains):
     return paths
 
 
-def studied(job):
-    """The study of one machine of the sweep."""
+def studied(job, prepare=lambda study: None):
+    """The study of one machine of the sweep; `prepare` is told it before the run is followed."""
     if "seed" in job:
         with tempfile.TemporaryDirectory(prefix="xensched-") as folder:
             domains, work = made_files(folder, job["seed"], job["processors"], job["domains"])
-            return making.run(read_machine(domains), work)
-    return making.run(varied(making.machine_from(job["machine"]), job["settings"]), job["work"])
+            return making.run(read_machine(domains), work, prepare)
+    return making.run(varied(making.machine_from(job["machine"]), job["settings"]), job["work"], prepare)
 
 
 def varied(machine, settings):

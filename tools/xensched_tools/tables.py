@@ -3,6 +3,7 @@ import csv
 import dataclasses
 import io
 import json
+import pathlib
 
 from .machine import UNKNOWN
 from .measures import Distribution, capacity_of, said_of, since_release
@@ -102,9 +103,9 @@ def units(study):
     for domain in study.domain_list:
         capacity, said = capacity_of(study, domain), said_of(study, domain)
         for unit in domain.units:
-            ran = unit.ran_by(study.end)
-            rows.append([unit.name, domain.name, ran, part(ran, study.end), part(ran, capacity), None if said is None else part(said / len(domain.units), capacity),
-                         unit.waited_by(study.end), unit.picks, unit.preempted, unit.moves, unit.late])
+            ran = study.ran(unit)
+            rows.append([unit.name, domain.name, ran, part(ran, study.span), part(ran, capacity), None if said is None else part(said / len(domain.units), capacity),
+                         study.waited(unit), unit.picks, unit.preempted, unit.moves, unit.late])
     return Table("units", "Units", columns, rows)
 
 
@@ -114,7 +115,7 @@ def vcpus(study):
     for domain in study.domain_list:
         # a core's time is that of each of its processors
         capacity = capacity_of(study, domain) * study.machine.granularity
-        rows += [[vcpu.name, domain.name, vcpu.times[RUNS], part(vcpu.times[RUNS], capacity), vcpu.times[WAITS], vcpu.times[SLEEPS], vcpu.times[PAUSED]] for vcpu in domain.vcpus]
+        rows += [[vcpu.name, domain.name, times[RUNS], part(times[RUNS], capacity), times[WAITS], times[SLEEPS], times[PAUSED]] for vcpu in domain.vcpus for times in [study.times(vcpu)]]
     return Table("vcpus", "vCPUs: what they did with the time", columns, rows)
 
 
@@ -191,8 +192,8 @@ def cores(study):
                                        Column("late", "in all"), Column("greatest_late", "latest"), Column("greatest_late_at", "at")]
     rows = []
     for name, core in study.cores.items():
-        ran = core.ran + (study.end - core.since if core.unit else 0)
-        rows.append([name, core.home.name if core.home else "free", ran, study.end - ran, part(ran, study.end), core.decides, core.lates, core.late, core.most_late, core.most_late_at if core.lates else None])
+        ran = study.busy(core)
+        rows.append([name, core.home.name if core.home else "free", ran, study.span - ran, part(ran, study.span), core.decides, core.lates, core.late, core.most_late, core.most_late_at if core.lates else None])
     return Table("cores", "Cores, and the lateness of their decisions", columns, rows)
 
 
@@ -218,10 +219,14 @@ TABLES = {"pools": pools, "domains": domains, "units": units, "vcpus": vcpus, "w
 USUAL = [name for name in TABLES if name != "promises"]
 
 
-def tables_of(study, names=USUAL):
-    """The tables of a study that have rows."""
-    made = [TABLES[name](study) for name in names]
-    return [table for table in made if table.rows]
+def tables_of(study, names=USUAL, asked=()):
+    """These tables of a study, and what was asked of it."""
+    return [*(TABLES[name](study) for name in names), limits(study, asked)]
+
+
+def with_rows(tables):
+    """Those for people: a table without rows is left out."""
+    return [table for table in tables if table.rows]
 
 
 def as_text(table):
@@ -234,21 +239,34 @@ def as_text(table):
         yield "  " + "  ".join(cell.ljust(w) if is_left else cell.rjust(w) for cell, w, is_left in zip(row, wide, left)).rstrip()
 
 
+def csv_text(keys, records):
+    """Rows by key as CSV; what a row has no key for is empty."""
+    out = io.StringIO()
+    writer = csv.DictWriter(out, keys, lineterminator="\n")
+    writer.writeheader()
+    writer.writerows(records)
+    return out.getvalue()
+
+
 def as_csv(tables):
-    """The tables as CSV, one after the other, each with its head and an empty line between them."""
-    blocks = []
+    """The tables as one of CSV: each row begins with the name of its table, and the columns are those of all."""
+    keys = dict.fromkeys(["table", *(column.full_key for table in tables for column in table.columns)])
+    return csv_text(keys, ({"table": table.name, **record} for table in tables for record in table.records()))
+
+
+def write_csv(folder, tables):
+    """Writes a file of CSV for each table, also for one without rows."""
+    folder = pathlib.Path(folder)
+    folder.mkdir(parents=True, exist_ok=True)
     for table in tables:
-        out = io.StringIO()
-        writer = csv.writer(out, lineterminator="\n")
-        writer.writerow([column.full_key for column in table.columns])
-        writer.writerows([column.exact(value) for column, value in zip(table.columns, row)] for row in table.rows)
-        blocks.append(out.getvalue())
-    return "\n".join(blocks)
+        with open(folder / f"{table.name}.csv", "w", encoding="utf-8", newline="") as file:
+            file.write(csv_text([column.full_key for column in table.columns], table.records()))
 
 
 def as_json(study, tables):
     """All of a study for programs."""
-    run = {"entries": study.entries, "finished": study.finished, "last_entry_ns": study.last, "counted_to_ns": study.end, "horizon_ns": study.machine.horizon,
+    run = {"entries": study.entries, "finished": study.finished, "last_entry_ns": study.last, "counted_from_ns": study.begin, "counted_to_ns": study.end,
+           "counted_entries": study.counted, "horizon_ns": study.machine.horizon,
            "contradictions": study.fault_count, "refused": [number for number, _, _ in study.refused], "unreached": [command.number for command in study.unreached()]}
     if any(vcpu.script is None for vcpu in study.vcpus.values()):
         run["guests"] = UNKNOWN

@@ -16,7 +16,7 @@ MARK_KINDS = {"refused": "#b00020", "done": "#00703c", "moved": "#0050b0", "stal
 
 
 class Timeline(Follower):
-    """A followed schedule whose bars are kept, in the order of their ends; the memory grows with the lines."""
+    """A followed schedule whose bars are kept, in the order of their ends, from the beginning of the part that is counted on; the memory grows with the lines."""
 
     def __init__(self, *given):
         super().__init__(*given)
@@ -27,7 +27,7 @@ class Timeline(Follower):
                 self._home_since[core] = 0, core.home.name
 
     def turn(self, processor, doing):
-        before, begin = processor.doing, processor.since
+        before, begin = processor.doing, max(processor.since, self.begin)
         if before is not None and begin < self.now:
             core = processor.core
             self.legs.append(Leg(processor.index, begin, self.now, before, core.due, core.last_late))
@@ -35,17 +35,20 @@ class Timeline(Follower):
         super().turn(processor, doing)
 
     def change(self, vcpu, state):
-        if vcpu.state in (WAITS, PAUSED) and vcpu.since < self.now:
-            self.waits.append(Wait(vcpu, vcpu.since, self.now, vcpu.state))
+        begin = max(vcpu.since, self.begin)
+        if vcpu.state in (WAITS, PAUSED) and begin < self.now:
+            self.waits.append(Wait(vcpu, begin, self.now, vcpu.state))
         super().change(vcpu, state)
 
     def stay_over(self, core):
-        if core.since < self.now:
-            self.stays.append(Stay(core.index, core.since, self.now, core.unit))
+        begin = max(core.since, self.begin)
+        if begin < self.now:
+            self.stays.append(Stay(core.index, begin, self.now, core.unit))
         super().stay_over(core)
 
     def stalled(self, processor, until):
-        self.stalls.append(Stall(processor.index, self.now, until))
+        if until > self.begin:
+            self.stalls.append(Stall(processor.index, max(self.now, self.begin), until))
         self._mark("stall", f"p{processor.index} stalls to {milliseconds(until)} ms")
         super().stalled(processor, until)
 
@@ -65,13 +68,15 @@ class Timeline(Follower):
         super().joined(subject, home)
 
     def _house(self, core, name):
-        begin, before = self._home_since[core]
+        since, before = self._home_since[core]
+        begin = max(since, self.begin)
         if begin < self.now:
             self.housed.append(Housed(core.index, begin, self.now, before))
         self._home_since[core] = self.now, name
 
     def _mark(self, kind, text):
-        self.marks.append(Mark(self.now, kind, text))
+        if self.now >= self.begin:
+            self.marks.append(Mark(self.now, kind, text))
 
     def _close(self):
         super()._close()

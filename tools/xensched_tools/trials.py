@@ -11,7 +11,7 @@ from typing import NamedTuple
 from . import calls, faulty, spoiling
 from .machine import read_machine, read_work
 from .schedule import Follower
-from .measures import Reported, Study
+from .measures import Before, Reported, Study
 from .promises import is_kept
 from .wild import WRONG_WORDS
 from .words import Refused
@@ -46,9 +46,13 @@ class Texts(NamedTuple):
 class Followed(Follower):
     """The schedule followed, with what its report has to say, and without the other measures of a study."""
 
+    def __init__(self, *given):
+        super().__init__(*given)
+        self.before = Before(self)
+
     def _close(self):
-        self.reported = Reported(self)
         super()._close()
+        self.reported = Reported(self)
 
 
 def report_text(followed):

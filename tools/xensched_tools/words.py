@@ -5,7 +5,8 @@ import sys
 import traceback
 
 UNITS = {"ns": 1, "us": 1_000, "µs": 1_000, "ms": 1_000_000, "s": 1_000_000_000}
-TIME = re.compile(r"(\d+(?:\.\d+)?)(ns|us|µs|ms|s)?")
+TIME = re.compile(r"(\d+(?:\.\d+)?)(ns|us|µs|ms|s)")
+BARE = re.compile(r"\d+(?:\.\d+)?")
 
 WRONG_WORDS, CONTRADICTION, FAILED = 2, 3, 70
 # How a line begins that tells of a fault of the tool itself.
@@ -17,12 +18,16 @@ class Refused(Exception):
 
 
 def time_of(text):
-    """The nanoseconds of `2ms`, `1.5s`, `300us`, `40ns` or `40`."""
+    """The nanoseconds of `2ms`, `1.5s`, `300us` or `40ns`; only 0 needs no unit."""
+    if text == "0":
+        return 0
+    if BARE.fullmatch(text):
+        raise Refused(f"{text!r} has no unit: write {text}ns, {text}us, {text}ms or {text}s")
     found = TIME.fullmatch(text)
     if not found:
         raise Refused(f"{text!r} is no time: write digits and ns, us, ms or s, as 2ms")
     whole, _, part = found[1].partition(".")
-    unit = UNITS[found[2] or "ns"]
+    unit = UNITS[found[2]]
     span = int(whole) * unit + (int(part) * unit) // 10 ** len(part) if part else int(whole) * unit
     if part and int(part) * unit % 10 ** len(part):
         raise Refused(f"{text!r} is no whole number of nanoseconds")
