@@ -87,8 +87,9 @@ class Campaign:
         known = ["--work", work] if draw.random() < 0.5 else []
         kind = draw.choice(["study", "draw", "compare", "sweep"] if self.program and spoiled == "domains" else ["study", "draw"])
         if kind == "study":
-            form = draw.choice([[], ["--csv"], ["--json"], ["--html", self.folder / "page.html"], ["--each", self.folder / "each.csv"], ["--deadline", "d0=1ms", "--share", "d0=10%"]])
-            return kind, [domains, schedule, *known, *form]
+            form = draw.choice([[], ["--csv"], ["--json"], ["--html", self.folder / "page.html"], ["--each", self.folder / "each.csv"], ["--deadline", "d0=1ms", "--share", "d0=10%"], ["--csv", self.folder / "tables"]])
+            part = draw.choice([[], [], ["--from", "1ms", "--to", "3ms"], ["--warmup", "300us"], ["--to", "2ms"]])
+            return kind, [domains, schedule, *known, *part, *form]
         if kind == "draw":
             return kind, ["--form", draw.choice(["text", "svg", "trace"]), *known, domains, schedule]
         if kind == "compare":
