@@ -19,6 +19,7 @@ from xensched_tools.machine import machine_of
 from xensched_tools.trace_files import read_trace
 
 HZ = 1024 * 10**9           # the harness has 1024 cycles in a nanosecond, so that the records of a moment have an order
+MOST = 16                   # a moment of a machine with more processors may have more records than that, and its order is lost
 COMPLAINTS = re.compile(r"Strange, |FATAL|ERROR|not found|skew|Unknown|Unexpected|> MAX")
 
 
@@ -93,7 +94,7 @@ def traces(setting):
     xenalyze = setting.builder.xenalyze()
     print(f"\n## Traces\n\n{len(seeds)} made machines a row, by Xen as it is.\n\n| Machines | traces | stays | wakings | scripts | by xenalyze the same | it complains |\n" + "|---" * 7 + "|")
     beside = setting.builder.program()
-    chosen = [row for row in table_rows.EQUALITY if setting.rows in row.name]
+    chosen = [row for row in table_rows.EQUALITY if setting.rows in row.name and tomllib.loads(row.machine(1)[0])["processors"] <= MOST]
     for number, row in enumerate(chosen, 1):
         setting.tell(f"traces, row {number} of {len(chosen)}")
         found = list(setting.pool.map(tried, [(setting.program, beside, xenalyze, row.machine(seed), (*ALL, *row.own)) for seed in seeds]))
