@@ -7,8 +7,9 @@ ghost use Rattle.core_state.specs.Seen.{chosen_core, pending_by, cleared_works};
 use sched_base::{Moment, ResId, UnitId};
 use sched_model::places::take_item;
 use sched_model::row::Row;
-use sched_model::state::{Resource, Stage};
+use sched_model::state::Resource;
 use sched_model::units::is_same_choice;
+use sibling_meet::decided;
 
 /// The core is to decide anew, at this moment at the latest.
 pub fn set_pending_by(r: ResId, due: Moment, cores: &mut Row<Option<Resource>>)
@@ -33,7 +34,7 @@ fn choose(t: Moment, unit: Option<UnitId>, due: Option<Moment>, core: &mut Resou
     }
     core.due = due;
     core.pending = false;
-    core.stage = Stage::Decided;
+    decided(core);
 }
 
 /// The core at this place takes what was decided.

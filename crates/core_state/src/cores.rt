@@ -11,9 +11,9 @@ use crate::dues::{
     rearm_arrivals,
 };
 use crate::ends::{lowest_end, move_end, processor_at};
-use pool_records::changes::{bring_due_at, open_if_left, take_saved};
+use pool_records::changes::{bring_due_at, take_saved};
 use pool_records::cores::{core_of, first_core, has_domain, home_cores, is_on_core};
-use pool_records::doing::{change_doing, set_pending};
+use pool_records::doing::{change_doing, leave_at, set_pending};
 use pool_records::leaving::{end_stall, mark_leaving};
 use sched_base::{Cores, DomId, Moment, NoMemory, ProcId, ResId, UnitId, VcpuId};
 use sched_model::places::{item_at, set_place, take_item};
@@ -341,8 +341,7 @@ impl CoreState {
     {
         let g = self.granularity;
         let r = p.0 / g;
-        change_doing(g, p, doing, &mut self.cores);
-        open_if_left(ResId(r), &mut self.cores);
+        leave_at(g, p, doing, &mut self.cores);
         set_place(&mut self.works, p.0, work);
         rearm(&mut self.dues, g, ResId(r), &self.cores, &self.works);
     }

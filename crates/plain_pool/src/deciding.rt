@@ -18,8 +18,9 @@ use sched_model::ask::Ask;
 use sched_model::event::Event;
 use sched_model::places::item_at;
 use sched_model::row::Row;
-use sched_model::state::{Pool, Resource, Stage};
+use sched_model::state::{Pool, Resource};
 use sched_model::units::is_same_choice;
+use sibling_meet::decided;
 
 /// What the core asks its scheduler.
 pub fn ask_of(granularity: u8, t: Moment, pool: &Pool, r: ResId, core: &Resource) -> Ask
@@ -52,7 +53,7 @@ fn set_decided(t: Moment, answer: Decided, core: &mut Resource)
     }
     core.due = answer.due;
     core.pending = false;
-    core.stage = Stage::Decided;
+    decided(core);
 }
 
 /// What was decided at the core with this number.

@@ -1,9 +1,10 @@
 //! The events of one pool, before its cores are looked at.
 
 ghost use Rattle.sched_model.specs.CheckedMachine.{most_span};
-ghost use Rattle.std.specs.Prelude.{◌≡◌, ◌<◌, ◌≤◌, length, IsTrue, true};
+ghost use Rattle.std.specs.Prelude.{◌≡◌, ◌<◌, ◌≤◌, ◌/◌, length, IsTrue, true, None, Some};
 ghost use Rattle.sched_model.specs.declared.action.Action.TheVariants.{Slice, Arrive, Leave, Save};
-ghost use Rattle.sched_model.specs.Pool.{enabled_in, after_in, event_in, vcpu_to_run};
+ghost use Rattle.sched_model.specs.Pool.{enabled_in, after_in, change_core, change_processor, event_in, reopened_core, started_on, vcpu_to_run, with_doing};
+ghost use Rattle.sched_model.specs.declared.state.Doing.TheVariants as doing;
 ghost use Rattle.scheduler_records.specs.Fits.{RecordsFit};
 ghost use Rattle.pool_records.specs.Fits.{PoolFits};
 ghost use Rattle.sched_model.specs.Actions.{IsOfPool};
@@ -13,10 +14,10 @@ use crate::pool::guest_of;
 use crate::replenishing::{refill, replenish};
 use crate::waking::{block, wake};
 use plain_schedulers::queue::enqueue;
-use pool_records::changes::{open_if_left, take_saved};
-use pool_records::doing::{change_doing, set_pending, take};
+use pool_records::changes::take_saved;
+use pool_records::doing::{change_doing, leave_at, set_pending};
 use pool_records::runnable::is_runnable;
-use pool_records::vcpus::{stop_vcpu, vcpu_of};
+use pool_records::vcpus::{start_vcpu, stop_vcpu, vcpu_of};
 use sched_base::{Moment, ProcId, ResId, VcpuId};
 use sched_model::action::Action;
 use sched_model::event::Event;
@@ -69,6 +70,23 @@ pub fn vcpu_for(granularity: u8, pool: &Pool, core: &Resource, sibling: u8) -> O
     }
 }
 
+/// The processor leaves the meeting with the vCPU, or idles; the last one opens the stage.
+fn part(granularity: u8, t: Moment, p: ProcId, taken: Option<VcpuId>, pool: &mut Pool)
+    requires { 0 < granularity }
+    ensures { pool.new ≡ change_core (p.0 / granularity) reopened_core (elim taken [
+      | None ↦ change_processor granularity p.0 (with_doing doing.Idle) pool.old
+      | Some v ↦ started_on granularity t.0 p.0 v pool.old
+    ]) }
+{
+    match taken {
+        None => leave_at(granularity, p, Doing::Idle, &mut pool.resources),
+        Some(v) => {
+            start_vcpu(&mut pool.domains, v, t);
+            leave_at(granularity, p, Doing::Guest(v), &mut pool.resources);
+        }
+    }
+}
+
 /// The processor leaves the meeting with the vCPU of its place in the core's unit, or idles; the last one opens the stage.
 pub fn leave(granularity: u8, t: Moment, p: ProcId, pool: &mut Pool) -> Event
     requires enabled { IsTrue (enabled_in granularity t.0 pool.old (Leave p)) }
@@ -82,8 +100,7 @@ pub fn leave(granularity: u8, t: Moment, p: ProcId, pool: &mut Pool) -> Event
         unreachable!();
     };
     let v = vcpu_for(granularity, pool, c, p.0 % granularity);
-    take(granularity, t, p, v, pool);
-    open_if_left(ResId(p.0 / granularity), &mut pool.resources);
+    part(granularity, t, p, v, pool);
     Event::Leave { p, v }
 }
 

@@ -3,12 +3,11 @@
 ghost use Rattle.std.specs.Prelude.{◌≡◌, ◌+◌, min};
 ghost use Rattle.sched_base.specs.Numbers.{moment};
 ghost use Rattle.sched_model.specs.Places.{change_at};
-ghost use Rattle.sched_model.specs.Pool.{due_within, reopened_core, saved_core, saving_among};
+ghost use Rattle.sched_model.specs.Pool.{due_within, saved_core, saving_among};
 
-use crate::cores::any_held;
 use sched_base::{Moment, ResId, UnitId};
 use sched_model::row::Row;
-use sched_model::state::{Resource, Stage};
+use sched_model::state::Resource;
 
 /// The due, or the moment at which the budget is used up, if that is earlier.
 fn sooner(t: Moment, budget: u64, due: Moment) -> Moment
@@ -34,20 +33,6 @@ pub fn bring_due_at(r: usize, t: Moment, budget: u64, cores: &mut Row<Option<Res
         && let Some(c) = place
     {
         bring_due(t, budget, c);
-    }
-}
-
-/// The stage is open again once nobody is held.
-pub fn open_if_left(r: ResId, cores: &mut Row<Option<Resource>>)
-    ensures { cores.new ≡ change_at r.0 reopened_core cores.old }
-{
-    let place = r.0 as usize;
-    if place < cores.len() {
-        if let Some(c) = cores.item_mut(place) {
-            if !any_held(c.processors.as_slice()) {
-                c.stage = Stage::Open;
-            }
-        }
     }
 }
 
