@@ -24,7 +24,7 @@ use Rattle.lock_moves.specs.SeatSight.{Known, Seen, View, AllBelow, at_rest, boo
 use Rattle.lock_moves.specs.Agreement.{Fronts, Fits, Has, Agrees}
 use Rattle.lock_moves.specs.Plays.{Current, Next, Kept, Placed, Decided, committed, went_on}
 use Rattle.lock_moves.proofs.Finding.{content_or, ledger_or, told_same, find-head, lists-part, find-tail, find-without-same, find-without-other, find-refreshed, never, none_or, set_there, set_all, set_some}
-use Rattle.lock_moves.proofs.Moving.{suited_step, Begins, fronts_same, shares_same}
+use Rattle.lock_moves.proofs.Moving.{beside_none, suited_step, Begins, fronts_same, shares_same}
 use Rattle.lock_moves.proofs.Places.{place_there, place_last, place_either, place_one, rising-snoc}
 use Rattle.lock_moves.proofs.Prefix.{prefix_refl, prefix_more, prefix_length}
 use Rattle.std.proofs.lemmas.List.{length_push, set-get_or}
@@ -219,6 +219,7 @@ module _ {V : Type 0} (part : V → StatePart) (suits : Machine → ℕ → V �
           nobody = λ i u e o. set_all (λ i u. find_lock 17 u.seen.held ≡ None → u.seen.named ≡ 0) s.views id w (λ _. refl) (λ j u _ e o. r.stages.nobody j u e o) i u e o;
         };
         fronts = f.2;
+        beside = beside_none s.views id w refl r.beside;
         all_shares = shares_same s.views id v w at refl r.all_shares;
       }
 

@@ -26,6 +26,14 @@ shares-set (x ∷ xs) (suc i) v w e = let r = shares-set xs i v w e in omega ari
 abbrev pub Begins : List Entry → View → Type 0
 Begins h u = IsPrefix u.seen.front h
 
+-- the front of the seat that was taken in begins the seat's own
+abbrev pub Beside : View → Type 0
+Beside u = IsPrefix u.beside u.seen.front
+
+-- a step after which nothing stands beside the seat
+pub beside_none : (views : List View) (id : ℕ) (w : View) → w.beside ≡ [] → ((j : ℕ) (u : View) → get_elem? views j ≡ some u → Beside u) → (j : ℕ) (u : View) → get_elem? (set views id w) j ≡ some u → Beside u
+beside_none views id w empty all = set_all (λ _ u. Beside u) views id w (subst (λ (z : List Entry). IsPrefix z w.seen.front) (sym empty) (w.seen.front, refl)) (λ j u _ e. all j u e)
+
 -- a seat whose front stays or becomes the history, and whose places stay
 pub fronts_grown : (m : Machine) (limit base : ℕ) (views : List View) (h : List Entry) (keeper : ℕ → ℕ) (latest id : ℕ) (v w : View) → Fronts m limit base views h keeper latest → get_elem? views id ≡ some v
     → w.seen.input ≡ v.seen.input → w.seen.limit ≡ v.seen.limit → IsPrefix w.seen.front h → length v.seen.front ≤ length w.seen.front → (v.seen.front ≡ h → w.seen.front ≡ h) → w.seen.own ≡ v.seen.own → 0 < v.seen.shares → 0 < w.seen.shares → Fronts m limit base (set views id w) h keeper latest

@@ -13,9 +13,9 @@ use Rattle.sched_model.specs.declared.machine.Machine.{Machine}
 use Rattle.lock_moves.specs.declared.content.Content.{Content}
 use Rattle.lock_moves.specs.SeatSight.{Known, View, known_part, find_lock, Holds, has_place, without_name, renamed_locks, raise, view_moved_name, view_with_now}
 use Rattle.lock_moves.specs.Agreement.{Has, Agrees}
-use Rattle.lock_moves.specs.Plays.{named, timed, looked}
+use Rattle.lock_moves.specs.Plays.{named, timed, looked, found_beside}
 use Rattle.lock_moves.proofs.Finding.{find-tail, some_same, never, none_or, set_all, set_some}
-use Rattle.lock_moves.proofs.Moving.{fronts_same, shares_same, locks_step, stages_step, stages_of}
+use Rattle.lock_moves.proofs.Moving.{beside_none, fronts_same, shares_same, locks_step, stages_step, stages_of}
 use Rattle.lock_moves.proofs.Taking.{unmoved}
 
 -- the names of the lock j once the name n was moved to the lock `to`
@@ -158,6 +158,7 @@ module _ {V : Type 0} (part : V → StatePart) (suits : Machine → ℕ → V �
           stages = stages_step h s.words words' s.views id w r.stages (λ q f. get_or-set_other s.words i (147 + q) to 0 (λ e. absurd (omega (arith, e, l)))) (λ z. sym (lock 17 (omega arith)) ∙ z)
               ((λ y q f g. let t = find-renamed n to 17 v.seen.held y f in r.stages.raised id v t.0 q at t.1 g), λ f. r.stages.nobody id v at (was_none n to 17 v.seen.held f));
           fronts = fronts_same m limit base s.views h r.keeper r.latest id v w r.fronts at refl refl refl refl left left;
+          beside = beside_none s.views id w refl r.beside;
           all_shares = shares_same s.views id v w at refl r.all_shares;
         },
         λ p e. ap (λ (k : ℕ). (view_moved_name k to v, [])) (omega (arith, e)),
@@ -208,6 +209,7 @@ module _ {V : Type 0} (part : V → StatePart) (suits : Machine → ℕ → V �
           stages = stages_step h s.words words' s.views id w r.stages (λ q f. same (147 + q) (λ e. absurd (omega (arith, e)))) (λ z. sym (same 17 (λ e. absurd (omega (arith, e)))) ∙ z)
               (stages_of h s.words s.views r.stages id v at);
           fronts = fronts_same m limit base s.views h r.keeper r.latest id v w r.fronts at refl refl refl refl left left;
+          beside = beside_none s.views id w refl r.beside;
           all_shares = shares_same s.views id v w at refl r.all_shares;
         },
         refl,
@@ -218,7 +220,7 @@ module _ {V : Type 0} (part : V → StatePart) (suits : Machine → ℕ → V �
     me.0,
     keeps,
     tt,
-    unmoved part suits m limit base s r id me.0 me.0 i me.1 at left refl refl refl refl refl refl refl refl refl,
+    unmoved part suits m limit base s r id me.0 me.0 i me.1 at left refl refl refl refl refl refl refl refl refl (r.beside id me.0 at),
     (
       refl,
       (
@@ -228,6 +230,15 @@ module _ {V : Type 0} (part : V → StatePart) (suits : Machine → ℕ → V �
         λ p x e q l. ap (λ (j : ℕ). get_or s.words j 0) e ∙ (r.stages.raised id me.0 x p at q l ∙ ap (λ (h : List Entry). decides_at h p + raise p me.0.seen) (sym ((r.locks.held id me.0 17 x at q).book refl))),
       ),
     ),
+  )
+
+  pub finds_beside : (slots id : ℕ) (me : Mine) (i : ℕ) → 0 < me.0.seen.shares → Allows (Agrees part suits m limit base) slots id me i (λ n. n) (found_beside (step slots i 0 0 none) me)
+  finds_beside slots id me i left s r deep at small = (
+    me.0,
+    keeps,
+    tt,
+    unmoved part suits m limit base s r id me.0 me.0 i me.1 at left refl refl refl refl refl refl refl refl refl (r.beside id me.0 at),
+    (refl, r.beside id me.0 at),
   )
 
   pub sets_now_at : (slots id : ℕ) (me : Mine) (v : View) (t : ℕ) → me ≡ (v, []) → v.out ≡ 0 → ((k : ℕ) → k < 18 → Holds k v.seen) → 0 < v.seen.shares

@@ -84,6 +84,7 @@ module _ {V : Type 0} (part : V → StatePart) (suits : Machine → ℕ → V �
           rising = alone (λ _ u. Rising u.seen.own) v tt;
           spent = alone (λ _ u. u.seen.shares ≡ 0 → (u.seen.own ≡ []) × (u.seen.held ≡ [])) v (λ _. (refl, refl));
         };
+        beside = alone (λ _ u. IsPrefix u.beside u.seen.front) v (v.seen.front, refl);
         all_shares = refl;
       }
 

@@ -13,7 +13,7 @@ use Rattle.sched_model.specs.declared.machine.Machine.{Machine}
 use Rattle.lock_moves.specs.SeatSight.{Known, View, find_lock, Holds, has_place, Rising, longer_history, view_lessened, view_newcomer, view_joined, spent_view}
 use Rattle.lock_moves.specs.Agreement.{shares_of, Has, Agrees}
 use Rattle.lock_moves.proofs.Finding.{never, set_there, set_all, set_some}
-use Rattle.lock_moves.proofs.Moving.{Begins, shares-set, fronts_same, has_moved, Names_of, names_of, names_none, names_viewed, Stages_of, stages_of, stages_viewed}
+use Rattle.lock_moves.proofs.Moving.{Begins, Beside, beside_none, shares-set, fronts_same, has_moved, Names_of, names_of, names_none, names_viewed, Stages_of, stages_of, stages_viewed}
 use Rattle.lock_moves.proofs.Prefix.{prefix_length}
 use Rattle.std.proofs.Math.ListN.{drop_of_length-le}
 use Rattle.std.proofs.lemmas.List.{append-nil}
@@ -35,6 +35,24 @@ prefix_whole [] [] p l = refl
 prefix_whole [] (y ∷ ys) p l = absurd (omega (arith, l))
 prefix_whole (x ∷ xs) [] p l = absurd (omega (arith, ap length p.1))
 prefix_whole (x ∷ xs) (y ∷ ys) p l = let t = prefix_whole xs ys (p.0, ap tail p.1) (omega (arith, l)) in λ i. first y (p.1 i) ∷ t i
+  where
+    first : Entry → List Entry → Entry
+    first d [] = d
+    first d (x ∷ xs) = x
+
+    tail : List Entry → List Entry
+    tail [] = []
+    tail (x ∷ xs) = xs
+
+-- of two beginnings of one history the shorter begins the longer
+begins_longer : (xs ys h : List Entry) → IsPrefix xs h → IsPrefix ys h → length xs ≤ length ys → IsPrefix xs ys
+begins_longer [] ys h p q l = (ys, refl)
+begins_longer (x ∷ xs) [] h p q l = absurd (omega (arith, l))
+begins_longer (x ∷ xs) (y ∷ ys) [] p q l = absurd (omega (arith, ap length p.1))
+begins_longer (x ∷ xs) (y ∷ ys) (z ∷ h) p q l =
+    let t = begins_longer xs ys h (p.0, ap tail p.1) (q.0, ap tail q.1) (omega (arith, l)) in
+    let same : x ≡ y = ap (first z) p.1 ∙ sym (ap (first z) q.1) in
+    (t.0, λ i. same i ∷ t.1 i)
   where
     first : Entry → List Entry → Entry
     first d [] = d
@@ -116,6 +134,7 @@ module _ {V : Type 0} (part : V → StatePart) (suits : Machine → ℕ → V �
           newest = let t = g.newest in (t.0, at_longer l (n ∷ []) r.latest t.0 t.1, t.2, t.3);
           spent = snoc_all (λ _ u. u.seen.shares ≡ 0 → (u.seen.own ≡ []) × (u.seen.held ≡ [])) l n g.spent (λ _ _. (refl, refl));
         };
+        beside = snoc_all (λ _ u. Beside u) l n (beside_none s.views id w refl r.beside) (λ _. (n.seen.front, refl));
         all_shares = let a = shares-snoc l n in let b = shares-set s.views id v w at in let d = r.all_shares in omega (arith, a, b, d, two);
       }
 
@@ -182,5 +201,6 @@ module _ {V : Type 0} (part : V → StatePart) (suits : Machine → ℕ → V �
           spent = set_all (λ _ u. u.seen.shares ≡ 0 → (u.seen.own ≡ []) × (u.seen.held ≡ [])) l1 other spent_view (λ _. (refl, refl))
               (λ j u _ e. set_all (λ _ u. u.seen.shares ≡ 0 → (u.seen.own ≡ []) × (u.seen.held ≡ [])) s.views id both (λ z. absurd (lt_irrefl 0 (subst (λ (n : ℕ). 0 < n) z more))) (λ j u _ e. f.spent j u e) j u e);
         };
+        beside = beside_none l1 other spent_view refl (set_all (λ _ u. Beside u) s.views id both (longer_case (λ z. IsPrefix w.seen.front z) h v.seen.front w.seen.front pv pw (λ l. begins_longer w.seen.front v.seen.front h pw pv l) (λ _. ([], append-nil w.seen.front))) (λ j u _ e. r.beside j u e));
         all_shares = let a = shares-set s.views id v both at in let b = shares-set l1 other w spent_view seen in let d = r.all_shares in omega (arith, a, b, d);
       }

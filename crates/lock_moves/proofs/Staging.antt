@@ -16,7 +16,7 @@ use Rattle.lock_moves.specs.Plays.{Next, loaded, raised}
 use Rattle.lock_moves.proofs.Finding.{never, set_all}
 use Rattle.journal_core.proofs.Grows.{decides_at-few}
 use Rattle.std.proofs.lemmas.List.{length_push}
-use Rattle.lock_moves.proofs.Moving.{fronts_same, shares_same, locks_step, names_step}
+use Rattle.lock_moves.proofs.Moving.{beside_none, fronts_same, shares_same, locks_step, names_step}
 use Rattle.lock_moves.proofs.Taking.{unmoved}
 
 -- a count of decisions is far from its type's end
@@ -78,6 +78,7 @@ module _ {V : Type 0} (part : V → StatePart) (suits : Machine → ℕ → V �
             nobody = λ j u e f. set_all (λ _ u. find_lock 17 u.seen.held ≡ None → u.seen.named ≡ 0) s.views id w (λ f. absurd (never book.0 (sym f ∙ book.1))) (λ j u _ e f. r.stages.nobody j u e f) j u e f;
           };
           fronts = fronts_same m limit base s.views h r.keeper r.latest id v w r.fronts at refl refl refl refl left left;
+          beside = beside_none s.views id w refl r.beside;
           all_shares = shares_same s.views id v w at refl r.all_shares;
         },
         λ p e. ap (λ (n : ℕ). (view_naming n v, [])) (omega (arith, e)),
@@ -97,7 +98,7 @@ module _ {V : Type 0} (part : V → StatePart) (suits : Machine → ℕ → V �
         w,
         keeps,
         tt,
-        unmoved part suits m limit base s r id v w i me.1 at left refl refl refl refl refl refl refl refl refl,
+        unmoved part suits m limit base s r id v w i me.1 at left refl refl refl refl refl refl refl refl refl (w.seen.front, refl),
         λ p e _. let same : q ≡ p = omega (arith, is, e) in (
           (λ j. (view_has_loaded (same j) (get_or s.words i 0) v, me.1)),
           (h, r.fronts.begins id v at, subst (λ (z : ℕ). decides_at h z ≤ get_or s.words i 0) same (subst (λ (n : ℕ). decides_at h q ≤ n) word least)),

@@ -22,7 +22,7 @@ use Rattle.lock_moves.specs.SeatSight.{Known, View, known_part as known, has_pla
 use Rattle.lock_moves.specs.Agreement.{Fits, Has, Agrees}
 use Rattle.lock_moves.specs.Plays.{Lists, IsPartOfSome, tried, settled, fetched, put_back}
 use Rattle.lock_moves.proofs.Finding.{find-head, find-tail, find-without-same, find-without-other, some_same, never, set_all, set_some, listed, listed-has}
-use Rattle.lock_moves.proofs.Moving.{suited_step, fronts_same, shares_same, has_moved, locks_step, names_step, stages_step, stages_of}
+use Rattle.lock_moves.proofs.Moving.{Beside, beside_none, suited_step, fronts_same, shares_same, has_moved, locks_step, names_step, stages_step, stages_of}
 
 abbrev pub owned_by : (ℕ → ℕ) → ℕ → ℕ → ℕ → ℕ
 owned_by owner k id j = cond (eqb j k) id (owner j)
@@ -114,6 +114,7 @@ module _ {V : Type 0} (part : V → StatePart) (suits : Machine → ℕ → V �
                 λ f. r.stages.nobody id v at (sym (find-tail 17 k z' v.seen.held (λ e. absurd (omega (arith, e, low)))) ∙ f),
               );
           fronts = fronts_same m limit base s.views r.history r.keeper r.latest id v w r.fronts at refl refl refl refl left left;
+          beside = beside_none s.views id w refl r.beside;
           all_shares = shares_same s.views id v w at refl r.all_shares;
         },
         (x, names, now, refl, (λ n l. sym (listed-has (lists (part x)) 128 n l)), subst (λ (q : Machine). suits q now x) (sym (r.fronts.same id v at left)) (r.suited k x low zero_there there), (λ j y f. sym (r.names.moment id v j y at f)), part_of_some),
@@ -121,9 +122,9 @@ module _ {V : Type 0} (part : V → StatePart) (suits : Machine → ℕ → V �
 
   -- a step that finds a word, whatever it is, and leaves it: the view changes only in what no lock and no front depends on
   pub unmoved : (s : St) (r : Agrees part suits m limit base s) (id : ℕ) (v w : View) (i : ℕ) (carried : List (ℕ × Content V)) → get_elem? s.views id ≡ some v → 0 < v.seen.shares
-      → w.seen.input ≡ v.seen.input → w.seen.limit ≡ v.seen.limit → w.seen.front ≡ v.seen.front → w.seen.own ≡ v.seen.own → w.seen.shares ≡ v.seen.shares → w.seen.held ≡ v.seen.held → w.out ≡ v.out → w.seen.now ≡ v.seen.now → w.seen.named ≡ v.seen.named
+      → w.seen.input ≡ v.seen.input → w.seen.limit ≡ v.seen.limit → w.seen.front ≡ v.seen.front → w.seen.own ≡ v.seen.own → w.seen.shares ≡ v.seen.shares → w.seen.held ≡ v.seen.held → w.out ≡ v.out → w.seen.now ≡ v.seen.now → w.seen.named ≡ v.seen.named → Beside w
       → Agrees part suits m limit base (stepped s i (get_or s.words i 0) id carried w keeps)
-  unmoved s r id v w i carried at left input limited front own shares held out now named = record {
+  unmoved s r id v w i carried at left input limited front own shares held out now named met = record {
     history = r.history;
     owner = r.owner;
     keeper = r.keeper;
@@ -151,6 +152,7 @@ module _ {V : Type 0} (part : V → StatePart) (suits : Machine → ℕ → V �
     stages = stages_step r.history s.words (set s.words i (get_or s.words i 0)) s.views id w r.stages (λ q _. same (147 + q)) (λ z. sym (same 17) ∙ z)
         ((λ x q f l. r.stages.raised id v x q at (ap (find_lock 17) (sym held) ∙ f) l ∙ ap (λ (n : ℕ). decides_at r.history q + cond (eqb (suc q) n) 1 0) (sym named)), λ f. named ∙ r.stages.nobody id v at (ap (find_lock 17) (sym held) ∙ f));
     fronts = fronts_same m limit base s.views r.history r.keeper r.latest id v w r.fronts at input limited front own left (subst (λ (z : ℕ). 0 < z) (sym shares) left);
+    beside = set_all (λ _ u. Beside u) s.views id w met (λ j u _ e. r.beside j u e);
     all_shares = shares_same s.views id v w at shares r.all_shares;
   }
     where
@@ -171,7 +173,7 @@ module _ {V : Type 0} (part : V → StatePart) (suits : Machine → ℕ → V �
         w,
         keeps,
         tt,
-        subst (λ b. Agrees part suits m limit base (stepped s k (either b 1 x) id me.1 w keeps)) (sym (ne_eqb x 0 ne)) (unmoved s r id me.0 w k me.1 at left refl refl refl refl refl refl refl refl refl),
+        subst (λ b. Agrees part suits m limit base (stepped s k (either b 1 x) id me.1 w keeps)) (sym (ne_eqb x 0 ne)) (unmoved s r id me.0 w k me.1 at left refl refl refl refl refl refl refl refl refl (w.seen.front, refl)),
         ((λ e. absurd (ne e)), λ _. refl),
       ))
 
@@ -212,6 +214,7 @@ module _ {V : Type 0} (part : V → StatePart) (suits : Machine → ℕ → V �
             (λ z j n f q l. r.names.moving id v z j n at f q l);
         stages = stages_step r.history s.words (set s.words k x) s.views id w r.stages (λ q _. set_found s.words k (147 + q)) (λ z. sym (set_found s.words k 17) ∙ z) (stages_of r.history s.words s.views r.stages id v at);
         fronts = fronts_same m limit base s.views r.history r.keeper r.latest id v w r.fronts at refl refl refl refl left left;
+        beside = beside_none s.views id w refl r.beside;
         all_shares = shares_same s.views id v w at refl r.all_shares;
       }
 
@@ -268,6 +271,7 @@ module _ {V : Type 0} (part : V → StatePart) (suits : Machine → ℕ → V �
               (λ e. sym (get_or-set_other s.words k 17 0 0 (λ e. absurd (omega (arith, e, low)))) ∙ e)
               ((λ x q f l. r.stages.raised id v x q at (still k 17 v.seen.held x f) l), λ f. r.stages.nobody id v at (sym (find-without-other k 17 v.seen.held (λ e. absurd (omega (arith, e, low)))) ∙ f));
           fronts = fronts_same m limit base s.views r.history r.keeper r.latest id v w r.fronts at refl refl refl refl left left;
+          beside = beside_none s.views id w refl r.beside;
           all_shares = shares_same s.views id v w at refl r.all_shares;
         },
         refl,

@@ -19,7 +19,7 @@ use Rattle.lock_moves.specs.SeatSight.{Known, View, book_known, find_lock, AllBe
 use Rattle.lock_moves.specs.Agreement.{Fits, Agrees}
 use Rattle.lock_moves.specs.Plays.{Current, tried_book}
 use Rattle.lock_moves.proofs.Finding.{find-head, find-tail, some_same, none_or, set_all}
-use Rattle.lock_moves.proofs.Moving.{suited_step, fronts_grown, shares_same, locks_step, names_step}
+use Rattle.lock_moves.proofs.Moving.{beside_none, suited_step, fronts_grown, shares_same, locks_step, names_step}
 use Rattle.lock_moves.proofs.Closing.{two_of}
 use Rattle.lock_moves.proofs.Prefix.{prefix_refl, prefix_length}
 use Rattle.lock_moves.proofs.Taking.{owned_by, owned_here, owned_else, unmoved}
@@ -86,6 +86,7 @@ module _ {V : Type 0} (part : V → StatePart) (suits : Machine → ℕ → V �
         };
         fronts = fronts_grown m limit base s.views r.history r.keeper r.latest id v w r.fronts at refl refl
             (subst (λ z. IsPrefix z r.history) (sym fits.2) (prefix_refl r.history)) (omega (arith, long, len)) (λ _. fits.2) refl left left;
+        beside = beside_none s.views id w refl r.beside;
         all_shares = shares_same s.views id v w at refl r.all_shares;
       }
 
@@ -143,6 +144,6 @@ module _ {V : Type 0} (part : V → StatePart) (suits : Machine → ℕ → V �
         w,
         keeps,
         tt,
-        subst (λ b. Agrees part suits m limit base (stepped s 17 (either b 1 x) id me.1 w keeps)) (sym (ne_eqb x 0 ne)) (unmoved part suits m limit base s r id me.0 w 17 me.1 at left refl refl refl refl refl refl refl refl refl),
+        subst (λ b. Agrees part suits m limit base (stepped s 17 (either b 1 x) id me.1 w keeps)) (sym (ne_eqb x 0 ne)) (unmoved part suits m limit base s r id me.0 w 17 me.1 at left refl refl refl refl refl refl refl refl refl (w.seen.front, refl)),
         ((λ e. absurd (ne e)), λ _. refl),
       ))

@@ -88,4 +88,5 @@ pub record Agrees {V : Type 0} (part : V → StatePart) (suits : Machine → ℕ
   pub suited : Suited suits m s.words s.homes
   pub stages : Stages s.words s.views history
   pub fronts : Fronts m limit base s.views history keeper latest
+  pub beside : (id : ℕ) (v : View) → get_elem? s.views id ≡ some v → IsPrefix v.beside v.seen.front
   pub all_shares : shares_of s.views ≡ 1024

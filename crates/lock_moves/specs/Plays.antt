@@ -90,6 +90,10 @@ module _ {V : Type 0} where
   abbrev pub looked : Step (Content V) → Sat V → ℕ → Sat V → Type 0
   looked st m r m' = (m' ≡ m) × Tells st.word r m.0.seen
 
+  -- the front of the seat that was taken in begins the seat's own
+  abbrev pub found_beside : Step (Content V) → Sat V → ℕ → Sat V → Type 0
+  found_beside st m r m' = (m' ≡ m) × IsPrefix m.0.beside m.0.seen.front
+
   -- the name of the word moves to the lock that was stored
   abbrev pub named : Step (Content V) → Sat V → ℕ → Sat V → Type 0
   named st m r m' = (n : ℕ) → st.word ≡ name_word n → m' ≡ (view_moved_name n st.first m.0, m.1)

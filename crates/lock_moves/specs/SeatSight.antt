@@ -193,22 +193,24 @@ newcomer v = fresh_view v.input v.limit v.front 1
 abbrev pub after_join : Seen → Seen → Seen
 after_join v w = record v { front = longer_history v.front w.front; own = both_places v.own w.own (length (longer_history v.front w.front)); shares = v.shares + w.shares }
 
--- What the table keeps of a seat: what the seat knows, and 0, or 1 more than the lock whose slot is out with the seat in the midst of a call
+-- What the table keeps of a seat: what the seat knows; 0, or 1 more than the lock whose slot is out with the seat in the midst of a call; and the
+-- front of a seat that was taken in, until the next step
 pub record View : Type 0 where
   pub seen : Seen
   pub out : ℕ
+  pub beside : List Entry
 
 -- no slot is out
 abbrev pub at_rest : Seen → View
-at_rest v = record { seen = v; out = 0 }
+at_rest v = record { seen = v; out = 0; beside = [] }
 
 -- what the seat knows becomes this, and the slot stays where it is
 abbrev pub with_seen : Seen → View → View
-with_seen w v = record v { seen = w }
+with_seen w v = record v { seen = w; beside = [] }
 
 -- the slot of the lock is out, or home
 abbrev pub with_out : ℕ → View → View
-with_out n v = record v { out = n }
+with_out n v = record v { out = n; beside = [] }
 
 -- no input
 abbrev pub no_machine : Machine
@@ -220,10 +222,10 @@ spent_view = at_rest (fresh_view no_machine 0 [] 0)
 
 -- how the steps change what the table keeps
 abbrev pub view_took : ℕ → StatePart → List ℕ → ℕ → View → View
-view_took k part names t v = record { seen = after_take k part names t v.seen; out = suc k }
+view_took k part names t v = record { seen = after_take k part names t v.seen; out = suc k; beside = [] }
 
 abbrev pub view_took_book : List Entry → ℕ → View → View
-view_took_book h t v = record { seen = took_book h t v.seen; out = 18 }
+view_took_book h t v = record { seen = took_book h t v.seen; out = 18; beside = [] }
 
 abbrev pub view_gave : ℕ → View → View
 view_gave k v = at_rest (after_give k v.seen)
@@ -256,7 +258,7 @@ abbrev pub view_newcomer : View → View
 view_newcomer v = at_rest (newcomer v.seen)
 
 abbrev pub view_joined : View → View → View
-view_joined v w = with_seen (after_join v.seen w.seen) v
+view_joined v w = record v { seen = after_join v.seen w.seen; beside = w.seen.front }
 
 abbrev pub view_opening : Chronicle → View
 view_opening b = at_rest (opening_view b)

@@ -124,6 +124,15 @@ impl Split<View> for Cut {
     ghost right = { view_newcomer };
 }
 
+// What a seat took in begins what it has seen.
+pub(crate) struct Tally;
+
+impl<V> Play<Content<V>, View> for Tally {
+    ghost use Rattle.lock_moves.specs.Plays.{found_beside};
+
+    ghost then = { found_beside };
+}
+
 pub(crate) struct Glue;
 
 impl Join<View> for Glue {

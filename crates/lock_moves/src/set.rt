@@ -34,7 +34,7 @@ ghost use Rattle.lock_moves.specs.Words.{name_number, has_name, has_core, has_wo
 use crate::content::{BOOK, Content, Held, HeldBook, LockId, NOW, NameId, Part, WordId};
 use crate::rule::{
     Agreement, Clock, Commit, CommitOn, Cut, Fetch, Glue, Load, Put, Raise, ReadWord, Settle, Take,
-    TakeBook, WriteName,
+    TakeBook, Tally, WriteName,
 };
 use crate::seat::{LockSeat, seated};
 use crate::view::View;
@@ -226,13 +226,15 @@ impl<V: Part> LockSet<V> {
     pub fn join(&self, into: &mut LockSeat, seat: LockSeat)
         requires sets { (into.old.table ≡ self.now.table) × (seat.table ≡ self.now.table) }
         requires nothing { seat.view.held ≡ [] }
-        ensures { into.new ≡ sitting_with into.old (after_join into.old.view seat.view) }
+        ensures joined { into.new ≡ sitting_with into.old (after_join into.old.view seat.view) }
+        ensures begins { IsPrefix seat.view.front into.new.view.front }
     {
         let mut me = seated::<V>(&mut into.badge);
         let LockSeat { badge } = seat;
         self.table
             .shared
             .join_seat::<Glue>(&mut me, badge.into_seat());
+        self.table.shared.load::<Tally>(&mut me, NOW);
         into.badge = me.into_badge();
     }
 

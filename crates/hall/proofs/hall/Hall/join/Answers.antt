@@ -7,7 +7,7 @@ use Rattle.hall.proofs.hall.Hall.join.Goals as goal
 pub invariant_of-into : goal.invariant_of-into
 invariant_of-into c =
     let v = c.into.inside.seat.view in
-    subst (λ (s : Sitting). SitsFree s c.into.inside.arrived) (sym c.join.ensures)
+    subst (λ (s : Sitting). SitsFree s c.into.inside.arrived) (sym c.join.ensures.joined)
     (record {
       nothing = c.into.invariant.nothing;
       processor = c.into.invariant.processor;
