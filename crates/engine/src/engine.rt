@@ -154,35 +154,56 @@ impl Engine {
         ensures state { self.new ≡ record self.old
             { state = after self.old.machine self.old.state self.old.state.now action } }
     {
+        let mut entry = Entry {
+            at: self.moment,
+            event: Event::Finish,
+        };
+        self.perform_into(action, &mut entry);
+        entry.event
+    }
+
+    /// The same, and the entry is written in its place.
+    pub(crate) fn perform_into(&mut self, action: Action, out: &mut Entry)
+        requires { first_enabled_action self.old.machine self.old.state self.old.state.now
+            ≡ Some action }
+        ensures at { out.new.at ≡ moment self.old.state.now }
+        ensures event { out.new.event ≡ event_of self.old.machine self.old.state
+            self.old.state.now action }
+        ensures state { self.new ≡ record self.old
+            { state = after self.old.machine self.old.state self.old.state.now action } }
+    {
         match pool_of_event(&self.tool, self.granularity, action) {
-            Some(i) => self.perform_in_pool(i.0, action),
-            None => self.perform_by_tool(action),
+            Some(i) => self.perform_in_pool(i.0, action, out),
+            None => {
+                out.at = self.moment;
+                out.event = self.perform_by_tool(action);
+            }
         }
     }
 
-    /// Does the event of an action that may come now, which is one of this pool.
+    /// Does the event of an action that may come now, which is one of this pool. The entry is written in its place.
     #[inline(always)]
-    pub(crate) fn perform_in_pool(&mut self, place: u8, action: Action) -> Event
+    pub(crate) fn perform_in_pool(&mut self, place: u8, action: Action, out: &mut Entry)
         requires enabled { is_action_enabled self.old.machine self.old.state self.old.state.now
             action ≡ true }
         requires home { event_pool self.old.machine.config.granularity self.old.state action
             ≡ Some place }
-        ensures event { result ≡ event_of self.old.machine self.old.state self.old.state.now
-            action }
+        ensures at { out.new.at ≡ moment self.old.state.now }
+        ensures event { out.new.event ≡ event_of self.old.machine self.old.state
+            self.old.state.now action }
         ensures state { self.new ≡ record self.old
             { state = after self.old.machine self.old.state self.old.state.now action } }
     {
-        let event = perform_among(
+        out.at = self.moment;
+        perform_among(
             self.slots.as_mut_slice(),
             &self.trail,
             place,
             action,
             self.moment,
+            &mut out.event,
         );
-        self.trail.add(&Entry {
-            at: self.moment,
-            event,
-        });
+        self.trail.add(out);
         read_one(
             self.slots.as_slice(),
             place as usize,
@@ -191,7 +212,6 @@ impl Engine {
             self.nexts.as_mut_slice(),
         );
         self.busy = self.busy.max(place as usize + 1);
-        event
     }
 
     /// The same of an action of the tool; of a command where no stall may come.

@@ -10,4 +10,3 @@ mod opening;
 pub mod ordered;
 
 pub use engine::Engine;
-pub use ordered::Step;

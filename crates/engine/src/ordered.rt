@@ -4,79 +4,65 @@ use crate::engine::Engine;
 use sched_model::action::Action;
 use sched_model::event::{Entry, Event};
 
-/// An entry, and whether it is the last.
-#[derive(Drop)]
-pub struct Step {
-    pub entry: Entry,
-    pub last: bool,
-}
-
 impl Engine {
     ghost use Rattle.std.specs.Prelude.{◌≡◌, None, Some};
     ghost use Rattle.sched_model.specs.Machine.{first_enabled_action};
     ghost use Rattle.machine_parts.specs.Parts.{event_pool};
     ghost use Rattle.engine.specs.OrderedRun.{next_entry, next_state, is_last};
 
-    /// Goes on by the entry that the ordered run has next: the first event that may come, else the next moment, else the end.
-    pub fn go_on(&mut self) -> Step
-        ensures entry { result.entry ≡ next_entry self.old.machine self.old.state }
-        ensures last { result.last ≡ is_last self.old.machine self.old.state }
+    /// Goes on by the entry that the ordered run has next: the first event that may come, else the next moment, else the end. The entry is
+    /// written in its place. Whether it is the last.
+    pub fn go_on(&mut self, out: &mut Entry) -> bool
+        ensures entry { out.new ≡ next_entry self.old.machine self.old.state }
+        ensures last { result ≡ is_last self.old.machine self.old.state }
         ensures after { self.new ≡ record self.old
             { state = next_state self.old.machine self.old.state } }
     {
         if self.is_quiet() {
             return match self.first_of_pools() {
-                Some((place, action)) => self.go_by_pool(place, action),
-                None => self.go_by_moment(),
+                Some((place, action)) => self.go_by_pool(place, action, out),
+                None => self.go_by_moment(out),
             };
         }
         match self.first_enabled() {
-            Some(action) => self.go_by(action),
-            None => self.go_by_moment(),
+            Some(action) => self.go_by(action, out),
+            None => self.go_by_moment(out),
         }
     }
 
     /// The same by the first action that may come now, which is one of this pool.
-    fn go_by_pool(&mut self, place: u8, action: Action) -> Step
+    fn go_by_pool(&mut self, place: u8, action: Action, out: &mut Entry) -> bool
         requires first { first_enabled_action self.old.machine self.old.state self.old.state.now
             ≡ Some action }
         requires home { event_pool self.old.machine.config.granularity self.old.state action
             ≡ Some place }
-        ensures entry { result.entry ≡ next_entry self.old.machine self.old.state }
-        ensures last { result.last ≡ is_last self.old.machine self.old.state }
+        ensures entry { out.new ≡ next_entry self.old.machine self.old.state }
+        ensures last { result ≡ is_last self.old.machine self.old.state }
         ensures after { self.new ≡ record self.old
             { state = next_state self.old.machine self.old.state } }
     {
-        let at = self.now();
-        let event = self.perform_in_pool(place, action);
-        Step {
-            entry: Entry { at, event },
-            last: false,
-        }
+        self.perform_in_pool(place, action, out);
+        false
     }
 
     /// The same by the first action that may come now.
-    fn go_by(&mut self, action: Action) -> Step
+    fn go_by(&mut self, action: Action, out: &mut Entry) -> bool
         requires { first_enabled_action self.old.machine self.old.state self.old.state.now
             ≡ Some action }
-        ensures entry { result.entry ≡ next_entry self.old.machine self.old.state }
-        ensures last { result.last ≡ is_last self.old.machine self.old.state }
+        ensures entry { out.new ≡ next_entry self.old.machine self.old.state }
+        ensures last { result ≡ is_last self.old.machine self.old.state }
         ensures after { self.new ≡ record self.old
             { state = next_state self.old.machine self.old.state } }
     {
-        let at = self.now();
-        let event = self.perform(action);
-        Step {
-            entry: Entry { at, event },
-            last: false,
-        }
+        self.perform_into(action, out);
+        false
     }
 
     /// The same where nothing may come now: by the next moment, or else the end.
-    fn go_by_moment(&mut self) -> Step
+    fn go_by_moment(&mut self, out: &mut Entry) -> bool
         requires { first_enabled_action self.old.machine self.old.state self.old.state.now ≡ None }
-        ensures entry { result.entry ≡ next_entry self.old.machine self.old.state }
-        ensures last { result.last ≡ is_last self.old.machine self.old.state }
+        ensures entry { out.new ≡ next_entry self.old.machine self.old.state }
+        ensures last { result ≡ is_last self.old.machine self.old.state }
         ensures after { self.new ≡ record self.old
             { state = next_state self.old.machine self.old.state } }
     {
@@ -84,21 +70,19 @@ impl Engine {
         match self.next_moment() {
             Some(next) => {
                 self.pass_to(next);
-                Step {
-                    entry: Entry {
-                        at,
-                        event: Event::End { next },
-                    },
-                    last: false,
-                }
+                *out = Entry {
+                    at,
+                    event: Event::End { next },
+                };
+                false
             }
-            None => Step {
-                entry: Entry {
+            None => {
+                *out = Entry {
                     at,
                     event: Event::Finish,
-                },
-                last: true,
-            },
+                };
+                true
+            }
         }
     }
 }

@@ -39,10 +39,40 @@ impl PoolSlot {
         ensures stands { StandsAt (told_more trail.now (record { at = t; event = result })) place
             self.new }
     {
+        let mut event = Event::Finish;
+        self.perform_into(trail, place, action, t, &mut event);
+        event
+    }
+
+    /// The same, and the event is written in its place.
+    pub fn perform_into(
+        &mut self,
+        trail: &Trail,
+        place: u8,
+        action: Action,
+        t: Moment,
+        out: &mut Event,
+    )
+        requires goes { GoesOn trail.now }
+        requires now { t.0 ≡ (state_of trail.now).now }
+        requires stands { StandsAt trail.now place self.old }
+        requires own { IsOfPool action }
+        requires enabled { is_action_enabled trail.now.input (state_of trail.now)
+            (state_of trail.now).now action ≡ true }
+        requires home { home_pool_of_action trail.now.input.config.granularity (state_of trail.now)
+            action ≡ Some place }
+        ensures event { out.new ≡ event_of trail.now.input (state_of trail.now)
+            (state_of trail.now).now action }
+        ensures part { slot_part self.new
+            ≡ part_of (after trail.now.input (state_of trail.now) (state_of trail.now).now action)
+            place }
+        ensures stands { StandsAt (told_more trail.now (record { at = t; event = out.new })) place
+            self.new }
+    {
         let Some(pool) = &mut self.state else {
             unreachable!();
         };
-        pool.perform(action, t)
+        pool.perform_into(action, t, out);
     }
 
     /// A spare pool of the machine comes to the place, which is empty, with these parameters of its scheduler. It is in use, and has

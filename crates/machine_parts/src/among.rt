@@ -13,7 +13,7 @@ use sched_base::Moment;
 use sched_model::action::Action;
 use sched_model::event::Event;
 
-/// An event of this pool, where each of the 16 places is the part of its number in the machine, which stands where the trail leads. After
+/// An event of this pool, written in its place, where each of the 16 places is the part of its number in the machine, which stands where the trail leads. After
 /// it all places stand where the trail leads with the entry added, and the other places are as they were.
 pub fn perform_among(
     slots: &mut [PoolSlot],
@@ -21,7 +21,8 @@ pub fn perform_among(
     place: u8,
     action: Action,
     t: Moment,
-) -> Event
+    out: &mut Event,
+)
     requires goes { GoesOn trail.now }
     requires now { t.0 ≡ (state_of trail.now).now }
     requires stand { AllStand trail.now slots.old }
@@ -30,14 +31,14 @@ pub fn perform_among(
         (state_of trail.now).now action ≡ true }
     requires home { home_pool_of_action trail.now.input.config.granularity (state_of trail.now)
         action ≡ Some place }
-    ensures event { result ≡ event_of trail.now.input (state_of trail.now) (state_of trail.now).now
-        action }
-    ensures state { state_of (told_more trail.now (record { at = t; event = result }))
+    ensures event { out.new ≡ event_of trail.now.input (state_of trail.now)
+        (state_of trail.now).now action }
+    ensures state { state_of (told_more trail.now (record { at = t; event = out.new }))
         ≡ after trail.now.input (state_of trail.now) (state_of trail.now).now action }
     ensures step { HasStepped trail.now place (told_more trail.now
-        (record { at = t; event = result })) }
-    ensures stand { AllStand (told_more trail.now (record { at = t; event = result })) slots.new }
+        (record { at = t; event = out.new })) }
+    ensures stand { AllStand (told_more trail.now (record { at = t; event = out.new })) slots.new }
     ensures others { (k : ℕ) → k ≢ place → at_place slots.new k ≡ at_place slots.old k }
 {
-    slots[place as usize].perform(trail, place, action, t)
+    slots[place as usize].perform_into(trail, place, action, t, out);
 }

@@ -6,6 +6,7 @@ use Rattle.sched_base.specs.declared.Moment.{Moment}
 use Rattle.sched_base.specs.declared.VcpuId.{VcpuId}
 use Rattle.sched_model.specs.declared.action.Action.{Action}
 use Rattle.sched_model.specs.declared.action.Action.TheVariants.{Block, Wake}
+use Rattle.sched_model.specs.declared.event.Event.{Event}
 use Rattle.sched_model.specs.declared.state.Pool.{Pool}
 use Rattle.sched_model.specs.declared.state.Resource.{Resource}
 use Rattle.sched_model.specs.declared.state.Vcpu.{Vcpu}
@@ -66,14 +67,14 @@ kept_later t0 t guests cores s past early keeps = record {
 }
 
 -- after an event at t
-pub acted : (t : ℕ) (guests next : GuestsSeen) (cores after : CoresSeen) (s s2 : SchedulerSeen) (action : Action) (works : List (Option Moment)) (outcome : Outcome)
-    → MayAct t action guests cores s → outcome.event ≡ event_in guests.granularity t (pool_of guests cores s) action
+pub acted : (t : ℕ) (guests next : GuestsSeen) (cores after : CoresSeen) (s s2 : SchedulerSeen) (action : Action) (works : List (Option Moment)) (written : Event) (outcome : Outcome)
+    → MayAct t action guests cores s → written ≡ event_in guests.granularity t (pool_of guests cores s) action
     → pool_of next after s2 ≡ after_in guests.granularity t (pool_of guests cores s) action
     → IsMoved t guests next cores after → s2.latest ≤ t → s2.spare ≡ s.spare → after.works ≡ works
     → AreWorks guests.granularity works (after_in guests.granularity t (pool_of guests cores s) action)
     → (outcome.spares ≡ true → IsSettled t (pool_of guests cores s) → IsSettled t (pool_but outcome.came (after_in guests.granularity t (pool_of guests cores s) action)))
-    → HasActed t action guests next cores after s s2 outcome
-acted t guests next cores after s s2 action works outcome may event pool moved latest spare is are settled = record {
+    → HasActed t action guests next cores after s s2 written outcome
+acted t guests next cores after s s2 action works written outcome may event pool moved latest spare is are settled = record {
   event = event;
   pool = pool;
   kept = record {
@@ -137,11 +138,11 @@ pub block_happens : (g t p : ℕ) (v : VcpuId) (pool : Pool) → running_guest g
 block_happens g t p v pool guest = ap (λ (o : Option VcpuId). elim o as (λ _. Pool) [ None ↦ pool | Some w ↦ after_block g t p w pool ]) (sym guest)
 
 -- what is seen after an event and after the cores were looked at
-pub happened_is : (t latest : ℕ) (guests next : GuestsSeen) (cores after : CoresSeen) (s s2 : SchedulerSeen) (was : ℕ) (used : Bool) (action : Action) (outcome : Outcome) (before : Seen)
-    → HasActed t action guests next cores after s s2 outcome → latest ≡ t
+pub happened_is : (t latest : ℕ) (guests next : GuestsSeen) (cores after : CoresSeen) (s s2 : SchedulerSeen) (was : ℕ) (used : Bool) (action : Action) (written : Event) (outcome : Outcome) (before : Seen)
+    → HasActed t action guests next cores after s s2 written outcome → latest ≡ t
     → ◌≡◌ {A = Seen} (record { pool = pool_of guests cores s; granularity = guests.granularity; spare = guests.spare; latest = was; in_use = used }) before
     → ◌≡◌ {A = Seen} (record { pool = settled_pool latest (pool_of next after s2); granularity = next.granularity; spare = next.spare; latest = latest; in_use = used }) (seen_after t action before)
-happened_is t latest guests next cores after s s2 was used action outcome before has now is =
+happened_is t latest guests next cores after s s2 was used action written outcome before has now is =
     ap (λ (n : ℕ). made n (pool_of next after s2) next.granularity next.spare) now
     ∙ ap (λ (p : Pool). made t p next.granularity next.spare) has.pool
     ∙ ap (λ (k : ℕ). made t (after_in guests.granularity t (pool_of guests cores s) action) k next.spare) has.granularity

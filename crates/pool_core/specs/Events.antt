@@ -1,6 +1,7 @@
 -- What an event asks of the parts of a pool, and what it makes of them.
 use Rattle.std.specs.Prelude.{ℕ, ◌≡◌, Bool, true}
 use Rattle.sched_model.specs.declared.action.Action.{Action}
+use Rattle.sched_model.specs.declared.event.Event.{Event}
 use Rattle.sched_model.specs.Pool.{after_in, enabled_in, event_in}
 use Rattle.pool_laws.specs.CoreLooks.{IsSettled}
 use Rattle.unit_state.specs.Seen as guests
@@ -24,10 +25,10 @@ MayCome t action guests cores = (s : schedulers.Seen) × MayAct t action guests 
 abbrev pub TellsMayCome : ℕ → ℕ → cores.Seen → Action → Bool → Type 0
 TellsMayCome g t cores action answer = (guests : guests.Seen) (s : schedulers.Seen) → answer ≡ enabled_in g t (pool_of guests cores s) action
 
--- the event came at t: it is answered, the pool is the one after it, and what is kept is so still. Where the outcome says that the event
+-- the event came at t: it is written, the pool is the one after it, and what is kept is so still. Where the outcome says that the event
 -- spares the look, a settled pool is so still, but for the unit that came to wait
-pub record HasActed (t : ℕ) (action : Action) (guests guests_after : guests.Seen) (cores cores_after : cores.Seen) (scheduler scheduler_after : schedulers.Seen) (outcome : Outcome) : Type 0 where
-  pub event : outcome.event ≡ event_in guests.granularity t (pool_of guests cores scheduler) action
+pub record HasActed (t : ℕ) (action : Action) (guests guests_after : guests.Seen) (cores cores_after : cores.Seen) (scheduler scheduler_after : schedulers.Seen) (written : Event) (outcome : Outcome) : Type 0 where
+  pub event : written ≡ event_in guests.granularity t (pool_of guests cores scheduler) action
   pub pool : pool_of guests_after cores_after scheduler_after ≡ after_in guests.granularity t (pool_of guests cores scheduler) action
   pub kept : IsKept t guests_after cores_after scheduler_after
   pub granularity : guests_after.granularity ≡ guests.granularity

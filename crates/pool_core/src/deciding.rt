@@ -60,17 +60,18 @@ pub fn frees_nothing<P: Policy>(cores: &CoreState, policy: &P, r: ResId) -> bool
     }
 }
 
-/// The core decides: its scheduler chooses, and its old unit, where it is another, is to be saved.
+/// The core decides: its scheduler chooses, and its old unit, where it is another, is to be saved. The event is written in its place.
 pub fn decide<P: Policy>(
     guests: &Guests,
     cores: &mut CoreState,
     policy: &mut P,
     r: ResId,
     t: Moment,
-) -> Event
+    out: &mut Event,
+)
     requires now { IsNow (P.seen policy.old) t.0 }
     requires may { MayAct t.0 (Decide r) guests.now cores.old (P.seen policy.old) }
-    ensures event { result ≡ event_in guests.now.granularity t.0
+    ensures event { out.new ≡ event_in guests.now.granularity t.0
         (pool_of guests.now cores.old (P.seen policy.old)) (Decide r) }
     ensures pool { pool_of guests.now cores.new (P.seen policy.new)
         ≡ after_in guests.now.granularity t.0 (pool_of guests.now cores.old (P.seen policy.old))
@@ -87,13 +88,13 @@ pub fn decide<P: Policy>(
     let late = lateness_of(t, c);
     let choice = policy.choose(&ask);
     cores.decide(r, t, choice.unit, choice.due);
-    Event::Decide {
+    *out = Event::Decide {
         r,
         unit: choice.unit,
         due: choice.due,
         late,
         reset: choice.reset,
-    }
+    };
 }
 
 /// The unit's deadline has come: it has its budget anew, and a core that runs it asks again when that is used up, if not before.

@@ -1,4 +1,4 @@
-//! The events of a pool, over its parts: what each answers, and what it leaves to the look at the cores.
+//! The events of a pool, over its parts: each is written in its place, and answers what it leaves to the look at the cores.
 
 ghost use Rattle.std.specs.Prelude.{◌≡◌, ℕ, true};
 ghost use Rattle.sched_model.specs.declared.action.Action.TheVariants.{Arrive, Block, Decide, Leave, Refill, Repl, Save, Slice, Wake};
@@ -19,10 +19,9 @@ use sched_model::event::Event;
 use sched_ops::{Policy, Timer};
 use unit_state::Guests;
 
-/// The event that came, whether it leaves a settled pool settled but for the unit that came to wait, and that unit.
+/// What an event leaves to the look: whether a settled pool is so still, but for the unit that came to wait, and that unit.
 #[derive(Clone, Copy)]
 pub struct Outcome {
-    pub event: Event,
     pub spares: bool,
     pub came: Option<UnitId>,
 }
@@ -34,78 +33,88 @@ fn wake<P: Policy>(
     policy: &mut P,
     v: VcpuId,
     t: Moment,
+    out: &mut Event,
 ) -> Outcome
     requires { MayAct t.0 (Wake v) guests.old cores.old (P.seen policy.old) }
     ensures { HasActed t.0 (Wake v) guests.old guests.new cores.old cores.new (P.seen policy.old)
-        (P.seen policy.new) result }
+        (P.seen policy.new) out.new result }
 {
     guests.keeps();
     cores.keeps();
     policy.keeps();
     let came = waking::wake(guests, cores, policy, v, t);
-    Outcome {
-        event: Event::Wake { v },
-        spares: true,
-        came,
-    }
+    *out = Event::Wake { v };
+    Outcome { spares: true, came }
 }
 
 /// A vCPU that a processor runs, and whose work is done at t, sleeps.
-fn block(guests: &mut Guests, cores: &mut CoreState, p: ProcId, t: Moment) -> Outcome
+fn block(
+    guests: &mut Guests,
+    cores: &mut CoreState,
+    p: ProcId,
+    t: Moment,
+    out: &mut Event,
+) -> Outcome
     requires { MayCome t.0 (Block p) guests.old cores.old }
     ensures { (s : SchedulerSeen) → MayAct t.0 (Block p) guests.old cores.old s →
-        HasActed t.0 (Block p) guests.old guests.new cores.old cores.new s s result }
+        HasActed t.0 (Block p) guests.old guests.new cores.old cores.new s s out.new result }
 {
     let Some(v) = doing::guest_of(cores, p) else {
         unreachable!();
     };
     doing::block(guests, cores, p, v, t);
+    *out = Event::Block { p, v };
     Outcome {
-        event: Event::Block { p, v },
         spares: true,
         came: None,
     }
 }
 
 /// A core whose due has come at t is to decide anew.
-fn slice(cores: &mut CoreState, r: ResId) -> Outcome
+fn slice(cores: &mut CoreState, r: ResId, out: &mut Event) -> Outcome
     ensures { (t : ℕ) (guests : GuestsSeen) (s : SchedulerSeen) →
         MayAct t (Slice r) guests cores.old s →
-        HasActed t (Slice r) guests guests cores.old cores.new s s result }
+        HasActed t (Slice r) guests guests cores.old cores.new s s out.new result }
 {
     cores.set_pending(r);
+    *out = Event::Slice { r };
     Outcome {
-        event: Event::Slice { r },
         spares: true,
         came: None,
     }
 }
 
 /// The budget of a capped Credit2 domain, whose refill has come at t, is filled. Each core is to be looked at.
-fn refill<P: Policy>(policy: &mut P, d: DomId, t: Moment) -> Outcome
+fn refill<P: Policy>(policy: &mut P, d: DomId, t: Moment, out: &mut Event) -> Outcome
     requires now { IsNow (P.seen policy.old) t.0 }
     requires due { is_due t.0 (P.seen policy.old).scheduler (timers.Refill d) ≡ true }
     ensures { (guests : GuestsSeen) (cores : CoresSeen) →
         MayAct t.0 (Refill d) guests cores (P.seen policy.old) →
         HasActed t.0 (Refill d) guests guests cores cores (P.seen policy.old) (P.seen policy.new)
-        result }
+        out.new result }
 {
+    *out = policy.timer(Timer::Refill(d), t);
     Outcome {
-        event: policy.timer(Timer::Refill(d), t),
         spares: false,
         came: None,
     }
 }
 
 /// A processor of a core that is to decide anew waits for its siblings.
-fn arrive(guests: &mut Guests, cores: &mut CoreState, p: ProcId, t: Moment) -> Outcome
+fn arrive(
+    guests: &mut Guests,
+    cores: &mut CoreState,
+    p: ProcId,
+    t: Moment,
+    out: &mut Event,
+) -> Outcome
     requires { MayCome t.0 (Arrive p) guests.old cores.old }
     ensures { (s : SchedulerSeen) → MayAct t.0 (Arrive p) guests.old cores.old s →
-        HasActed t.0 (Arrive p) guests.old guests.new cores.old cores.new s s result }
+        HasActed t.0 (Arrive p) guests.old guests.new cores.old cores.new s s out.new result }
 {
     doing::arrive(guests, cores, p, t);
+    *out = Event::Arrive { p };
     Outcome {
-        event: Event::Arrive { p },
         spares: true,
         came: None,
     }
@@ -118,69 +127,72 @@ fn decide<P: Policy>(
     policy: &mut P,
     r: ResId,
     t: Moment,
+    out: &mut Event,
 ) -> Outcome
     requires { MayAct t.0 (Decide r) guests.now cores.old (P.seen policy.old) }
     ensures { HasActed t.0 (Decide r) guests.now guests.now cores.old cores.new (P.seen policy.old)
-        (P.seen policy.new) result }
+        (P.seen policy.new) out.new result }
 {
     policy.keeps();
     let spares = deciding::frees_nothing(cores, policy, r);
-    Outcome {
-        event: deciding::decide(guests, cores, policy, r, t),
-        spares,
-        came: None,
-    }
+    deciding::decide(guests, cores, policy, r, t, out);
+    Outcome { spares, came: None }
 }
 
 /// A processor leaves its siblings after their core decided.
-fn leave(guests: &mut Guests, cores: &mut CoreState, p: ProcId, t: Moment) -> Outcome
+fn leave(
+    guests: &mut Guests,
+    cores: &mut CoreState,
+    p: ProcId,
+    t: Moment,
+    out: &mut Event,
+) -> Outcome
     requires { MayCome t.0 (Leave p) guests.old cores.old }
     ensures { (s : SchedulerSeen) → MayAct t.0 (Leave p) guests.old cores.old s →
-        HasActed t.0 (Leave p) guests.old guests.new cores.old cores.new s s result }
+        HasActed t.0 (Leave p) guests.old guests.new cores.old cores.new s s out.new result }
 {
     cores.keeps();
     let v = doing::leave(guests, cores, p, t);
+    *out = Event::Leave { p, v };
     Outcome {
-        event: Event::Leave { p, v },
         spares: true,
         came: None,
     }
 }
 
-/// An event of the pool that may come at t.
+/// An event of the pool that may come at t, written in its place.
 pub fn act<P: Policy>(
     guests: &mut Guests,
     cores: &mut CoreState,
     policy: &mut P,
     action: Action,
     t: Moment,
+    out: &mut Event,
 ) -> Outcome
     requires own { IsOfPool action }
     requires may { MayAct t.0 action guests.old cores.old (P.seen policy.old) }
     ensures { HasActed t.0 action guests.old guests.new cores.old cores.new (P.seen policy.old)
-        (P.seen policy.new) result }
+        (P.seen policy.new) out.new result }
 {
     match action {
-        Action::Wake(v) => wake(guests, cores, policy, v, t),
-        Action::Block(p) => block(guests, cores, p, t),
-        Action::Slice(r) => slice(cores, r),
-        Action::Repl(u) => Outcome {
-            event: deciding::replenish(cores, policy, u, t),
-            spares: false,
-            came: None,
-        },
-        Action::Refill(d) => refill(policy, d, t),
-        Action::Arrive(p) => arrive(guests, cores, p, t),
-        Action::Decide(r) => decide(guests, cores, policy, r, t),
-        Action::Leave(p) => leave(guests, cores, p, t),
-        Action::Save(r) => {
-            let event = waking::save(guests, cores, policy, r, t);
+        Action::Wake(v) => wake(guests, cores, policy, v, t, out),
+        Action::Block(p) => block(guests, cores, p, t, out),
+        Action::Slice(r) => slice(cores, r, out),
+        Action::Repl(u) => {
+            *out = deciding::replenish(cores, policy, u, t);
             Outcome {
-                event,
-                spares: true,
-                came: waking::came_of(&event),
+                spares: false,
+                came: None,
             }
         }
+        Action::Refill(d) => refill(policy, d, t, out),
+        Action::Arrive(p) => arrive(guests, cores, p, t, out),
+        Action::Decide(r) => decide(guests, cores, policy, r, t, out),
+        Action::Leave(p) => leave(guests, cores, p, t, out),
+        Action::Save(r) => Outcome {
+            spares: true,
+            came: waking::save(guests, cores, policy, r, t, out),
+        },
         Action::Stall | Action::Xl | Action::Moved(_) | Action::DomMoved(_) => unreachable!(),
     }
 }

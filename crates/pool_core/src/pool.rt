@@ -429,6 +429,19 @@ impl<P: Policy> PoolState<P> {
         ensures event { result ≡ event_in self.old.granularity t.0 self.old.pool action }
         ensures after { self.new ≡ seen_after t.0 action self.old }
     {
+        let mut event = Event::Finish;
+        self.perform_into(action, t, &mut event);
+        event
+    }
+
+    /// The same, and the event is written in its place.
+    pub fn perform_into(&mut self, action: Action, t: Moment, out: &mut Event)
+        requires now { IsNow self.old t.0 }
+        requires own { IsOfPool action }
+        requires enabled { enabled_in self.old.granularity t.0 self.old.pool action ≡ true }
+        ensures event { out.new ≡ event_in self.old.granularity t.0 self.old.pool action }
+        ensures after { self.new ≡ seen_after t.0 action self.old }
+    {
         self.tell(t);
         let settled = self.mark.is_settled(&self.policy, t);
         let outcome = act(
@@ -437,11 +450,11 @@ impl<P: Policy> PoolState<P> {
             &mut self.policy,
             action,
             t,
+            out,
         );
         self.mark = Mark::unsettled(t);
         self.look(settled & outcome.spares, outcome.came);
         self.remember(action, t);
-        outcome.event
     }
 
     /// A domain is paused: its units stop waiting, and the cores that run one are to decide anew. Where it is not here or paused

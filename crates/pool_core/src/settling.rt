@@ -54,6 +54,7 @@ fn set_all_pending(cores: &mut CoreState, set: Cores)
 
 /// The cores that the scheduler wants. Where none was wanted but for the unit that came to wait, that one alone is compared, and nothing
 /// where none came.
+#[inline(always)]
 fn wanted<P: Policy>(
     cores: &CoreState,
     policy: &P,
@@ -81,6 +82,7 @@ fn wanted<P: Policy>(
 
 /// Each core is looked at: those that the scheduler wants are to decide anew. Where the pool was settled, it was so but for the unit that
 /// came to wait, if one did.
+#[inline(always)]
 pub fn settle<P: Policy>(
     cores: &mut CoreState,
     policy: &P,

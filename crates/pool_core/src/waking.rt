@@ -101,27 +101,20 @@ pub fn wake<P: Policy>(
     }
 }
 
-/// The unit that waits again by the event of a core that saved it.
-pub fn came_of(event: &Event) -> Option<UnitId>
-    ensures { result ≡ came_by_save event.now }
-{
-    match event {
-        Event::Save { u, queued, .. } => { if *queued { Some(*u) } else { None } }
-        _ => None,
-    }
-}
-
-/// The core puts away the unit that it saves, which waits again where it is runnable.
+/// The core puts away the unit that it saves, which waits again where it is runnable: the unit, where it does. The event is written in its
+/// place.
 pub fn save<P: Policy>(
     guests: &Guests,
     cores: &mut CoreState,
     policy: &mut P,
     r: ResId,
     t: Moment,
-) -> Event
+    out: &mut Event,
+) -> Option<UnitId>
     requires { MayAct t.0 (Save r) guests.now cores.old (P.seen policy.old) }
-    ensures event { result ≡ event_in guests.now.granularity t.0
+    ensures event { out.new ≡ event_in guests.now.granularity t.0
         (pool_of guests.now cores.old (P.seen policy.old)) (Save r) }
+    ensures came { result ≡ came_by_save out.new }
     ensures pool { pool_of guests.now cores.new (P.seen policy.new)
         ≡ after_in guests.now.granularity t.0 (pool_of guests.now cores.old (P.seen policy.old))
         (Save r) }
@@ -132,8 +125,10 @@ pub fn save<P: Policy>(
         unreachable!();
     };
     let queued = guests.runnable(u);
-    if queued {
-        policy.enqueue(u);
+    *out = Event::Save { r, u, queued };
+    if !queued {
+        return None;
     }
-    Event::Save { r, u, queued }
+    policy.enqueue(u);
+    Some(u)
 }

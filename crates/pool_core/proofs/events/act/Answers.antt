@@ -21,7 +21,7 @@ use Rattle.pool_core.proofs.events.act.Goals as goal
 pub returns-in-Slice : goal.returns-in-Slice
 returns-in-Slice g c =
     let s = g.P.Policy.seen c.args.policy.now in
-    subst (λ (a : Action). HasActed c.args.t.0 a c.args.guests.now c.args.guests.now c.args.cores.now c.slice.new.cores s s c.slice.result) (sym c.in-Slice.is)
+    subst (λ (a : Action). HasActed c.args.t.0 a c.args.guests.now c.args.guests.now c.args.cores.now c.slice.new.cores s s c.slice.new.out c.slice.result) (sym c.in-Slice.is)
     (c.slice.ensures c.args.t.0 c.args.guests.now s (subst (λ (a : Action). MayAct c.args.t.0 a c.args.guests.now c.args.cores.now s) c.in-Slice.is c.requires.may))
 
 pub replenish-requires-clause-due : goal.replenish-requires-clause-due
@@ -39,40 +39,40 @@ returns-in-Repl g c =
     let pool : Pool = pool_of guests cores s in
     let t = c.args.t.0 in
     let u = c.in-Repl.u in
-    let outcome : Outcome = record { event = c.replenish.result; spares = false; came = None } in
+    let outcome : Outcome = record { spares = false; came = None } in
     let may : MayAct t (Repl u) guests cores s = subst (λ (a : Action). MayAct t a guests cores s) c.in-Repl.is c.requires.may in
     let latest : s2.latest ≤ t = (let e = c.replenish.ensures.latest in omega (arith, e)) in
-    subst (λ (a : Action). HasActed t a guests guests cores c.replenish.new.cores s s2 outcome) (sym c.in-Repl.is)
-    (acted t guests guests cores c.replenish.new.cores s s2 (Repl u) cores.works outcome
+    subst (λ (a : Action). HasActed t a guests guests cores c.replenish.new.cores s s2 c.replenish.result outcome) (sym c.in-Repl.is)
+    (acted t guests guests cores c.replenish.new.cores s s2 (Repl u) cores.works c.replenish.result outcome
     may (c.replenish.ensures.event guests) (c.replenish.ensures.pool guests)
     (unmoved t guests cores c.replenish.new.cores s may.kept (ap (λ (x : CoresSeen). x.granularity) c.replenish.ensures.cores))
     latest c.replenish.ensures.room (ap (λ (x : CoresSeen). x.works) c.replenish.ensures.cores)
     (works_replenish guests.granularity t cores.works pool may.kept.pool.known may.kept.linked.works u)
     (λ spares before. absurd (let clash : false ≡ true = spares in cc)))
 
-pub save-event-requires : goal.save-event-requires
-save-event-requires g c =
+pub save-requires : goal.save-requires
+save-requires g c =
     let s = g.P.Policy.seen c.args.policy.now in
     subst (λ (a : Action). MayAct c.args.t.0 a c.args.guests.now c.args.cores.now s) c.in-Save.is c.requires.may
 
 pub returns-in-Save : goal.returns-in-Save
 returns-in-Save g c =
     let s = g.P.Policy.seen c.args.policy.now in
-    let s2 = g.P.Policy.seen c.save-event.new.policy in
+    let s2 = g.P.Policy.seen c.save.new.policy in
     let guests = c.args.guests.now in
     let cores : CoresSeen = c.args.cores.now in
     let pool : Pool = pool_of guests cores s in
     let k = guests.granularity in
     let t = c.args.t.0 in
     let r = c.in-Save.r in
-    let outcome : Outcome = record { event = c.save-event.result; spares = true; came = c.came_of.result } in
+    let outcome : Outcome = record { spares = true; came = c.save.result } in
     let may : MayAct t (Save r) guests cores s = subst (λ (a : Action). MayAct t a guests cores s) c.in-Save.is c.requires.may in
-    let latest : s2.latest ≤ t = (let l = may.kept.linked.scheduler_latest in let e = c.save-event.ensures.room.latest in omega (arith, l, e)) in
-    subst (λ (a : Action). HasActed t a guests guests cores c.save-event.new.cores s s2 outcome) (sym c.in-Save.is)
-    (acted t guests guests cores c.save-event.new.cores s s2 (Save r) cores.works outcome
-    may c.save-event.ensures.event c.save-event.ensures.pool
-    (unmoved t guests cores c.save-event.new.cores s may.kept (ap (λ (x : CoresSeen). x.granularity) c.save-event.ensures.cores))
-    latest c.save-event.ensures.room.spare (ap (λ (x : CoresSeen). x.works) c.save-event.ensures.cores)
+    let latest : s2.latest ≤ t = (let l = may.kept.linked.scheduler_latest in let e = c.save.ensures.room.latest in omega (arith, l, e)) in
+    subst (λ (a : Action). HasActed t a guests guests cores c.save.new.cores s s2 c.save.new.out outcome) (sym c.in-Save.is)
+    (acted t guests guests cores c.save.new.cores s s2 (Save r) cores.works c.save.new.out outcome
+    may c.save.ensures.event c.save.ensures.pool
+    (unmoved t guests cores c.save.new.cores s may.kept (ap (λ (x : CoresSeen). x.granularity) c.save.ensures.cores))
+    latest c.save.ensures.room.spare (ap (λ (x : CoresSeen). x.works) c.save.ensures.cores)
     (works_save k t cores.works pool may.kept.pool.known may.kept.linked.works r.0)
-    (λ spares before. subst (λ (came : Option UnitId). IsSettled t (pool_but came (after_in k t pool (Save r)))) (sym (c.came_of.ensures ∙ ap came_by_save c.save-event.ensures.event))
+    (λ spares before. subst (λ (came : Option UnitId). IsSettled t (pool_but came (after_in k t pool (Save r)))) (sym (c.save.ensures.came ∙ ap came_by_save c.save.ensures.event))
     (saved_but k t pool r.0 may.kept.pool may.enabled before)))

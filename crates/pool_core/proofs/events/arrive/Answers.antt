@@ -15,7 +15,7 @@ returns c s may =
     let k = c.args.guests.now.granularity in
     let t = c.args.t.0 in
     let p = c.args.p.0 in
-    acted t c.args.guests.now c.arrive.new.guests c.args.cores.now c.arrive.new.cores s s (Arrive c.args.p) (slice_set c.args.cores.now.works p None) (record { event = event.Arrive c.args.p; spares = true; came = None })
+    acted t c.args.guests.now c.arrive.new.guests c.args.cores.now c.arrive.new.cores s s (Arrive c.args.p) (slice_set c.args.cores.now.works p None) (event.Arrive c.args.p) (record { spares = true; came = None })
     may refl (c.arrive.ensures.pool s) c.arrive.ensures.rest may.kept.linked.scheduler_latest refl c.arrive.ensures.works
     (works_arrive k t c.args.cores.now.works pool may.kept.pool.known may.kept.linked.works p)
     (λ spares before. spared_arrive k t pool before p)

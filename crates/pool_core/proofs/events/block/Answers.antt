@@ -31,7 +31,7 @@ returns c s may =
     let t = c.args.t.0 in
     let p = c.args.p.0 in
     let guest : running_guest k pool p ≡ Some c.in-Some.v = ap (λ (i : ℕ). guest_among i c.args.cores.now.resources p) (sym may.kept.linked.granularity) ∙ sym c.in-Some.ensures in
-    acted t c.args.guests.now c.block.new.guests c.args.cores.now c.block.new.cores s s (Block c.args.p) (slice_set c.args.cores.now.works p None) (record { event = event.Block c.args.p c.in-Some.v; spares = true; came = None })
+    acted t c.args.guests.now c.block.new.guests c.args.cores.now c.block.new.cores s s (Block c.args.p) (slice_set c.args.cores.now.works p None) (event.Block c.args.p c.in-Some.v) (record { spares = true; came = None })
     may (ap (λ (o : Option VcpuId). event.Block c.args.p (unwrap_or o absent_vcpu)) (sym guest)) (c.block.ensures.pool s ∙ block_happens k t p c.in-Some.v pool guest) c.block.ensures.rest may.kept.linked.scheduler_latest refl c.block.ensures.works
     (works_block k t c.args.cores.now.works pool may.kept.pool.known may.kept.linked.works p c.in-Some.v guest)
     (λ spares before. spared_block k t pool before p)

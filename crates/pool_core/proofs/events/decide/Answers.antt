@@ -22,7 +22,7 @@ returns g c =
     let kept = c.requires.kept in
     let keeps = c.keeps.ensures in
     let latest : s2.latest ≤ t = (let e = c.decide.ensures.latest in omega (arith, e)) in
-    acted t guests guests cores c.decide.new.cores s s2 (Decide c.args.r) cores.works (record { event = c.decide.result; spares = c.frees_nothing-spares.result; came = None })
+    acted t guests guests cores c.decide.new.cores s s2 (Decide c.args.r) cores.works c.decide.new.out (record { spares = c.frees_nothing-spares.result; came = None })
     c.requires c.decide.ensures.event c.decide.ensures.pool
     (unmoved t guests cores c.decide.new.cores s kept (ap (λ (x : CoresSeen). x.granularity) c.decide.ensures.cores))
     latest c.decide.ensures.room (ap (λ (x : CoresSeen). x.works) c.decide.ensures.cores)

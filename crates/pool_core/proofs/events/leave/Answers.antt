@@ -33,7 +33,7 @@ returns c s may =
     let works : AreWorks k (slice_set c.args.cores.now.works p (work_of after.domains (taken_at k pool p))) after =
     works_parted k t p c.args.cores.now.works pool leaves.processor (taken_at k pool p) may.kept.pool.known may.kept.linked.works (omega (arith, inside, count)) leaves.there leaves.only in
     acted t c.args.guests.now c.leave-v.new.guests c.args.cores.now c.leave-v.new.cores s s (Leave (processor p)) (slice_set c.args.cores.now.works p (work_of after.domains (taken_at k pool p)))
-    (record { event = event.Leave (processor p) c.leave-v.result; spares = true; came = None })
+    (event.Leave (processor p) c.leave-v.result) (record { spares = true; came = None })
     may (ap (event.Leave (processor p)) taken) (parted ∙ leaves.after) c.leave-v.ensures.rest may.kept.linked.scheduler_latest refl
     (c.leave-v.ensures.works ∙ ap (λ (o : Option VcpuId). slice_set c.args.cores.now.works p (work_of c.leave-v.new.guests.domains o)) taken ∙ ap (λ (x : Pool). slice_set c.args.cores.now.works p (work_of x.domains (taken_at k pool p))) parted)
     (subst (AreWorks k (slice_set c.args.cores.now.works p (work_of after.domains (taken_at k pool p)))) leaves.after works)

@@ -12,7 +12,7 @@ returns g c guests cores may =
     let s2 = g.P.Policy.seen c.timer.new.self in
     let t = c.args.t.0 in
     let latest : s2.latest ≤ t = (let e = ap (λ (x : SchedulerSeen). x.latest) c.timer.ensures.after in omega (arith, e)) in
-    acted t guests guests cores cores s s2 (Refill c.args.d) cores.works (record { event = c.timer.result; spares = false; came = None })
+    acted t guests guests cores cores s s2 (Refill c.args.d) cores.works c.timer.result (record { spares = false; came = None })
     may c.timer.ensures.event (ap (λ (x : SchedulerSeen). pool_of guests cores x) c.timer.ensures.after)
     (unmoved t guests cores cores s may.kept refl)
     latest (ap (λ (x : SchedulerSeen). x.spare) c.timer.ensures.after) refl may.kept.linked.works

@@ -12,7 +12,7 @@ use Rattle.pool_core.proofs.events.slice.Goals as goal
 pub returns : goal.returns
 returns c t guests s may =
     let cores : CoresSeen = c.args.cores.now in
-    acted t guests guests cores c.set_pending.new.self s s (Slice c.args.r) cores.works (record { event = event.Slice c.args.r; spares = true; came = None })
+    acted t guests guests cores c.set_pending.new.self s s (Slice c.args.r) cores.works (event.Slice c.args.r) (record { spares = true; came = None })
     may refl (ap (λ (x : CoresSeen). pool_of guests x s) c.set_pending.ensures)
     (unmoved t guests cores c.set_pending.new.self s may.kept (ap (λ (x : CoresSeen). x.granularity) c.set_pending.ensures))
     may.kept.linked.scheduler_latest refl (ap (λ (x : CoresSeen). x.works) c.set_pending.ensures)

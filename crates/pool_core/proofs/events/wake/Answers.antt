@@ -33,7 +33,7 @@ returns g c =
     let due : is_due_among t c.args.guests.now.domains c.args.v ≡ true = wake_due k t c.args.v pool c.requires.enabled in
     let latest : (g.P.Policy.seen c.wake-came.new.policy).latest ≤ t = (let l = kept.linked.scheduler_latest in let e = c.wake-came.ensures.room.latest in omega (arith, l, e)) in
     acted t c.args.guests.now c.wake-came.new.guests c.args.cores.now c.wake-came.new.cores s (g.P.Policy.seen c.wake-came.new.policy) (Wake c.args.v) (woken_works k t c.args.v pool c.args.cores.now.works)
-    (record { event = event.Wake c.args.v; spares = true; came = c.wake-came.result })
+    (event.Wake c.args.v) (record { spares = true; came = c.wake-came.result })
     c.requires refl c.wake-came.ensures.pool c.wake-came.ensures.rest latest c.wake-came.ensures.room.spare c.wake-came.ensures.works
     (works_wake k t c.args.v c.args.cores.now.works pool kept.pool.some granularity places c.keeps-2.ensures.works kept.pool.known (wake_still t c.args.v c.args.guests.now c.keeps.ensures due) kept.linked.works)
     (λ spares before. subst (λ (came : Option UnitId). IsSettled t (pool_but came (after_in k t pool (Wake c.args.v)))) (sym c.wake-came.ensures.came) (woken_but k t pool c.args.v before))

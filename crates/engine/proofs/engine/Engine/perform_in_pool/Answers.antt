@@ -23,9 +23,9 @@ read_one-requires-clause-place c =
     let on : is_action_enabled w.input (state_of w) (state_of w).now c.args.action ≡ true = ap (λ (x : Standing). is_action_enabled x.machine x.state x.state.now c.args.action) c.self.view_is ∙ c.requires.enabled in
     let own = own-event w.input.config.granularity (state_of w) c.args.action c.args.place home in
     let low = few-pools w c.self.invariant.0.parts.goes in_self.moment.0 c.self.invariant.0.now_is c.args.action own.0 on c.args.place own.1 in
-    let stand = c.perform_among-event.ensures.stand in
-    let count : length c.perform_among-event.new.slots ≡ length in_self.slots.items = stand.count ∙ sym c.self.invariant.0.parts.stand.count in
-    let read : length c.as_slice.result.now ≡ 16 = ap length (c.as_slice.ensures.value ∙ written in_self.slots c.perform_among-event.new.slots count) ∙ stand.count in
+    let stand = c.perform_among.ensures.stand in
+    let count : length c.perform_among.new.slots ≡ length in_self.slots.items = stand.count ∙ sym c.self.invariant.0.parts.stand.count in
+    let read : length c.as_slice.result.now ≡ 16 = ap length (c.as_slice.ensures.value ∙ written in_self.slots c.perform_among.new.slots count) ∙ stand.count in
     omega (arith, low, read)
 
 pub invariant_of-self : goal.invariant_of-self
@@ -36,8 +36,8 @@ invariant_of-self c =
     let on : is_action_enabled w.input (state_of w) (state_of w).now c.args.action ≡ true = ap (λ (x : Standing). is_action_enabled x.machine x.state x.state.now c.args.action) c.self.view_is ∙ c.requires.enabled in
     let own = own-event w.input.config.granularity (state_of w) c.args.action c.args.place home in
     let low = few-pools w c.self.invariant.0.parts.goes in_self.moment.0 c.self.invariant.0.now_is c.args.action own.0 on c.args.place own.1 in
-    let e = c.perform_among-event.ensures in
-    let left : List (Option Seen) = c.perform_among-event.new.slots in
+    let e = c.perform_among.ensures in
+    let left : List (Option Seen) = c.perform_among.new.slots in
     let count : length left ≡ length in_self.slots.items = e.stand.count ∙ sym c.self.invariant.0.parts.stand.count in
     let slots = written in_self.slots left count in
     let read : c.as_slice.result.now ≡ left = c.as_slice.ensures.value ∙ slots in
@@ -53,7 +53,7 @@ invariant_of-self c =
     let next = subst (λ (xs : List (Option Seen)). at_place c.read_one.new.firsts c.args.place ≡ None → IsNextOfPlace (at_place xs c.args.place) (at_place c.read_one.new.nexts c.args.place)) read r.next in
     let running : IsRunning c.add.new.self in_self.moment.0 in_self.horizon.0 in_self.granularity left in_self.tool in_self.spares c.read_one.new.firsts c.read_one.new.nexts =
     running-stepped w c.add.new.self in_self.moment.0 in_self.horizon.0 in_self.granularity c.args.place in_self.slots.items left in_self.tool in_self.spares in_self.firsts.items in_self.nexts.items c.self.invariant.0
-    c.perform_among-event.result c.add.ensures low e.step e.stand others c.read_one.new.firsts c.read_one.new.nexts count_firsts count_nexts other_firsts other_nexts first next in
+    c.perform_among.new.out c.add.ensures low e.step e.stand others c.read_one.new.firsts c.read_one.new.nexts count_firsts count_nexts other_firsts other_nexts first next in
     let fits : c.args.place < length in_self.firsts.items = (let k = c.self.invariant.0.kept.count_firsts in let s = c.self.invariant.0.parts.stand.count in omega (arith, low, k, s)) in (
       running-same c.add.new.self in_self.moment.0 in_self.horizon.0 in_self.granularity in_self.tool in_self.spares _ left _ c.read_one.new.firsts _ c.read_one.new.nexts slots firsts nexts running,
       subst (IsIdleFrom c.max-self-inside.result) (sym firsts)

@@ -8,7 +8,7 @@ use Rattle.pool_core.specs.CoreLooks.{pool_but}
 use Rattle.pool_core.specs.Seen.{IsNow, Seen, pool_of}
 use Rattle.pool_core.proofs.Acting.{happened_is, kept_later}
 use Rattle.pool_core.proofs.Spared.{still_settled, unsettled_at}
-use Rattle.pool_core.proofs.pool.PoolState.perform.Goals as goal
+use Rattle.pool_core.proofs.pool.PoolState.perform_into.Goals as goal
 
 pub act-outcome-requires-clause-may : goal.act-outcome-requires-clause-may
 act-outcome-requires-clause-may g c =
@@ -42,5 +42,5 @@ returns-clause-after g c =
     let s = c.self.inside.policy in
     c.remember.ensures
     ∙ c.look.ensures
-    ∙ happened_is c.args.t.0 c.unsettled-self-inside.result.latest.0 c.self.inside.guests c.act-outcome.new.guests c.self.inside.cores c.act-outcome.new.cores s (c.act-outcome.new.policy) c.self.inside.mark.latest.0 c.self.inside.in_use c.args.action c.act-outcome.result c.args.self.now
+    ∙ happened_is c.args.t.0 c.unsettled-self-inside.result.latest.0 c.self.inside.guests c.act-outcome.new.guests c.self.inside.cores c.act-outcome.new.cores s (c.act-outcome.new.policy) c.self.inside.mark.latest.0 c.self.inside.in_use c.args.action c.act-outcome.new.out c.act-outcome.result c.args.self.now
     c.act-outcome.ensures (ap (λ (m : Mark). m.latest.0) c.unsettled-self-inside.ensures) (c.self.view_is ∙ c.tell.ensures)
