@@ -2,3 +2,4 @@ pub mod Arming
 pub mod ChangeLemmas
 pub mod Leasts
 pub mod Pending
+pub mod Steps

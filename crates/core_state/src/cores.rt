@@ -8,7 +8,7 @@ ghost use Rattle.core_state.specs.Seen.{extended_stall_end};
 use crate::changes::{choose_at, clear_works, set_pending_by};
 use crate::dues::{
     Dues, IDS, advance, earlier, empty_dues, first_due_core, first_due_processor, least_of, rearm,
-    rearm_arrivals,
+    rearm_arrivals, rearm_decided, rearm_left, rearm_saved, rearm_step,
 };
 use crate::ends::{lowest_end, move_end, processor_at};
 use pool_records::changes::{bring_due_at, open_if_left, take_saved};
@@ -274,7 +274,7 @@ impl CoreState {
     {
         let g = self.granularity;
         choose_at(r, t, unit, due, &mut self.cores);
-        rearm(&mut self.dues, g, r, &self.cores, &self.works);
+        rearm_decided(&mut self.dues, g, r, &self.cores);
     }
 
     /// The core puts away the unit that it saves.
@@ -284,7 +284,7 @@ impl CoreState {
     {
         let g = self.granularity;
         let unit = take_saved(r, &mut self.cores);
-        rearm(&mut self.dues, g, r, &self.cores, &self.works);
+        rearm_saved(&mut self.dues, g, r, &self.cores);
         unit
     }
 
@@ -303,10 +303,9 @@ impl CoreState {
             ≡ with_work p.0 work (changed_processor p.0 (with_doing doing) self.old) }
     {
         let g = self.granularity;
-        let r = p.0 / g;
         change_doing(g, p, doing, &mut self.cores);
         set_place(&mut self.works, p.0, work);
-        rearm(&mut self.dues, g, ResId(r), &self.cores, &self.works);
+        rearm_step(&mut self.dues, g, p, &self.cores, &self.works);
     }
 
     /// The processor is held: it waits for its siblings.
@@ -344,7 +343,7 @@ impl CoreState {
         change_doing(g, p, doing, &mut self.cores);
         open_if_left(ResId(r), &mut self.cores);
         set_place(&mut self.works, p.0, work);
-        rearm(&mut self.dues, g, ResId(r), &self.cores, &self.works);
+        rearm_left(&mut self.dues, g, p, &self.cores, &self.works);
     }
 
     /// The processor is stalled up to this moment, if it is not yet for longer: the end of its stall.

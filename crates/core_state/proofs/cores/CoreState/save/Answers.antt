@@ -2,13 +2,20 @@ use Rattle.std.proofs.Common.{◌∙◌, ap, refl}
 use Rattle.sched_model.specs.Pool.{saved_core, saving_among}
 use Rattle.core_state.specs.Seen.{Seen, changed_core}
 use Rattle.core_state.proofs.ChangeLemmas.{may_rearm, core_change, changed_kept, seen_is}
+use Rattle.core_state.proofs.Steps.{may_gather_after, pending_saved, saved_armed}
 use Rattle.core_state.proofs.cores.CoreState.save.Goals as goal
 
-pub rearm-requires : goal.rearm-requires
-rearm-requires c = may_rearm c.self.invariant (core_change c.args.r.0 saved_core (λ x. refl) c.self.invariant) c.take_saved-unit.ensures.cores refl
+pub rearm_saved-requires : goal.rearm_saved-requires
+rearm_saved-requires c =
+    let change = core_change c.args.r.0 saved_core (λ x. refl) c.self.invariant in
+    let may = may_rearm c.self.invariant change c.take_saved-unit.ensures.cores refl in
+    record { granularity = may.granularity; places = may.places; arrives = may_gather_after saved_core c.self.invariant change c.take_saved-unit.ensures.cores pending_saved }
 
 pub invariant_of-self : goal.invariant_of-self
-invariant_of-self c = changed_kept c.args.r.0 saved_core c.self.invariant (core_change c.args.r.0 saved_core (λ x. refl) c.self.invariant) c.take_saved-unit.ensures.cores refl c.rearm.ensures
+invariant_of-self c =
+    let change = core_change c.args.r.0 saved_core (λ x. refl) c.self.invariant in
+    changed_kept c.args.r.0 saved_core c.self.invariant change c.take_saved-unit.ensures.cores refl
+    (saved_armed c.args.r.0 c.self.invariant change c.take_saved-unit.ensures.cores c.rearm_saved.ensures.rest c.rearm_saved.ensures.arrives)
 
 pub returns-clause-after : goal.returns-clause-after
 returns-clause-after c = seen_is c.take_saved-unit.ensures.cores refl ∙ ap (changed_core c.args.r.0 saved_core) c.self.view_is
