@@ -220,7 +220,6 @@ module _ (g p : ℕ) (f : Resource → Resource) (cores : List (Option Resource)
   module _ (slices : slice_moment (option_map f (at_place cores (p / g))) ≡ slice_moment (at_place cores (p / g)))
       (blocks : (j : ℕ) → p % g ≢ j → end_of_in j (option_map f (at_place cores (p / g))) ≡ end_of_in j (at_place cores (p / g)))
       (leaves : (j : ℕ) → p % g ≢ j → end_in j may_core_part is_held_back (option_map f (at_place cores (p / g))) ≡ end_in j may_core_part is_held_back (at_place cores (p / g))) where
-
     pub work_armed : (arrives : List (Option Moment)) → AgreesBut 0 0 arrives (arrival_among g told) → AreArmed (seen_of g told after) (record (with_work_ends g p told after dues) { arrives = arrives })
     work_armed arrives arrivals =
         let before = seen_of g cores works in

@@ -157,12 +157,7 @@ fn is_pending(core: Option<&Resource>) -> bool
 }
 
 /// Arms the core's processors anew with the moments from which on they may arrive, where the core is to decide: else none arrives.
-fn rearm_gathering(
-    arrives: &mut DueSet,
-    granularity: u8,
-    r: ResId,
-    cores: &Row<Option<Resource>>,
-)
+fn rearm_gathering(arrives: &mut DueSet, granularity: u8, r: ResId, cores: &Row<Option<Resource>>)
     requires granularity { IsGranularity granularity }
     requires places { length cores.now * granularity ≤ 64 }
     requires others { AgreesBut (r.0 * granularity) (r.0 * granularity + granularity) arrives.old
