@@ -16,7 +16,7 @@ use Rattle.due_heap.specs.Dues.{armed_moment}
 use Rattle.pool_laws.specs.ReadyMoments.{guarded_moment, later_of, end_of, end_where, slice_moment, may_gather}
 use Rattle.core_state.specs.declared.dues.Dues.{Dues}
 use Rattle.core_state.specs.Seen.{Seen, core_sibling, processor_among}
-use Rattle.core_state.specs.Ends.{may_core_decide, may_core_save, may_core_part, arrival_among, ready_among, sibling_among, sibling_end}
+use Rattle.core_state.specs.Ends.{may_core_decide, may_core_save, may_core_part, arrival_among, leaving_among, ready_among, sibling_among, sibling_end}
 use Rattle.core_state.specs.CoreState.{AgreesBut, AreArmedBut, AreArmed, with_core_ends, with_processor_ends}
 
 -- a number armed with its moment has it, and each other number has what it had
@@ -87,10 +87,10 @@ other_core g r p (inr (inr e)) (inl h) = subst (λ (k : ℕ). p / k ≢ r) (sym 
 other_core g r p (inr (inr e)) (inr h) = subst (λ (k : ℕ). p / k ≢ r) (sym e) (let k = rw e at h in λ same. omega (arith, k, same))
 
 -- the processor of a core that may be there, and the end of its stall under tests
-abbrev sibling_in : ℕ → Option Resource → Option Processor
+abbrev pub sibling_in : ℕ → Option Resource → Option Processor
 sibling_in i o = elim o as (λ _. Option Processor) [ None ↦ None | Some c ↦ slice_get c.processors i ]
 
-abbrev end_in : ℕ → (Resource → Bool) → (Processor → Bool) → Option Resource → Option Moment
+abbrev pub end_in : ℕ → (Resource → Bool) → (Processor → Bool) → Option Resource → Option Moment
 end_in i a b o = elim o as (λ _. Option Moment) [ None ↦ None | Some c ↦ guarded_moment (a c) (elim (sibling_in i o) as (λ _. Option Moment) [ None ↦ None | Some q ↦ guarded_moment (b q) (Some q.stall_end) ]) ]
 
 pub sibling_same : (g p : ℕ) (a : Resource → Bool) (b : Processor → Bool) (cores next : List (Option Resource)) → at_place next (p / g) ≡ at_place cores (p / g)
@@ -182,6 +182,22 @@ arrival_armed g r i to cores arrives core granularity few lt core_is are =
     subst (λ (k : ℕ). AgreesBut k to (slice_set arrives p (sibling_end may_gather (λ q. not (is_held_back q)) core (core_sibling core i))) (arrival_among g cores)) more
     (subst (λ (end : Option Moment). AgreesBut (p + 1) to (slice_set arrives p end) (arrival_among g cores)) end_is
     (next p to arrives (arrival_among g cores) (λ past. sibling_past g p may_gather (λ q. not (is_held_back q)) cores (core_of_past g cores p granularity few past)) are))
+
+-- the same with the moment from which on it may leave
+pub leaving_armed : (g r i to : ℕ) (cores : List (Option Resource)) (leaves : List (Option Moment)) (core : Option Resource) → IsGranularity g → length cores * g ≤ 64 → i < g → core ≡ at_place cores r
+    → AgreesBut (r * g + i) to leaves (leaving_among g cores)
+    → AgreesBut (r * g + (i + 1)) to (slice_set leaves (r * g + i) (sibling_end may_core_part is_held_back core (core_sibling core i))) (leaving_among g cores)
+leaving_armed g r i to cores leaves core granularity few lt core_is are =
+    let p : ℕ = r * g + i in
+    let place = place_of g r i granularity lt in
+    let more : p + 1 ≡ r * g + (i + 1) = omega arith in
+    let end_is : leaving_among g cores p ≡ sibling_end may_core_part is_held_back core (core_sibling core i) =
+    ap (λ (k : ℕ). sibling_end may_core_part is_held_back (at_place cores k) (core_sibling (at_place cores k) (p % g))) place.0
+    ∙ ap (λ (k : ℕ). sibling_end may_core_part is_held_back (at_place cores r) (core_sibling (at_place cores r) k)) place.1
+    ∙ ap (λ (o : Option Resource). sibling_end may_core_part is_held_back o (core_sibling o i)) (sym core_is) in
+    subst (λ (k : ℕ). AgreesBut k to (slice_set leaves p (sibling_end may_core_part is_held_back core (core_sibling core i))) (leaving_among g cores)) more
+    (subst (λ (end : Option Moment). AgreesBut (p + 1) to (slice_set leaves p end) (leaving_among g cores)) end_is
+    (next p to leaves (leaving_among g cores) (λ past. sibling_past g p may_core_part is_held_back cores (core_of_past g cores p granularity few past)) are))
 
 -- where none is left, all are armed
 pub all_armed : (r p q : ℕ) (seen : Seen) (dues : Dues) → q ≤ p → AreArmedBut r r p q seen dues → AreArmed seen dues

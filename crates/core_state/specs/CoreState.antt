@@ -1,18 +1,18 @@
 -- What a pool's cores keep.
 use Rattle.sched_base.specs.Numbers.{core as core_number, processor as processor_number}
-use Rattle.std.specs.Prelude.{ℕ, ◌≡◌, ◌≤◌, ◌<◌, ◌*◌, true, List, Option, None, length, replicate, slice_set, not, ◌+◌}
+use Rattle.std.specs.Prelude.{ℕ, ◌≡◌, ◌≤◌, ◌<◌, ◌*◌, ◌/◌, true, false, List, Option, None, length, replicate, slice_set, not, ◌+◌}
 use Rattle.sched_base.specs.declared.Moment.{Moment}
 use Rattle.sched_model.specs.declared.action.Action.TheVariants.{Block, Slice, Arrive, Decide, Leave, Save}
 use Rattle.sched_model.specs.declared.state.Resource.{Resource}
 use Rattle.sched_model.specs.CheckedMachine.{IsGranularity}
-use Rattle.sched_model.specs.Places.{first_place}
+use Rattle.sched_model.specs.Places.{at_place, first_place}
 use Rattle.sched_model.specs.Pool.{cores_from, is_held_back}
 use Rattle.sched_laws.specs.EachPlace.{EachPlace}
 use Rattle.pool_laws.specs.ReadyMoments.{end_of, end_where, may_gather, later_of, slice_moment}
 use Rattle.due_heap.specs.Dues.{armed_moment}
 use Rattle.core_state.specs.declared.dues.Dues.{Dues}
-use Rattle.core_state.specs.Seen.{Seen, core_sibling}
-use Rattle.core_state.specs.Ends.{may_core_decide, may_core_save, may_core_part, ready_among, sibling_end}
+use Rattle.core_state.specs.Seen.{Seen, core_sibling, processor_among}
+use Rattle.core_state.specs.Ends.{arrival_among, is_core_pending, leaving_among, may_core_decide, may_core_save, may_core_part, ready_among, sibling_end}
 
 -- each core has 1, 2 or 4 processors, and there are places for at most 64 processors
 pub record KeepsCores (seen : Seen) : Type 0 where
@@ -45,6 +45,20 @@ pub record MayRearm (r : ℕ) (seen : Seen) (dues : Dues) : Type 0 where
   pub granularity : IsGranularity seen.granularity
   pub places : length seen.resources * seen.granularity ≤ 64
   pub others : AreArmedBut r (r + 1) (r * seen.granularity) (r * seen.granularity + seen.granularity) seen dues
+
+-- each set has 64 numbers
+pub record HaveIds (dues : Dues) : Type 0 where
+  pub slices : length dues.slices ≡ 64
+  pub decides : length dues.decides ≡ 64
+  pub saves : length dues.saves ≡ 64
+  pub blocks : length dues.blocks ≡ 64
+  pub arrives : length dues.arrives ≡ 64
+  pub leaves : length dues.leaves ≡ 64
+
+-- the processors of the core r may be armed anew with their arrivals, which are right already where the core is not to decide
+pub record MayGather (g r : ℕ) (cores : List (Option Resource)) (arrives : List (Option Moment)) : Type 0 where
+  pub others : AgreesBut (r * g) (r * g + g) arrives (arrival_among g cores)
+  pub still : is_core_pending (at_place cores r) ≡ false → AgreesBut 0 0 arrives (arrival_among g cores)
 
 -- beside that: the set of the cores, the first of them, and the sets of moments
 pub record IsKept (seen : Seen) (home : ℕ) (first : Option ℕ) (dues : Dues) : Type 0 where
@@ -79,3 +93,17 @@ with_processor_ends p core i work dues =
       arrives = slice_set dues.arrives p (sibling_end may_gather (λ q. not (is_held_back q)) core (core_sibling core i));
       leaves = slice_set dues.leaves p (sibling_end may_core_part is_held_back core (core_sibling core i));
     }
+
+-- the sets with the moments that depend on what the processor p does and on its work, but for arrivals
+abbrev pub with_work_ends : ℕ → ℕ → List (Option Resource) → List (Option Moment) → Dues → Dues
+with_work_ends g p cores works dues =
+    record dues {
+      decides = slice_set dues.decides (p / g) (end_where may_core_decide (at_place cores (p / g)));
+      saves = slice_set dues.saves (p / g) (end_where may_core_save (at_place cores (p / g)));
+      blocks = slice_set dues.blocks p (later_of (at_place works p) (end_of (processor_among g cores p)));
+      leaves = slice_set dues.leaves p (leaving_among g cores p);
+    }
+
+-- the same with its arrival
+abbrev pub with_step_ends : ℕ → ℕ → List (Option Resource) → List (Option Moment) → Dues → Dues
+with_step_ends g p cores works dues = record (with_work_ends g p cores works dues) { arrives = slice_set dues.arrives p (arrival_among g cores p) }

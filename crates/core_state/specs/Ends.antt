@@ -1,5 +1,5 @@
 -- From which moment on an event of a pool's cores may come: what the laws of a pool's events say, of the cores alone.
-use Rattle.std.specs.Prelude.{ℕ, ◌/◌, ◌&&◌, not, true, Bool, List, Option, Some, None, is_some}
+use Rattle.std.specs.Prelude.{ℕ, ◌/◌, ◌&&◌, not, true, false, Bool, List, Option, Some, None, is_some}
 use Rattle.std.specs.List.{list_any, list_all}
 use Rattle.sched_base.specs.declared.Moment.{Moment}
 use Rattle.sched_model.specs.declared.action.Action.{Action}
@@ -28,6 +28,19 @@ sibling_among g cores p of_core of_processor = sibling_end of_core of_processor 
 abbrev pub arrival_among : ℕ → List (Option Resource) → ℕ → Option Moment
 arrival_among g cores p = sibling_among g cores p may_gather (λ q. not (is_held_back q))
 
+-- whether the core's processors may leave
+abbrev pub may_core_part : Resource → Bool
+may_core_part c = not (is_gathering c)
+
+-- from when on it may leave
+abbrev pub leaving_among : ℕ → List (Option Resource) → ℕ → Option Moment
+leaving_among g cores p = sibling_among g cores p may_core_part is_held_back
+
+-- whether the core, if there is one, is to decide anew
+abbrev pub is_core_pending : Option Resource → Bool
+is_core_pending None = false
+is_core_pending (Some c) = c.pending
+
 -- whether the core may decide
 abbrev pub may_core_decide : Resource → Bool
 may_core_decide c = list_all is_held_back c.processors && is_gathering c
@@ -35,10 +48,6 @@ may_core_decide c = list_all is_held_back c.processors && is_gathering c
 -- whether the core may put away the unit that it saves
 abbrev pub may_core_save : Resource → Bool
 may_core_save c = is_some c.saving && not (list_any is_held_back c.processors)
-
--- whether the core's processors may leave
-abbrev pub may_core_part : Resource → Bool
-may_core_part c = not (is_gathering c)
 
 -- from when on the action, if it is one of a core or a processor, may come
 abbrev pub ready_among : Seen → Action → Option Moment

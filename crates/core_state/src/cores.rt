@@ -6,9 +6,10 @@ ghost use Rattle.sched_model.specs.Places.{first_place, is_unit};
 ghost use Rattle.core_state.specs.Seen.{extended_stall_end};
 
 use crate::changes::{choose_at, clear_works, set_pending_by};
+use crate::counts::{UnitCounts, count_choice_at, count_core_in, count_out_at};
 use crate::dues::{
     Dues, IDS, advance, earlier, empty_dues, first_due_core, first_due_processor, least_of, rearm,
-    rearm_arrivals,
+    rearm_arrivals, rearm_decided, rearm_left, rearm_saved, rearm_step,
 };
 use crate::ends::{lowest_end, move_end, processor_at};
 use pool_records::changes::{bring_due_at, take_saved};
@@ -34,6 +35,8 @@ pub struct CoreState {
     cores: Row<Option<Resource>>,
     works: Row<Option<Moment>>,
     dues: Dues,
+    /// How often each unit is a core's own or saved.
+    counts: UnitCounts,
     /// The moment up to which the sets of moments have been told.
     told: Moment,
 }
@@ -44,6 +47,7 @@ impl Model for CoreState {
     ghost Value = { Seen };
 
     ghost use Rattle.core_state.specs.CoreState.{IsKept};
+    ghost use Rattle.core_state.specs.Counts.{AreCounts};
 
     ghost view = { λ a. record {
       resources = a.cores;
@@ -53,7 +57,7 @@ impl Model for CoreState {
 
     ghost invariant = { λ a. IsKept
         (record { resources = a.cores; works = a.works; granularity = a.granularity }) a.home
-        a.first a.dues };
+        a.first a.dues × AreCounts a.cores a.counts };
 }
 
 /// The number of the first core, where there are few places.
@@ -113,6 +117,7 @@ impl CoreState {
         let cores = empty_places(alloc, places as usize)?;
         let works = empty_places(alloc, IDS)?;
         let dues = empty_dues(alloc)?;
+        let counts = UnitCounts::room(alloc)?;
         Ok(CoreState {
             granularity,
             home: 0,
@@ -120,6 +125,7 @@ impl CoreState {
             cores,
             works,
             dues,
+            counts,
             told: Moment(0),
         })
     }
@@ -164,7 +170,10 @@ impl CoreState {
     pub fn core_with(&self, u: UnitId) -> Option<u8>
         ensures { result ≡ first_place 0 (λ c. is_unit c.cur u) self.now.resources }
     {
-        number_with(self.cores.as_slice(), u)
+        match self.counts.of(u) {
+            Some(0) => None,
+            _ => number_with(self.cores.as_slice(), u),
+        }
     }
 
     /// Whether a core has the unit as its own or saves it.
@@ -172,7 +181,10 @@ impl CoreState {
         ensures { result ≡ list_any (λ (e : ℕ × ResourceRecord). is_unit e.1.cur u
             || is_unit e.1.saving u) (numbered_items 0 self.now.resources) }
     {
-        is_on_core(0, self.cores.as_slice(), u)
+        match self.counts.of(u) {
+            None => is_on_core(0, self.cores.as_slice(), u),
+            Some(count) => 0 < count,
+        }
     }
 
     /// Whether a core has a unit of the domain as its own or saves one.
@@ -215,6 +227,8 @@ impl CoreState {
         } }
     {
         let g = self.granularity;
+        count_out_at(&mut self.counts, r, &self.cores);
+        count_core_in(&mut self.counts, &core);
         set_place(&mut self.cores, r.0, Some(core));
         clear_works(r.0 as u16 * g as u16, g, &mut self.works);
         self.home = home_cores(self.cores.as_slice());
@@ -232,6 +246,7 @@ impl CoreState {
         } }
     {
         let g = self.granularity;
+        count_out_at(&mut self.counts, r, &self.cores);
         let core = take_item(&mut self.cores, r.0 as usize);
         clear_works(r.0 as u16 * g as u16, g, &mut self.works);
         self.home = home_cores(self.cores.as_slice());
@@ -273,8 +288,9 @@ impl CoreState {
         ensures { self.new ≡ changed_core r.0 (chosen_core t.0 unit due) self.old }
     {
         let g = self.granularity;
+        count_choice_at(&mut self.counts, r, unit, &self.cores);
         choose_at(r, t, unit, due, &mut self.cores);
-        rearm(&mut self.dues, g, r, &self.cores, &self.works);
+        rearm_decided(&mut self.dues, g, r, &self.cores);
     }
 
     /// The core puts away the unit that it saves.
@@ -284,7 +300,8 @@ impl CoreState {
     {
         let g = self.granularity;
         let unit = take_saved(r, &mut self.cores);
-        rearm(&mut self.dues, g, r, &self.cores, &self.works);
+        self.counts.count_out(unit);
+        rearm_saved(&mut self.dues, g, r, &self.cores);
         unit
     }
 
@@ -303,10 +320,9 @@ impl CoreState {
             ≡ with_work p.0 work (changed_processor p.0 (with_doing doing) self.old) }
     {
         let g = self.granularity;
-        let r = p.0 / g;
         change_doing(g, p, doing, &mut self.cores);
         set_place(&mut self.works, p.0, work);
-        rearm(&mut self.dues, g, ResId(r), &self.cores, &self.works);
+        rearm_step(&mut self.dues, g, p, &self.cores, &self.works);
     }
 
     /// The processor is held: it waits for its siblings.
@@ -340,10 +356,9 @@ impl CoreState {
             (changed_processor p.0 (with_doing doing) self.old)) }
     {
         let g = self.granularity;
-        let r = p.0 / g;
         leave_at(g, p, doing, &mut self.cores);
         set_place(&mut self.works, p.0, work);
-        rearm(&mut self.dues, g, ResId(r), &self.cores, &self.works);
+        rearm_left(&mut self.dues, g, p, &self.cores, &self.works);
     }
 
     /// The processor is stalled up to this moment, if it is not yet for longer: the end of its stall.

@@ -1,15 +1,17 @@
 //! The sets of moments of one pool's cores and processors.
 
-ghost use Rattle.std.specs.Prelude.{◌≡◌, ◌+◌, ◌*◌, ◌<◌, ◌≤◌, None, Some, IfOk, length, slice_set, replicate};
+ghost use Rattle.std.specs.Prelude.{◌≡◌, ◌+◌, ◌*◌, ◌/◌, ◌<◌, ◌≤◌, false, None, Some, IfOk, length, slice_set, replicate};
 ghost use Rattle.std.specs.Option.{option_copied};
 ghost use Rattle.sched_model.specs.CheckedMachine.{IsGranularity};
 ghost use Rattle.due_heap.specs.Dues.{armed_moment};
 ghost use Rattle.core_state.specs.Firsts.{IsFirstCore, IsFirstProcessor, IsLeast, earlier_of_both};
-ghost use Rattle.core_state.specs.CoreState.{AgreesBut, AreArmed, AreEmpty, MayRearm, with_core_ends, with_processor_ends};
-ghost use Rattle.core_state.specs.Ends.{arrival_among};
+ghost use Rattle.sched_model.specs.Places.{at_place};
+ghost use Rattle.core_state.specs.CoreState.{AgreesBut, AreArmed, AreEmpty, HaveIds, MayGather, MayRearm, with_core_ends, with_processor_ends, with_step_ends, with_work_ends};
+ghost use Rattle.core_state.specs.Ends.{arrival_among, is_core_pending, leaving_among};
 
 use crate::ends::{
-    arrive_end, block_end, decide_end, leave_end, save_end, sibling_of, slice_end, work_at,
+    arrive_end, block_end, decide_end, leave_end, processor_at, save_end, sibling_of, slice_end,
+    work_at,
 };
 use due_heap::DueSet;
 use sched_base::{Moment, NoMemory, ProcId, ResId};
@@ -128,6 +130,47 @@ pub fn rearm_arrivals(
     }
 }
 
+/// The same of the moments from which on they may leave.
+fn rearm_leavings(leaves: &mut DueSet, granularity: u8, r: ResId, cores: &Row<Option<Resource>>)
+    requires granularity { IsGranularity granularity }
+    requires places { length cores.now * granularity ≤ 64 }
+    requires others { AgreesBut (r.0 * granularity) (r.0 * granularity + granularity) leaves.old
+        (leaving_among granularity cores.now) }
+    ensures { AgreesBut 0 0 leaves.new (leaving_among granularity cores.now) }
+{
+    let core = item_at(cores.as_slice(), r.0 as usize);
+    for i in 0..granularity {
+        let p = r.0 as u16 * granularity as u16 + i as u16;
+        set_due(leaves, p, leave_end(core, sibling_of(core, i as usize)));
+    }
+}
+
+/// Whether the core, if there is one, is to decide anew.
+#[inline]
+fn is_pending(core: Option<&Resource>) -> bool
+    ensures { result ≡ is_core_pending (option_copied core.entry) }
+{
+    match core {
+        None => false,
+        Some(c) => c.pending,
+    }
+}
+
+/// Arms the core's processors anew with the moments from which on they may arrive, where the core is to decide: else none arrives.
+fn rearm_gathering(arrives: &mut DueSet, granularity: u8, r: ResId, cores: &Row<Option<Resource>>)
+    requires granularity { IsGranularity granularity }
+    requires places { length cores.now * granularity ≤ 64 }
+    requires others { AgreesBut (r.0 * granularity) (r.0 * granularity + granularity) arrives.old
+        (arrival_among granularity cores.now) }
+    requires still { is_core_pending (at_place cores.now r.0) ≡ false
+        → AgreesBut 0 0 arrives.old (arrival_among granularity cores.now) }
+    ensures { AgreesBut 0 0 arrives.new (arrival_among granularity cores.now) }
+{
+    if is_pending(item_at(cores.as_slice(), r.0 as usize)) {
+        rearm_arrivals(arrives, granularity, r, cores);
+    }
+}
+
 /// Arms the core and its processors anew, after a change of that core or of its processors' works.
 pub fn rearm(
     dues: &mut Dues,
@@ -151,6 +194,108 @@ pub fn rearm(
         let p = r.0 as u16 * granularity as u16 + i as u16;
         rearm_processor(dues, p, core, i, work_at(done_at, p as usize));
     }
+}
+
+/// Arms anew what depends on what the processor does and on its work, but for arrivals: when its core decides and puts away what it
+/// saves, and when its vCPU blocks and it leaves.
+#[inline]
+fn rearm_work(
+    dues: &mut Dues,
+    granularity: u8,
+    p: ProcId,
+    cores: &Row<Option<Resource>>,
+    works: &Row<Option<Moment>>,
+)
+    requires granularity { IsGranularity granularity }
+    requires places { length cores.now * granularity ≤ 64 }
+    requires ids { HaveIds dues.old }
+    ensures { dues.new ≡ with_work_ends granularity p.0 cores.now works.now dues.old }
+{
+    let r = p.0 / granularity;
+    let core = item_at(cores.as_slice(), r as usize);
+    let processor = sibling_of(core, (p.0 % granularity) as usize);
+    let work = work_at(works.as_slice(), p.0 as usize);
+    set_due(&mut dues.decides, r as u16, decide_end(core));
+    set_due(&mut dues.saves, r as u16, save_end(core));
+    set_due(&mut dues.blocks, p.0 as u16, block_end(work, processor));
+    set_due(&mut dues.leaves, p.0 as u16, leave_end(core, processor));
+}
+
+/// Arms anew after a change of what a processor does and of its work.
+pub fn rearm_step(
+    dues: &mut Dues,
+    granularity: u8,
+    p: ProcId,
+    cores: &Row<Option<Resource>>,
+    works: &Row<Option<Moment>>,
+)
+    requires granularity { IsGranularity granularity }
+    requires places { length cores.now * granularity ≤ 64 }
+    requires ids { HaveIds dues.old }
+    ensures { dues.new ≡ with_step_ends granularity p.0 cores.now works.now dues.old }
+{
+    rearm_work(dues, granularity, p, cores, works);
+    let processor = processor_at(granularity, cores.as_slice(), p.0 as usize);
+    let core = item_at(cores.as_slice(), (p.0 / granularity) as usize);
+    set_due(&mut dues.arrives, p.0 as u16, arrive_end(core, processor));
+}
+
+/// The same, where the core's stage may be open again, so that its processors may arrive.
+pub fn rearm_left(
+    dues: &mut Dues,
+    granularity: u8,
+    p: ProcId,
+    cores: &Row<Option<Resource>>,
+    works: &Row<Option<Moment>>,
+)
+    requires granularity { IsGranularity granularity }
+    requires places { length cores.now * granularity ≤ 64 }
+    requires ids { HaveIds dues.old }
+    requires arrives { MayGather granularity (p.0 / granularity) cores.now dues.old.arrives }
+    ensures rest { dues.new ≡ record (with_work_ends granularity p.0 cores.now works.now dues.old) {
+      arrives = dues.new.arrives;
+    } }
+    ensures arrives { AgreesBut 0 0 dues.new.arrives (arrival_among granularity cores.now) }
+{
+    rearm_work(dues, granularity, p, cores, works);
+    let r = p.0 / granularity;
+    rearm_gathering(&mut dues.arrives, granularity, ResId(r), cores);
+}
+
+/// Arms anew after the core put away its unit: its processors may arrive.
+pub fn rearm_saved(dues: &mut Dues, granularity: u8, r: ResId, cores: &Row<Option<Resource>>)
+    requires granularity { IsGranularity granularity }
+    requires places { length cores.now * granularity ≤ 64 }
+    requires arrives { MayGather granularity r.0 cores.now dues.old.arrives }
+    ensures rest { dues.new ≡ record dues.old {
+      saves = slice_set dues.old.saves r.0 None;
+      arrives = dues.new.arrives;
+    } }
+    ensures arrives { AgreesBut 0 0 dues.new.arrives (arrival_among granularity cores.now) }
+{
+    dues.saves.disarm(r.0 as u16);
+    rearm_gathering(&mut dues.arrives, granularity, r, cores);
+}
+
+/// Arms anew after the core decided: all but when its vCPUs block.
+pub fn rearm_decided(dues: &mut Dues, granularity: u8, r: ResId, cores: &Row<Option<Resource>>)
+    requires granularity { IsGranularity granularity }
+    requires places { length cores.now * granularity ≤ 64 }
+    requires ids { HaveIds dues.old }
+    requires arrives { AgreesBut (r.0 * granularity) (r.0 * granularity + granularity)
+        dues.old.arrives (arrival_among granularity cores.now) }
+    requires leaves { AgreesBut (r.0 * granularity) (r.0 * granularity + granularity)
+        dues.old.leaves (leaving_among granularity cores.now) }
+    ensures rest { dues.new ≡ record (with_core_ends r.0 (at_place cores.now r.0) dues.old) {
+      arrives = dues.new.arrives;
+      leaves = dues.new.leaves;
+    } }
+    ensures arrives { AgreesBut 0 0 dues.new.arrives (arrival_among granularity cores.now) }
+    ensures leaves { AgreesBut 0 0 dues.new.leaves (leaving_among granularity cores.now) }
+{
+    rearm_core(dues, r.0 as u16, item_at(cores.as_slice(), r.0 as usize));
+    rearm_arrivals(&mut dues.arrives, granularity, r, cores);
+    rearm_leavings(&mut dues.leaves, granularity, r, cores);
 }
 
 /// From now on what has come at t is at hand in each set.

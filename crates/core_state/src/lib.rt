@@ -6,6 +6,7 @@
 
 mod changes;
 pub mod cores;
+mod counts;
 mod dues;
 mod ends;
 pub mod laws;

@@ -25,3 +25,7 @@ pub record HasCome (dues : List (Option Moment)) (t id : ℕ) : Type 0 where
 pub record IsPowerOfTwo (n : ℕ) : Type 0 where
   pub exponent : ℕ
   pub is : n ≡ 2 ^ exponent
+
+-- no id is due before the moment t
+abbrev pub NoneBefore : ℕ → List (Option Moment) → Type 0
+NoneBefore t dues = (id : ℕ) (at : Moment) → IsArmed dues id at → t ≤ at.0

@@ -6,7 +6,7 @@
 #![tactic(auto)]
 
 ghost use Rattle.std.specs.Prelude.{ℕ, ◌≡◌, ◌+◌, ◌*◌, ◌/◌, ◌^◌, ◌<◌, ◌≤◌, length, true, false, if◌then◌else◌};
-ghost use Rattle.due_heap.specs.Dues.{IsPowerOfTwo};
+ghost use Rattle.due_heap.specs.Dues.{IsPowerOfTwo, NoneBefore};
 ghost use Rattle.due_heap.specs.Winners.{IsTree, IsTreeBut};
 ghost use Rattle.due_heap.specs.Winners as tree;
 
@@ -27,6 +27,8 @@ pub struct DueHeap {
     moments: Vec<Option<Moment>>,
     /// The winner at each node that is no leaf, from 1 on; the entry at 0 stands for no node.
     winners: Vec<u16>,
+    /// No id is due before this moment.
+    soon: u64,
 }
 
 impl Model for DueHeap {
@@ -35,11 +37,13 @@ impl Model for DueHeap {
 
     ghost Value = { List (Option Moment) };
 
+    ghost use Rattle.due_heap.specs.Dues.{NoneBefore};
     ghost use Rattle.due_heap.specs.Winners.{IsTree};
 
     ghost view = { λ a. a.moments.items };
 
-    ghost invariant = { λ a. IsTree a.moments.items a.winners.items };
+    ghost invariant = { λ a. IsTree a.moments.items a.winners.items
+        × NoneBefore a.soon a.moments.items };
 }
 
 /// The winner at a node, which is a leaf's own id.
@@ -127,6 +131,7 @@ fn below(moments: &[Option<Moment>], winners: &[u16], node: usize, t: Moment) ->
 }
 
 /// Goes from the root down to the first leaf, from the left, of an id whose moment has come at t, and gives the id.
+#[inline(never)]
 fn leftmost(moments: &[Option<Moment>], winners: &[u16], t: Moment) -> u16
     requires tree { IsTree moments.now winners.now }
     requires power { IsPowerOfTwo (length moments.now) }
@@ -141,6 +146,18 @@ fn leftmost(moments: &[Option<Moment>], winners: &[u16], t: Moment) -> u16
     (k - winners.len()) as u16
 }
 
+/// The least moment of the ids, and the greatest number where none is armed.
+#[inline]
+fn soonest(moments: &[Option<Moment>], winners: &[u16]) -> u64
+    requires { IsTree moments.now winners.now }
+    ensures { NoneBefore result moments.now }
+{
+    match due_of(moments, winner(winners, 1)) {
+        None => u64::MAX,
+        Some(at) => at.0,
+    }
+}
+
 impl DueHeap {
     ghost use Rattle.std.specs.Prelude.{ℕ, ◌≡◌, ◌<◌, ◌≤◌, Some, None, IfOk, IfSome, IfNone, length, replicate, slice_set};
     ghost use Rattle.due_heap.specs.Dues.{IsArmed, GoesFirst, HasCome, IsPowerOfTwo};
@@ -153,7 +170,12 @@ impl DueHeap {
         let moments = vec![in alloc; None; n]?;
         let mut winners = vec![in alloc; 0; n]?;
         play_all(moments.as_slice(), winners.as_mut_slice());
-        Ok(DueHeap { moments, winners })
+        let soon = soonest(moments.as_slice(), winners.as_slice());
+        Ok(DueHeap {
+            moments,
+            winners,
+            soon,
+        })
     }
 
     /// Gives an id below the room its moment, or none.
@@ -166,6 +188,7 @@ impl DueHeap {
         }
         self.moments[id as usize] = due;
         settle(self.moments.as_slice(), self.winners.as_mut_slice(), id);
+        self.soon = soonest(self.moments.as_slice(), self.winners.as_slice());
     }
 
     /// Makes an id below the room due at a moment, in place of the moment that it had.
@@ -187,6 +210,7 @@ impl DueHeap {
 
     /// The least of the ids whose moment has come at t, in steps by the logarithm of the room. `None` where none has come. The room is
     /// a power of two.
+    #[inline]
     pub fn first_due(&self, t: Moment) -> Option<u16>
         requires power { IsPowerOfTwo (length self.now) }
         ensures none { IfNone result ((id : ℕ) (at : Moment) → IsArmed self.now id at →
@@ -195,6 +219,9 @@ impl DueHeap {
         ensures first { IfSome result (λ id. (other : ℕ) → HasCome self.now t.0 other → id
             ≤ other) }
     {
+        if t.0 < self.soon {
+            return None;
+        }
         let root = winner(self.winners.as_slice(), 1);
         if !is_due(self.moments.as_slice(), root, t) {
             return None;

@@ -1,4 +1,5 @@
 pub mod Best
+pub mod Calm
 pub mod DecideLemmas
 pub mod Leasts
 pub mod Lists

@@ -1,6 +1,6 @@
 -- The least moment from which on something of a pool may come, and what it is the least of, part by part. g is the number of a core's processors.
 use Rattle.sched_base.specs.Numbers.{domain, moment}
-use Rattle.std.specs.Prelude.{ℕ, suc, ◌≡◌, ◌≤◌, ◌⊎◌, ◌&&◌, ◌||◌, Bool, not, min, List, [], ◌∷◌, Option, Some, None, is_some, option_map, length, if◌then◌else◌}
+use Rattle.std.specs.Prelude.{ℕ, suc, ◌≡◌, ◌≤◌, ◌⊎◌, ◌&&◌, ◌||◌, Bool, not, min, List, [], ◌∷◌, Option, Some, None, is_none, is_some, option_map, length, if◌then◌else◌}
 use Rattle.std.specs.List.{list_any, list_all}
 use Rattle.sched_base.specs.declared.Moment.{Moment}
 use Rattle.sched_base.specs.declared.UnitId.{UnitId}
@@ -109,6 +109,14 @@ moved_moment c = guarded_moment (may_core_move c) (first_stall_end c)
 unfoldable pub least_of_core : Pool → ℕ → Resource → ℕ
 least_of_core pool best c =
     lesser_moment (lesser_moment (lesser_moment (lesser_moment (least_each (least_of_processor pool c) best c.processors) (due_moment c)) (decide_moment c)) (save_moment c)) (moved_moment c)
+
+-- whether the core is not to decide, stays, saves nothing and has no processor that is held: of such a core only its due and blocks may come
+abbrev pub is_core_calm : Resource → Bool
+is_core_calm c = not c.pending && (not c.leaving && (is_none c.saving && not (list_any is_held_back c.processors)))
+
+-- the least so far, and of the blocks of these processors
+abbrev pub least_of_blocks : Pool → ℕ → List Processor → ℕ
+least_of_blocks pool best processors = least_each (λ so_far (q : Processor). lesser_moment so_far (block_moment pool q)) best processors
 
 -- and of each core
 abbrev pub least_of_cores : Pool → ℕ → List (ℕ × Resource) → ℕ

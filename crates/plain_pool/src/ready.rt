@@ -1,10 +1,10 @@
 //! From when on something of a pool may come: the least moment, by one scan of its cores, its domains and its records.
 
-ghost use Rattle.std.specs.Prelude.{◌≡◌, ℕ, ◌+◌, ◌<◌, ◌≤◌, ◌^◌, length};
+ghost use Rattle.std.specs.Prelude.{◌≡◌, ℕ, ◌+◌, ◌<◌, ◌≤◌, ◌^◌, length, true};
 ghost use Rattle.sched_model.specs.Places.{numbered_items};
 ghost use Rattle.pool_laws.specs.ReadyMoments.{guarded_moment, later_of, may_gather, may_core_move, first_stall_end, lowest_stall_end};
 ghost use Rattle.pool_records.specs.Fits.{PoolFits};
-ghost use Rattle.plain_pool.specs.Ready.{AreFewRecords, AreWhole, IsLeastWith, IsReadyIn, ScanFits, lesser_moment, least_each, work_done_moment, running_work_moment, move_moment, block_moment, least_of_processor, due_moment, is_to_decide, decide_moment, is_to_save, save_moment, moved_moment, least_of_core, least_of_cores, least_of_vcpus, may_domain_move, dom_moved_moment, least_of_domain, least_of_domains, least_of_refills, refill_end, is_waiting_or_on, repl_end, least_of_units, least_of_all_units, least_of_timers, least_of_scheduler};
+ghost use Rattle.plain_pool.specs.Ready.{AreFewRecords, AreWhole, IsLeastWith, IsReadyIn, ScanFits, lesser_moment, least_each, work_done_moment, running_work_moment, move_moment, block_moment, least_of_processor, due_moment, is_to_decide, decide_moment, is_to_save, save_moment, moved_moment, is_core_calm, least_of_blocks, least_of_core, least_of_cores, least_of_vcpus, may_domain_move, dom_moved_moment, least_of_domain, least_of_domains, least_of_refills, refill_end, is_waiting_or_on, repl_end, least_of_units, least_of_all_units, least_of_timers, least_of_scheduler};
 
 use plain_schedulers::queue::has_unit;
 use pool_records::cores::{all_held, any_held, core_of, first_core, has_domain, is_held, is_open};
@@ -193,9 +193,37 @@ fn moved_end(core: &Resource) -> Option<Moment>
     end_if(may_move(core), first_end(core))
 }
 
-/// The least so far, or from when on something of the core may come.
+/// Whether the core is not to decide, stays, saves nothing and has no processor that is held.
+fn is_calm(core: &Resource) -> bool
+    ensures { result ≡ is_core_calm core.now }
+{
+    !core.pending && !core.leaving && core.saving.is_none() && !any_held(core.processors.as_slice())
+}
+
+/// The least so far, or from when on the vCPU of one of these processors may block.
+fn of_blocks(best: u64, pool: &Pool, processors: &[Processor]) -> u64
+    requires { PoolFits pool.now }
+    ensures { result ≡ least_of_blocks pool.now best processors.now }
+{
+    match processors {
+        [] => best,
+        [q, rest @ ..] => of_blocks(lesser(best, block_end(pool, q)), pool, rest),
+    }
+}
+
+/// The least so far, or from when on something of a calm core may come: nothing but its due and a block of its processors does.
+fn of_calm(best: u64, pool: &Pool, core: &Resource) -> u64
+    requires fits { PoolFits pool.now }
+    requires calm { is_core_calm core.now ≡ true }
+    ensures { result ≡ least_of_core pool.now best core.now }
+{
+    let blocks = of_blocks(best, pool, core.processors.as_slice());
+    lesser(blocks, due_end(core))
+}
+
+/// The same of a core that is not calm.
 #[tactic(auto, unfolding(crate::specs::Ready::least_of_core))]
-fn of_core(best: u64, pool: &Pool, core: &Resource) -> u64
+fn of_busy(best: u64, pool: &Pool, core: &Resource) -> u64
     requires { PoolFits pool.now }
     ensures { result ≡ least_of_core pool.now best core.now }
 {
@@ -206,6 +234,18 @@ fn of_core(best: u64, pool: &Pool, core: &Resource) -> u64
     lesser(saves, moved_end(core))
 }
 
+/// The least so far, or from when on something of the core may come. At the end of a moment most cores are calm.
+fn of_core(best: u64, pool: &Pool, core: &Resource) -> u64
+    requires { PoolFits pool.now }
+    ensures { result ≡ least_of_core pool.now best core.now }
+{
+    if is_calm(core) {
+        of_calm(best, pool, core)
+    } else {
+        of_busy(best, pool, core)
+    }
+}
+
 /// The same of each of these cores, of which the first has the number r.
 fn of_cores(r: usize, best: u64, pool: &Pool, cores: &[Option<Resource>]) -> u64
     requires few { r + length cores.now < 2 ^ 64 }
@@ -214,6 +254,7 @@ fn of_cores(r: usize, best: u64, pool: &Pool, cores: &[Option<Resource>]) -> u64
 {
     match cores {
         [] => best,
+        [None, None, None, None, rest @ ..] => of_cores(r + 4, best, pool, rest),
         [None, rest @ ..] => of_cores(r + 1, best, pool, rest),
         [Some(c), rest @ ..] => of_cores(r + 1, of_core(best, pool, c), pool, rest),
     }
@@ -266,6 +307,7 @@ fn of_domains(d: u8, best: u64, pool: &Pool, domains: &[Option<Domain>]) -> u64
 {
     match domains {
         [] => best,
+        [None, None, None, None, rest @ ..] => of_domains(d + 4, best, pool, rest),
         [None, rest @ ..] => of_domains(d + 1, best, pool, rest),
         [Some(x), rest @ ..] => {
             of_domains(d + 1, of_domain(best, pool, DomId(d), x), pool, rest)

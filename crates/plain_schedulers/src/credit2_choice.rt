@@ -38,8 +38,8 @@ fn contends(
     ensures { result ≡ is_contender affinity.now ask.now records.now over u }
 {
     !is_there(over, u)
-        && is_allowed(affinity, ask.home, ask.core, u)
         && domain_has_budget(records, u)
+        && is_allowed(affinity, ask.home, ask.core, u)
 }
 
 /// The unit of greatest credit: the best so far, which has this credit, or one of those that wait and contend; among equals the

@@ -1,6 +1,6 @@
 -- An event behind which, by what is known of the cores and the domains, each other one comes is the first that may come.
 use Rattle.std.proofs.Common.{◌≡◌, ◌≢◌, ◌≤◌, ◌<◌, ◌/◌, ◌⊎◌, ◌∙◌, ℕ, suc, Bool, true, false, List, refl, sym, ap, subst, arith, inl, inr}
-use Rattle.std.specs.Prelude.{Option, Some, None, is_some, Contains}
+use Rattle.std.specs.Prelude.{Option, Some, None, is_some, Contains, slice_set}
 use Rattle.std.proofs.Math.Decide.{ℕ_discrete, dec_lt}
 use Rattle.std.proofs.lemmas.Nat.{div-add-mod', le-div}
 use Rattle.std.proofs.lemmas.Bool.{or_cases}
@@ -190,6 +190,10 @@ module _ (m : Machine) (s : State) (stands : Stands m s) where
   pub core_nowhere : (r floor : ℕ) → home_pool_of_core s r ≡ None → IsCoreFloorAmong g s.now s.pools r floor
   core_nowhere r floor none = λ i pool at action own on. absurd (let home = core_home s.now r i pool action at own on in cc)
 
+  -- what has no home may wait for ever
+  pub core_homeless : (r wait : ℕ) (old : Waits) → home_pool_of_core s r ≡ None → AreLater g s.pools old → AreLater g s.pools (record old { cores = slice_set old.cores r wait })
+  core_homeless r wait old none later = core_awaited g s.now r s.pools old later wait (λ t i pool at action own on. absurd (let home = core_home t r i pool action at own on in cc))
+
   pub core_empty : (r k floor : ℕ) → home_pool_of_core s r ≡ Some k → at_place s.pools k ≡ None → IsCoreFloorAmong g s.now s.pools r floor
   core_empty r k floor there none = λ i pool at action own on. absurd (
       let same : i ≡ k = some_same (sym (core_home s.now r i pool action at own on) ∙ there) in
@@ -217,6 +221,10 @@ module _ (m : Machine) (s : State) (stands : Stands m s) where
 
   pub domain_nowhere : (r floor : ℕ) → home_pool_of_domain s r ≡ None → IsDomainFloorAmong g s.now s.pools r floor
   domain_nowhere r floor none = λ i pool at action own on. absurd (let home = domain_home s.now r i pool action at own on in cc)
+
+  -- what has no home may wait for ever
+  pub domain_homeless : (r wait : ℕ) (old : Waits) → home_pool_of_domain s r ≡ None → AreLater g s.pools old → AreLater g s.pools (record old { domains = slice_set old.domains r wait })
+  domain_homeless r wait old none later = domain_awaited g s.now r s.pools old later wait (λ t i pool at action own on. absurd (let home = domain_home t r i pool action at own on in cc))
 
   pub domain_empty : (r k floor : ℕ) → home_pool_of_domain s r ≡ Some k → at_place s.pools k ≡ None → IsDomainFloorAmong g s.now s.pools r floor
   domain_empty r k floor there none = λ i pool at action own on. absurd (

@@ -53,7 +53,10 @@ fn core_floor_now(waits: &mut Waits, machine: &Machine, state: &State, r: u8) ->
         return 13;
     }
     match home_of_core(state, ResId(r)) {
-        None => 13,
+        None => {
+            waits.cores[r as usize] = u64::MAX;
+            13
+        }
         Some(i) => match pool_at(state, i) {
             None => 13,
             Some(pool) => judge_core(
@@ -96,7 +99,10 @@ fn domain_floor_now(waits: &mut Waits, machine: &Machine, state: &State, d: u8) 
         return 13;
     }
     match home_of_domain(state, DomId(d)) {
-        None => 13,
+        None => {
+            waits.domains[d as usize] = u64::MAX;
+            13
+        }
         Some(i) => match pool_at(state, i) {
             None => 13,
             Some(pool) => judge_domain(

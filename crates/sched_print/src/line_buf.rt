@@ -2,7 +2,6 @@
 
 ghost use Rattle.std.specs.Prelude.{◌≡◌, ◌+◌, ◌<◌};
 
-use arrayvec::ArrayVec;
 use itoa::Buffer;
 use std::marker::Model;
 
@@ -12,7 +11,8 @@ pub const LINE_MOST: usize = 192;
 /// A line that is being written, of at most 192 bytes. Contracts see the list of its bytes.
 #[derive(Drop)]
 pub struct LineBuf {
-    bytes: ArrayVec<u8, LINE_MOST>,
+    bytes: [u8; LINE_MOST],
+    len: usize,
 }
 
 /// The character of a number below 10.
@@ -24,15 +24,17 @@ fn digit(number: u64) -> u8
 }
 
 impl Model for LineBuf {
-    ghost use Rattle.std.specs.Prelude.{List, ℕ};
+    ghost use Rattle.std.specs.Prelude.{◌≤◌, List, ℕ, take};
 
     ghost Value = { List ℕ };
 
-    ghost view = { λ b. b.bytes.items };
+    ghost view = { λ b. take b.len b.bytes };
+
+    ghost invariant = { λ b. b.len ≤ 192 };
 }
 
 impl LineBuf {
-    ghost use Rattle.std.specs.Prelude.{◌≡◌, ◌+◌, ◌≤◌, ◌++◌, [], length, take, decimal};
+    ghost use Rattle.std.specs.Prelude.{◌≡◌, ◌+◌, ◌≤◌, ◌++◌, ◌∷◌, [], length, take, decimal};
     ghost use Rattle.std.specs.Fmt.{signed_decimal};
 
     /// A buffer without bytes.
@@ -40,7 +42,8 @@ impl LineBuf {
         ensures { result ≡ [] }
     {
         LineBuf {
-            bytes: ArrayVec::new(),
+            bytes: [0; LINE_MOST],
+            len: 0,
         }
     }
 
@@ -48,21 +51,23 @@ impl LineBuf {
     pub fn clear(&mut self)
         ensures { self.new ≡ [] }
     {
-        self.bytes.clear();
+        self.len = 0;
     }
 
     /// How many bytes there are.
     pub fn len(&self) -> usize
         ensures { result ≡ length self.now }
     {
-        self.bytes.len()
+        self.len
     }
 
     /// Keeps the first bytes, so many of them, and takes out the rest.
     pub fn cut(&mut self, count: usize)
         ensures { self.new ≡ take count self.old }
     {
-        self.bytes.truncate(count);
+        if count < self.len {
+            self.len = count;
+        }
     }
 
     /// The bytes, of which there are at most 192.
@@ -70,7 +75,7 @@ impl LineBuf {
         ensures bytes { result.now ≡ self.now }
         ensures length { length result.now ≤ 192 }
     {
-        self.bytes.as_slice()
+        &self.bytes[..self.len]
     }
 
     /// Adds these bytes at the end.
@@ -79,7 +84,20 @@ impl LineBuf {
         ensures bytes { self.new ≡ self.old ++ bytes.now }
         ensures length { length self.new ≡ length self.old + length bytes.now }
     {
-        let _ = self.bytes.try_extend_from_slice(bytes);
+        let end = self.len + bytes.len();
+        self.bytes[self.len..end].copy_from_slice(bytes);
+        self.len = end;
+    }
+
+    /// Adds this byte at the end.
+    #[inline]
+    fn push(&mut self, byte: u8)
+        requires { length self.old + 1 ≤ 192 }
+        ensures bytes { self.new ≡ self.old ++ byte ∷ [] }
+        ensures length { length self.new ≡ length self.old + 1 }
+    {
+        self.bytes[self.len] = byte;
+        self.len += 1;
     }
 
     /// Adds the digits of a number at the end: at most 20.
@@ -90,9 +108,10 @@ impl LineBuf {
     {
         // Most numbers of a line have one digit or two.
         if number < 10 {
-            self.put(&[digit(number)]);
+            self.push(digit(number));
         } else if number < 100 {
-            self.put(&[digit(number / 10), digit(number % 10)]);
+            self.push(digit(number / 10));
+            self.push(digit(number % 10));
         } else {
             let mut buffer = Buffer::new();
             self.put(buffer.format(number).as_bytes());

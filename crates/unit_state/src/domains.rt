@@ -304,6 +304,7 @@ impl Guests {
     }
 
     /// The first vCPU, by domain, then by index, that sleeps and whose wake moment has come at t.
+    #[inline]
     pub fn first_wake(&self, t: Moment) -> Option<VcpuId>
         ensures none { IfNone result ((v : VcpuId) → is_due_among t.0 self.now.domains v ≡ false) }
         ensures due { IfSome result (λ v. is_due_among t.0 self.now.domains v ≡ true) }

@@ -11,7 +11,7 @@ returns-then-not-is_due-clause-none c =
     let winners = c.self.inside.winners.items in
     let none : is_armed_due moments c.args.t.0 (node_winner winners 1) ≡ false = cc in
     subst (λ (dues : List (Option Moment)). (id : ℕ) (at : Moment) → IsArmed dues id at → c.args.t.0 < at.0) c.self.view_is
-    (none_come c.args.t.0 moments winners c.self.invariant none)
+    (none_come c.args.t.0 moments winners c.self.invariant.0 none)
 
 pub returns-clause-come : goal.returns-clause-come
 returns-clause-come c =

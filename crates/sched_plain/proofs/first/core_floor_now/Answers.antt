@@ -1,7 +1,7 @@
 use Rattle.std.proofs.Common.{◌∙◌, sym, ap, arith}
 use Rattle.std.specs.Option.{option_copied}
 use Rattle.sched_plain.proofs.Bridges.{stands-machine, stands-pool, stands-state}
-use Rattle.sched_plain.proofs.FirstLaw.{core_empty, core_judged, core_nowhere, core_waits}
+use Rattle.sched_plain.proofs.FirstLaw.{core_empty, core_homeless, core_judged, core_nowhere, core_waits}
 use Rattle.sched_plain.proofs.SeenLaw.{core_not_yet}
 use Rattle.sched_plain.proofs.first.core_floor_now.Goals as goal
 
@@ -16,6 +16,9 @@ judge_core-requires-clause-some c = (stands-machine c.args.machine.now c.args.st
 
 pub judge_core-requires-clause-fits : goal.judge_core-requires-clause-fits
 judge_core-requires-clause-fits c = (stands-pool c.args.machine.now c.args.state.now c.requires.stands c.in-Some.i c.in-Some-pool_at.pool.now (sym c.pool_at.ensures ∙ ap option_copied c.in-Some-pool_at.is)).fits
+
+pub returns-in-None-clause-waits : goal.returns-in-None-clause-waits
+returns-in-None-clause-waits c = core_homeless c.args.machine.now c.args.state.now c.requires.stands c.args.r 18446744073709551615 c.args.waits.now (sym c.home_of_core.ensures ∙ c.in-None.is) c.requires.waits
 
 pub returns-in-None-clause-floor : goal.returns-in-None-clause-floor
 returns-in-None-clause-floor c = core_nowhere c.args.machine.now c.args.state.now c.requires.stands c.args.r 13 (sym c.home_of_core.ensures ∙ c.in-None.is)

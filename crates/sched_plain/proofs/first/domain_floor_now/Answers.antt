@@ -1,7 +1,7 @@
 use Rattle.std.proofs.Common.{◌∙◌, sym, ap, arith}
 use Rattle.std.specs.Option.{option_copied}
 use Rattle.sched_plain.proofs.Bridges.{stands-machine, stands-pool, stands-state}
-use Rattle.sched_plain.proofs.FirstLaw.{domain_empty, domain_judged, domain_nowhere, domain_waits}
+use Rattle.sched_plain.proofs.FirstLaw.{domain_empty, domain_homeless, domain_judged, domain_nowhere, domain_waits}
 use Rattle.sched_plain.proofs.SeenLaw.{domain_not_yet}
 use Rattle.sched_plain.proofs.first.domain_floor_now.Goals as goal
 
@@ -16,6 +16,9 @@ judge_domain-requires-clause-some c = (stands-machine c.args.machine.now c.args.
 
 pub judge_domain-requires-clause-fits : goal.judge_domain-requires-clause-fits
 judge_domain-requires-clause-fits c = (stands-pool c.args.machine.now c.args.state.now c.requires.stands c.in-Some.i c.in-Some-pool_at.pool.now (sym c.pool_at.ensures ∙ ap option_copied c.in-Some-pool_at.is)).fits
+
+pub returns-in-None-clause-waits : goal.returns-in-None-clause-waits
+returns-in-None-clause-waits c = domain_homeless c.args.machine.now c.args.state.now c.requires.stands c.args.d 18446744073709551615 c.args.waits.now (sym c.home_of_domain.ensures ∙ c.in-None.is) c.requires.waits
 
 pub returns-in-None-clause-floor : goal.returns-in-None-clause-floor
 returns-in-None-clause-floor c = domain_nowhere c.args.machine.now c.args.state.now c.requires.stands c.args.d 13 (sym c.home_of_domain.ensures ∙ c.in-None.is)

@@ -5,7 +5,7 @@ use Rattle.core_state.proofs.Leasts.{first_same}
 use Rattle.core_state.proofs.cores.CoreState.first_save.Goals as goal
 
 pub first_due_core-requires : goal.first_due_core-requires
-first_due_core-requires c = c.self.invariant.armed.saves.ids
+first_due_core-requires c = c.self.invariant.0.armed.saves.ids
 
 pub returns : goal.returns
-returns c = first_same (λ n. Save (core n)) c.args.t.0 (number_of_core c.first_due_core.result) c.self.view_is c.self.invariant.armed.saves c.first_due_core.ensures
+returns c = first_same (λ n. Save (core n)) c.args.t.0 (number_of_core c.first_due_core.result) c.self.view_is c.self.invariant.0.armed.saves c.first_due_core.ensures

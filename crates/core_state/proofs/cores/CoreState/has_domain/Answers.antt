@@ -10,8 +10,8 @@ use Rattle.core_state.proofs.cores.CoreState.has_domain.Goals as goal
 
 pub has_domain-requires : goal.has_domain-requires
 has_domain-requires c =
-    let few : length c.as_slice.result.now ≤ 64 = few_places c.self.inside.granularity (length c.as_slice.result.now) c.self.invariant.cores.granularity
-    (subst (λ (xs : List (Option Resource)). length xs * c.self.inside.granularity ≤ 64) (sym c.as_slice.ensures) c.self.invariant.cores.places) in
+    let few : length c.as_slice.result.now ≤ 64 = few_places c.self.inside.granularity (length c.as_slice.result.now) c.self.invariant.0.cores.granularity
+    (subst (λ (xs : List (Option Resource)). length xs * c.self.inside.granularity ≤ 64) (sym c.as_slice.ensures) c.self.invariant.0.cores.places) in
     omega (arith, few)
 
 pub returns : goal.returns

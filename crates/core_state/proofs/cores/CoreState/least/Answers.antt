@@ -9,7 +9,7 @@ use Rattle.core_state.proofs.cores.CoreState.least.Goals as goal
 pub returns : goal.returns
 returns c =
     subst (λ (seen : Seen). IsLeast (ready_within seen) c.earlier-3.result) c.self.view_is
-    (least_within (seen_of c.self.inside.granularity c.self.inside.cores c.self.inside.works) c.self.inside.dues c.earlier-3.result c.self.invariant.armed
+    (least_within (seen_of c.self.inside.granularity c.self.inside.cores c.self.inside.works) c.self.inside.dues c.earlier-3.result c.self.invariant.0.armed
     (least_six c.self.inside.dues c.least_of-slices.result c.least_of-decides.result c.least_of-saves.result c.least_of-blocks.result c.least_of-arrives.result c.least_of-leaves.result
     c.earlier.result c.earlier-of_cores.result c.earlier-2.result c.earlier-of_processors.result c.earlier-3.result
     c.least_of-slices.ensures c.least_of-decides.ensures c.least_of-saves.ensures c.least_of-blocks.ensures c.least_of-arrives.ensures c.least_of-leaves.ensures

@@ -7,7 +7,7 @@ use Rattle.core_state.specs.Ends.{lowest_among}
 use Rattle.core_state.proofs.cores.CoreState.lowest_end.Goals as goal
 
 pub lowest_end-requires : goal.lowest_end-requires
-lowest_end-requires c = c.self.invariant.is_first ∙ ap (first_place 0 (λ (x : Resource). true)) (sym c.as_slice.ensures)
+lowest_end-requires c = c.self.invariant.0.is_first ∙ ap (first_place 0 (λ (x : Resource). true)) (sym c.as_slice.ensures)
 
 pub returns : goal.returns
 returns c = c.lowest_end.ensures ∙ ap lowest_among c.as_slice.ensures ∙ ap (λ (seen : Seen). lowest_among seen.resources) c.self.view_is

@@ -5,7 +5,7 @@ use Rattle.core_state.proofs.cores.CoreState.places.Goals as goal
 
 pub overflow_cast-result : goal.overflow_cast-result
 overflow_cast-result c =
-    let few = few_places c.self.inside.granularity (length c.self.inside.cores) c.self.invariant.cores.granularity c.self.invariant.cores.places in
+    let few = few_places c.self.inside.granularity (length c.self.inside.cores) c.self.invariant.0.cores.granularity c.self.invariant.0.cores.places in
     omega (arith, few, c.len.ensures)
 
 pub returns : goal.returns

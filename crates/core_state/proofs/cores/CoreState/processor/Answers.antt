@@ -6,7 +6,7 @@ use Rattle.core_state.proofs.cores.CoreState.processor.Goals as goal
 use Rattle.sched_laws.proofs.SiblingsLaw.{some_processor}
 
 pub processor_at-requires : goal.processor_at-requires
-processor_at-requires c = some_processor c.self.inside.granularity c.self.invariant.cores.granularity
+processor_at-requires c = some_processor c.self.inside.granularity c.self.invariant.0.cores.granularity
 
 pub returns : goal.returns
 returns c =
