@@ -11,7 +11,7 @@ ghost use Rattle.sched_base.specs.Credit2Numbers as numbers;
 /// No unit takes less than this at once, where the budget has so much.
 pub const LEAST_QUOTA: i64 = 500_000;
 
-/// The budget that a cap gives for each 10,000,000 nanoseconds. The cap is in percent of one processor.
+/// The budget that a cap gives for each 10,000,000 nanoseconds. The cap is in percent of one core.
 pub fn total(cap: u32) -> i64
     requires { cap ≤ 6400 }
     ensures { result ≡ pos (numbers.cap_budget cap) }

@@ -5,10 +5,6 @@ use Rattle.std.proofs.lemmas.Int.{ints}
 use Rattle.std.proofs.lemmas.Nat.{le-div, div_below}
 use Rattle.std.proofs.lemmas.Bool.{cases_Bool}
 
--- a credit that is less already stays less
-pub below_before : (a b : ℤ) (k : ℕ) → int_lt a b ≡ true → int_lt (a -ℤ pos k) b ≡ true
-below_before a b k less = grind (arith, ints, less)
-
 -- a charge takes a credit below another one where it makes up for the step below it, times the weight
 pub below_by_charge : (a b : ℤ) (step charge weight : ℕ) → 1 ≤ weight → pos step ≡ (a -ℤ b) +ℤ pos 1 → nat_le (step * weight) charge ≡ int_lt (a -ℤ pos (charge / weight)) b
 below_by_charge a b step charge weight some is = elim (cases_Bool (nat_le (step * weight) charge)) [

@@ -7,12 +7,12 @@ use Rattle.sched_base.specs.declared.UnitId.{UnitId}
 use Rattle.sched_model.specs.declared.state.Resource.{Resource}
 use Rattle.sched_model.specs.Places.{at_place, has_listed_unit, is_unit}
 use Rattle.sched_model.specs.EligibleUnits.{is_allowed_by, is_unit_eligible}
-use Rattle.sched_model.specs.Credit2.{has_domain_budget}
+use Rattle.sched_model.specs.Credit2.{has_domain_budget, richest_unit}
 use Rattle.sched_laws.specs.PoolFacts.{IfUnit}
-use Rattle.sched_laws.proofs.Choices.{at_unit}
+use Rattle.sched_laws.proofs.Choices.{at_unit, greatest_has}
 use Rattle.sched_laws.proofs.EachPlace.{place_below}
-use Rattle.settle_laws.proofs.Credit2.{before, greatest_is, strict}
-use Rattle.settle_laws.proofs.Foremost.{best_by, best_has, none_before_any, none_best}
+use Rattle.record_laws.proofs.Best.{is_best, none_listed}
+use Rattle.record_laws.proofs.Orders.{credit_order, greatest_scan}
 use Rattle.settle_laws.proofs.Waiting.{Filtered, filter_has, has_filter}
 use Rattle.sched_ops.specs.Affinity.{is_member_among}
 use Rattle.sched_ops.specs.Seen.{scheduler_without_unit}
@@ -43,8 +43,8 @@ module _ (h : Credit2State) (ready : Ready) (u : UnitId) (later : IsLater h read
   abbrev units : List UnitId
   units = filter may_run (arrivals h.queue.units)
 
-  first_is : ready.first ≡ best_by (before h.records) None units
-  first_is = later.kept.first ∙ first_greatest h.records may_run h.queue.units later.ordered later.sound.line.keys ∙ greatest_is h.records None units
+  first_is : ready.first ≡ richest_unit h.records None units
+  first_is = later.kept.first ∙ first_greatest h.records may_run h.queue.units later.ordered later.sound.line.keys
 
   each_waits : AllByRecursion (Filtered may_run (arrivals h.queue.units)) units
   each_waits = each_has units (Filtered may_run (arrivals h.queue.units)) (filter_has may_run (arrivals h.queue.units))
@@ -56,17 +56,17 @@ module _ (h : Credit2State) (ready : Ready) (u : UnitId) (later : IsLater h read
       there = has_filter may_run (arrivals h.queue.units) u waits (and_right (is_allowed_by h.affinity home core u) (may_run u) may)
 
       by_first : (o : Option UnitId) → ready.first ≡ o → IsBehind (scheduler_in h) home core t u
-      by_first None none = absurd (none_best (before h.records) None u units there (sym first_is ∙ none))
+      by_first None none = absurd (none_listed (credit_order h.records) (greatest_scan h.records) None u units there (sym first_is ∙ none))
       by_first (Some w) some =
-          let best : best_by (before h.records) None units ≡ Some w = sym first_is ∙ some in
-          let found : Filtered may_run (arrivals h.queue.units) w = subst (IfUnit (Filtered may_run (arrivals h.queue.units))) best (best_has (before h.records) (Filtered may_run (arrivals h.queue.units)) None units tt each_waits) in
+          let best : richest_unit h.records None units ≡ Some w = sym first_is ∙ some in
+          let found : Filtered may_run (arrivals h.queue.units) w = subst (IfUnit (Filtered may_run (arrivals h.queue.units))) best (greatest_has (Filtered may_run (arrivals h.queue.units)) h.records None units tt each_waits) in
           let joined : is_member_among h.affinity w ≡ true = at_unit (λ x. is_member_among h.affinity x ≡ true) w (arrivals h.queue.units) found.waits later.sound.line.joined in
           record {
             other = w;
             waits = found.waits;
             apart = same_unit-swap w u (sym (ap (λ (o : Option UnitId). is_unit o u) some) ∙ later.other);
             may = ap (λ (b : Bool). b && may_run w) (free_allows h.unpinned h.affinity home core w later.sound.free later.free joined low) ∙ found.passes;
-            after = none_before_any (before h.records) (strict h.records) None w u units there best;
+            after = (is_best (credit_order h.records) (greatest_scan h.records) None units w best).none_better u there;
           }
 
   pub none_comes : (cores : List (Option Resource)) (t home r : ℕ) → length cores ≤ 64 → is_core_wanted t home (scheduler_without_unit u (scheduler_in h)) r (at_place cores r) ≡ false → is_core_wanted t home (scheduler_in h) r (at_place cores r) ≡ false

@@ -1,5 +1,5 @@
 -- What a decision leaves.
-use Rattle.std.proofs.Common.{◌≡◌, ◌≤◌, ℕ, zero, suc, true, length, refl, subst, sym, ◌∙◌, arith, inl, inr, ◌⊎◌}
+use Rattle.std.proofs.Common.{◌≡◌, ◌≤◌, ℕ, true, length, refl, ap, subst, sym, ◌∙◌, arith, inl, inr, ◌⊎◌}
 use Rattle.std.specs.Prelude.{Option, Some, None}
 use Rattle.sched_base.specs.declared.UnitId.{UnitId}
 use Rattle.sched_model.specs.declared.ask.Ask.{Ask}
@@ -8,11 +8,12 @@ use Rattle.sched_model.specs.declared.state.Credit2Unit.{Credit2Unit}
 use Rattle.sched_model.specs.declared.state.Credit2Records.{Credit2Records}
 use Rattle.sched_model.specs.declared.state.Records.TheVariants.{Credit2Pool}
 use Rattle.sched_model.specs.Places.{has_listed_unit}
-use Rattle.sched_model.specs.Credit2.{burn_all, own_burned_records, reset_records, off_records, credit2_choice, credit2_decision_for, has_domain_budget}
+use Rattle.sched_model.specs.Credit2.{own_burned_records, reset_records, off_records, credit2_choice, credit2_decision_for, has_domain_budget}
 use Rattle.sched_model.specs.Policy.{decision_by}
 use Rattle.scheduler_records.specs.Parts.{credit2_scheduler}
 use Rattle.sched_laws.proofs.EachPlace.{length_change_each}
 use Rattle.sched_laws.proofs.Choices.{decision_has, at_unit}
+use Rattle.record_laws.proofs.Credit2Seen.{reset_is}
 use Rattle.sched_laws.specs.PoolFacts.{IfUnit}
 use Rattle.state_ranges.proofs.Decided.{choice_pays, unit_rec}
 use Rattle.sched_ops.specs.Conditions.{IsOwnOf}
@@ -25,26 +26,23 @@ use Rattle.credit2_core.specs.Credit2State.{IsSound, IsLineOf, IsSameRoom, sched
 use Rattle.credit2_core.proofs.Lists.{each_has}
 use Rattle.credit2_core.proofs.Members.{count_there, waits_off}
 use Rattle.credit2_core.proofs.Ranges.{Few, range_later, range_idle, range_ran}
-use Rattle.credit2_core.proofs.Same.{alike_burn_cur, alike_switch_off, alike_ran}
+use Rattle.credit2_core.proofs.Same.{alike_idle, alike_ran}
 use Rattle.std.proofs.lemmas.Bool.{ltb-true}
 
 pub length_reset : (t k : ℕ) (records : Credit2Records) → length (reset_records t k records).domains ≡ length records.domains
-length_reset t zero records = refl
-length_reset t (suc k) records = length_change_each 0 _ (burn_all t records).domains ∙ length_change_each 0 _ records.domains
+length_reset t k records = ap length (reset_is t k records) ∙ length_change_each 0 _ records.domains
 
 -- the core idles
 pub sound_idle : (h : Credit2State) (ask : Ask) → IsSound h → h.latest ≤ ask.at.0 → IsLineOf h.affinity (off_records ask.cur (own_burned_records ask.cur ask.at.0 h.records)) h.queue.units → IsSound (record h { records = off_records ask.cur (own_burned_records ask.cur ask.at.0 h.records); latest = ask.at.0 })
 sound_idle h ask sound past line =
-    let burned : Credit2Records = own_burned_records ask.cur ask.at.0 h.records in
-    let one = alike_burn_cur ask.cur ask.at.0 h.records in
-    let two = alike_switch_off ask.cur burned in
+    let alike = alike_idle ask.cur ask.at.0 h.records in
     record {
       range = range_idle ask (scheduler_in h) h.records (range_later h.latest ask.at.0 h.records past sound.range);
-      counts = sound.counts ∙ sym (two.counts ∙ one.counts);
+      counts = sound.counts ∙ sym alike.counts;
       line = line;
       masks = sound.masks;
       free = sound.free;
-      refills = sound.refills ∙ sym (two.refills ∙ one.refills);
+      refills = sound.refills ∙ sym alike.refills;
       room = sound.room;
       small = sound.small;
     }
@@ -68,19 +66,18 @@ sound_ran h ask u k q sound past own is line room =
     let pays : has_domain_budget burned u ≡ true = subst (IfUnit (λ w. has_domain_budget burned w ≡ true)) chosen (choice_pays ask.at.0 Few ask (scheduler_in h) burned) in
     let joined : is_member_among h.affinity u ≡ true = elim from [ inl cur ↦ (own u cur).member | inr waits ↦ at_unit (λ w. is_member_among h.affinity w ≡ true) u (arrivals h.queue.units) waits sound.line.joined ] in
     let off : (ask.cur ≡ Some u) ⊎ ((y : Credit2Unit) → unit_rec h.records u ≡ Some y → y.burned ≡ None) = elim from [ inl cur ↦ inl cur | inr waits ↦ inr (waits_off (arrivals h.queue.units) h.records u sound.line.off waits) ] in
-    let one = alike_burn_cur ask.cur ask.at.0 h.records in
-    let two = alike_ran ask.cur ask.at.0 k u burned in
+    let alike = alike_ran ask.cur ask.at.0 k u h.records in
     let all = sound.room in
     let same = room.room in
     record {
       range = range_ran ask (scheduler_in h) h.records u k pays
           (λ x at. (let low = ltb-true u.n (joined_unit_count h.affinity u.dom.0) joined in let e = count_there h.affinity h.records.domains u.dom.0 x sound.counts at in omega (arith, low, e)))
           off (range_later h.latest ask.at.0 h.records past sound.range);
-      counts = sound.counts ∙ sym (two.counts ∙ one.counts);
+      counts = sound.counts ∙ sym alike.counts;
       line = line;
       masks = sound.masks;
       free = sound.free;
-      refills = sound.refills ∙ sym (two.refills ∙ one.refills);
+      refills = sound.refills ∙ sym alike.refills;
       room = omega (arith, all, same);
       small = sound.small;
     }

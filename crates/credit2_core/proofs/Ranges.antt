@@ -12,7 +12,7 @@ use Rattle.sched_model.specs.Places.{at_place, put_at, clear_at}
 use Rattle.sched_model.specs.CheckedMachine.{IsWithin}
 use Rattle.sched_model.specs.Credit2.{own_burned_records, off_records, records_with_terms, refilled_pool, fresh_credit2_domain, has_domain_budget}
 use Rattle.sched_laws.proofs.EachPlace.{EachPlace-put_at, EachPlace-clear_at, EachAt-put_at, EachAt-clear_at, length_set}
-use Rattle.state_ranges.proofs.Credit2.{c_burn_cur, c_reset, c_take, c_switch_off, c_set_running, c_fresh, c_set_domain, c_later}
+use Rattle.state_ranges.proofs.Credit2.{c_idle, c_ran, c_fresh, c_set_domain, c_later}
 use Rattle.state_ranges.specs.Fits.{Credit2DomainFits, Credit2Fits}
 use Rattle.state_ranges.specs.Budgets.{BudgetFits, Nobody}
 use Rattle.state_ranges.proofs.Budgets.{b_later, b_fresh}
@@ -86,7 +86,7 @@ pub range_idle : (ask : Ask) (scheduler : Scheduler) (records : Credit2Records) 
 range_idle ask scheduler records range =
     let n : ℕ = length records.domains in
     let burned : Credit2Records = own_burned_records ask.cur ask.at.0 records in
-    ranged ask.at.0 n (off_records ask.cur burned) range.few (c_switch_off n ask.at.0 ask.cur burned (c_burn_cur n ask.at.0 ask.cur records range.credits)) (decides_idle ask.at.0 Few ask scheduler records refl range.budgets)
+    ranged ask.at.0 n (off_records ask.cur burned) range.few (c_idle n ask.at.0 ask.cur records range.credits) (decides_idle ask.at.0 Few ask scheduler records refl range.budgets)
 
 -- with another count of units
 recount : (t : ℕ) (C D : ℕ → ℕ → Type 0) (records : Credit2Records) → ((d : ℕ) (x : Credit2Domain) → at_place records.domains d ≡ Some x → C d (length x.units) → D d (length x.units)) → Budgets t C None2 None2 records → Budgets t D None2 None2 records
@@ -103,5 +103,5 @@ range_ran ask scheduler records u k pays inside off range =
     let counted : Budgets t Inside None2 None2 records = recount t Few Inside records (λ d x at few. (few, λ same. inside x (subst (λ e. at_place records.domains e ≡ Some x) same at))) range.budgets in
     let after : Budgets t Inside None2 None2 (records_after_run ask.cur t k u burned) = decides_unit t Inside ask scheduler records refl counted u pays (λ j here. here.1 refl) off k in
     ranged t n (records_after_run ask.cur t k u burned) range.few
-    (c_set_running n t u _ (c_switch_off n t ask.cur _ (c_take n t u _ (c_reset n t k burned (c_burn_cur n t ask.cur records range.credits)))))
+    (c_ran n t ask.cur records range.credits k u)
     (recount t Inside Few (records_after_run ask.cur t k u burned) (λ d x at here. here.0) after)

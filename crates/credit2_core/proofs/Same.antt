@@ -1,17 +1,15 @@
 -- What the changes of one domain leave of the two tables.
-use Rattle.std.proofs.Common.{◌≡◌, ℕ, zero, suc, List, [], ◌∷◌, length, map, refl, ap, subst, sym, ◌∙◌, arith}
-use Rattle.std.specs.Prelude.{Option, Some, None, option_map, slice_set, slice_get, ◌==◌}
+use Rattle.std.proofs.Common.{◌≡◌, ℕ, zero, suc, List, [], ◌∷◌, length, map, refl, ap, ◌∙◌}
+use Rattle.std.specs.Prelude.{Option, Some, None, option_map, slice_set}
 use Rattle.sched_base.specs.Numbers.{moment}
 use Rattle.sched_base.specs.declared.UnitId.{UnitId}
 use Rattle.std.proofs.lemmas.List.{length-map}
 use Rattle.sched_model.specs.declared.state.Credit2Domain.{Credit2Domain}
 use Rattle.sched_model.specs.declared.state.Credit2Records.{Credit2Records}
-use Rattle.sched_model.specs.Places.{at_place, change_at, change_each, change_item}
-use Rattle.sched_model.specs.Credit2.{most_weight, burned_unit, burned_domain, change_domain, domain_after_return, own_burned_records, reset_records, domain_after_take, running_records, off_records, domain_after_refill, refilled_pool, domain_with_weight, domain_with_cap, records_with_terms}
-use Rattle.sched_laws.proofs.EachPlace.{by_option, by_cond}
-use Rattle.sched_laws.proofs.Lists.{length_change_item}
-use Rattle.scheduler_records.specs.Bounds.{own_charged, reset_by}
-use Rattle.scheduler_records.proofs.Steps.{burn_cur-own, reset-each}
+use Rattle.sched_model.specs.Places.{at_place, change_at, change_each}
+use Rattle.sched_model.specs.Credit2.{most_weight, burned_unit, burned_domain, change_domain, own_burned_records, off_records, domain_after_refill, refilled_pool, domain_with_weight, domain_with_cap, records_with_terms}
+use Rattle.record_laws.proofs.Credit2Seen.{idle_is, most_stays, ran_by_is}
+use Rattle.record_laws.proofs.Charges.{Leaves, leaves_chosen}
 use Rattle.credit2_core.specs.Choice.{records_after_run}
 use Rattle.credit2_core.specs.Places.{unit_counts, refill_of, refills_of}
 
@@ -45,29 +43,6 @@ counts_changed d f records same = map-change_at (λ (o : Option Credit2Domain). 
 pub refills_changed : (d : ℕ) (f : Credit2Domain → Credit2Domain) (records : Credit2Records) → SameRefill f → refills_of (change_domain d f records).domains ≡ refills_of records.domains
 refills_changed d f records same = map-change_at refill_of d f records.domains (λ x at. ap (option_map moment) (same x))
 
-give_count : (n : ℕ) → SameCount (domain_after_return n)
-give_count n x = by_option (λ (z : Credit2Domain). length z.units ≡ length x.units) (slice_get x.units n) x _ (λ none. refl) (λ u is. length_change_item n (λ y. record y { held = _ }) x.units)
-
-give_refill : (n : ℕ) → SameRefill (domain_after_return n)
-give_refill n x = by_option (λ (z : Credit2Domain). z.refill ≡ x.refill) (slice_get x.units n) x _ (λ none. refl) (λ u is. refl)
-
-own_count : (most t n : ℕ) → SameCount (own_charged most t n)
-own_count most t n x =
-    let charged : Credit2Domain = record x { units = change_item n (burned_unit most t x) x.units } in
-    let first : length charged.units ≡ length x.units = length_change_item n (burned_unit most t x) x.units in
-    by_cond (λ (z : Credit2Domain). length z.units ≡ length x.units) (x.cap == 0) charged (domain_after_return n charged) (λ free. first) (λ capped. give_count n charged ∙ first)
-
-own_refill : (most t n : ℕ) → SameRefill (own_charged most t n)
-own_refill most t n x =
-    let charged : Credit2Domain = record x { units = change_item n (burned_unit most t x) x.units } in
-    by_cond (λ (z : Credit2Domain). z.refill ≡ x.refill) (x.cap == 0) charged (domain_after_return n charged) (λ free. refl) (λ capped. give_refill n charged)
-
-take_count : (n : ℕ) → SameCount (domain_after_take n)
-take_count n x = by_cond (λ (z : Credit2Domain). length z.units ≡ length x.units) (x.cap == 0) x _ (λ free. refl) (λ capped. length_change_item n _ x.units)
-
-take_refill : (n : ℕ) → SameRefill (domain_after_take n)
-take_refill n x = by_cond (λ (z : Credit2Domain). z.refill ≡ x.refill) (x.cap == 0) x _ (λ free. refl) (λ capped. refl)
-
 weight_count : (weight : Option ℕ) → SameCount (domain_with_weight weight)
 weight_count None x = refl
 weight_count (Some weight) x = length-map x.units _
@@ -81,44 +56,19 @@ pub record IsAlike (records next : Credit2Records) : Type 0 where
   pub counts : unit_counts next.domains ≡ unit_counts records.domains
   pub refills : refills_of next.domains ≡ refills_of records.domains
 
-pub alike_burn_cur : (cur : Option UnitId) (t : ℕ) (records : Credit2Records) → IsAlike records (own_burned_records cur t records)
-alike_burn_cur None t records = record { counts = refl; refills = refl }
-alike_burn_cur (Some u) t records =
-    subst (IsAlike records) (sym (burn_cur-own u t records))
-    (record { counts = counts_changed u.dom.0 (own_charged (most_weight records) t u.n) records (own_count (most_weight records) t u.n); refills = refills_changed u.dom.0 (own_charged (most_weight records) t u.n) records (own_refill (most_weight records) t u.n) })
-
-pub alike_set_running : (from : Option ℕ) (u : UnitId) (records : Credit2Records) → IsAlike records (running_records from u records)
-alike_set_running from u records = record {
-  counts = counts_changed u.dom.0 (λ d. record d { units = change_item u.n (λ x. record x { burned = from }) d.units }) records (λ x. length_change_item u.n (λ y. record y { burned = from }) x.units);
-  refills = refills_changed u.dom.0 (λ d. record d { units = change_item u.n (λ x. record x { burned = from }) d.units }) records (λ x. refl);
+-- each domain keeps its refill and how many units it has
+alike_each : (records next : Credit2Records) (f : ℕ → Credit2Domain → Credit2Domain) → next.domains ≡ change_each 0 f records.domains → ((d : ℕ) (x : Credit2Domain) → Leaves x (f d x)) → IsAlike records next
+alike_each records next f is leaves = record {
+  counts = ap unit_counts is ∙ map-change_each (λ (o : Option Credit2Domain). option_map (λ (d : Credit2Domain). length d.units) o) 0 f records.domains (λ d x. ap (λ j. Some j) (leaves d x).count);
+  refills = ap refills_of is ∙ map-change_each refill_of 0 f records.domains (λ d x. ap (option_map moment) (leaves d x).refill);
 }
 
-pub alike_switch_off : (cur : Option UnitId) (records : Credit2Records) → IsAlike records (off_records cur records)
-alike_switch_off None records = record { counts = refl; refills = refl }
-alike_switch_off (Some u) records = alike_set_running None u records
+-- the core idles, or runs the unit
+pub alike_idle : (cur : Option UnitId) (t : ℕ) (records : Credit2Records) → IsAlike records (off_records cur (own_burned_records cur t records))
+alike_idle cur t records = alike_each records (off_records cur (own_burned_records cur t records)) _ (idle_is t cur records) (λ d x. leaves_chosen _ _ t 0 _ _ x (most_stays cur t records))
 
-alike_take : (u : UnitId) (records : Credit2Records) → IsAlike records (change_domain u.dom.0 (domain_after_take u.n) records)
-alike_take u records = record { counts = counts_changed u.dom.0 (domain_after_take u.n) records (take_count u.n); refills = refills_changed u.dom.0 (domain_after_take u.n) records (take_refill u.n) }
-
-alike_reset : (t k : ℕ) (records : Credit2Records) → IsAlike records (reset_records t k records)
-alike_reset t zero records = record { counts = refl; refills = refl }
-alike_reset t (suc k) records =
-    let f : ℕ → Credit2Domain → Credit2Domain = λ n. reset_by (most_weight records) t (suc k) in
-    subst (IsAlike records) (sym (reset-each t (suc k) records (omega arith)))
-    (record {
-      counts = map-change_each (λ (o : Option Credit2Domain). option_map (λ (d : Credit2Domain). length d.units) o) 0 f records.domains (λ n x. ap (λ j. Some j) (length-map (burned_domain (most_weight records) t x).units _ ∙ length-map x.units (burned_unit (most_weight records) t x)));
-      refills = map-change_each refill_of 0 f records.domains (λ n x. refl);
-    })
-
-alike_then : (a b c : Credit2Records) → IsAlike a b → IsAlike b c → IsAlike a c
-alike_then a b c one two = record { counts = two.counts ∙ one.counts; refills = two.refills ∙ one.refills }
-
-pub alike_ran : (cur : Option UnitId) (t k : ℕ) (u : UnitId) (records : Credit2Records) → IsAlike records (records_after_run cur t k u records)
-alike_ran cur t k u records =
-    let begun : Credit2Records = reset_records t k records in
-    let taken : Credit2Records = change_domain u.dom.0 (domain_after_take u.n) begun in
-    let off : Credit2Records = off_records cur taken in
-    alike_then records off (records_after_run cur t k u records) (alike_then records taken off (alike_then records begun taken (alike_reset t k records) (alike_take u begun)) (alike_switch_off cur taken)) (alike_set_running (Some t) u off)
+pub alike_ran : (cur : Option UnitId) (t k : ℕ) (u : UnitId) (records : Credit2Records) → IsAlike records (records_after_run cur t k u (own_burned_records cur t records))
+alike_ran cur t k u records = alike_each records (records_after_run cur t k u (own_burned_records cur t records)) _ (ran_by_is t cur records k u) (λ d x. leaves_chosen _ _ t k _ _ x (most_stays cur t records))
 
 pub counts_refilled : (t d : ℕ) (records : Credit2Records) → unit_counts (refilled_pool t d records).domains ≡ unit_counts records.domains
 counts_refilled t d records = counts_changed d (domain_after_refill (most_weight records) t) records (λ x. length-map x.units (burned_unit (most_weight records) t x))

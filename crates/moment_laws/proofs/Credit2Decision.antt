@@ -30,19 +30,20 @@ use Rattle.sched_base.proofs.Bools.{and_left, and_right, clash}
 use Rattle.sched_laws.proofs.Choices.{at_unit}
 use Rattle.sched_laws.proofs.EachPlace.{by_option, by_cond}
 use Rattle.sched_laws.proofs.Lists.{slice_get-change_item}
-use Rattle.moment_laws.proofs.BestUnits.{is_best, none_best}
+use Rattle.record_laws.proofs.Best.{is_best, none_best}
+use Rattle.record_laws.proofs.Orders.{credit_order, greatest_scan}
 use Rattle.moment_laws.specs.Stretches.{units}
 use Rattle.moment_laws.specs.Turns.{is_funded, ahead}
 use Rattle.moment_laws.specs.GoodDecisions.{DecidesWell, StirsNone, Secure, SecureThen, decision, next, Standing}
 use Rattle.moment_laws.proofs.Changed.{at_place-change_at, at_place-change_at_other}
 use Rattle.moment_laws.proofs.Waiting.{any_after, any_has, less_waits, filter_has, has_filter}
 use Rattle.moment_laws.specs.Credit2Turns.{face, faces, IsStill, HasUnit}
-use Rattle.moment_laws.proofs.Credit2Faces.{credit_at, credit_is, above, ahead_is, credits_change, faces_change, face_units, same_most, fewer_above, some_behind, above_most, face_of_unit, credit_order, greatest_scan}
+use Rattle.moment_laws.proofs.Credit2Faces.{credit_at, credit_is, above, ahead_is, credits_change, faces_change, face_units, same_most, fewer_above, some_behind, above_most, face_of_unit}
 use Rattle.moment_laws.proofs.Credit2Steps.{change_item_same, change_at_same, Has, has_change, burn_same, burn_credit, credit_then, credit_kept, gives, funded_gives, funded_takes, takes_funded, funded_runs, gives_budget, again_no_more, takes_less, LeavesOthers, gives_leaves, takes_leaves, runs_leaves}
 use Rattle.moment_laws.specs.Turns as turns
 
 -- two units of one domain differ in their index
-other_index : (u w : UnitId) → (u ≡ w → ⊥) → u.dom.0 ≡ w.dom.0 → u.n ≢ w.n
+pub other_index : (u w : UnitId) → (u ≡ w → ⊥) → u.dom.0 ≡ w.dom.0 → u.n ≢ w.n
 other_index u w other same index =
     let a : ◌≡◌ {A = UnitId} u (record { dom = w.dom; n = u.n }) = ap (λ (k : ℕ). record { dom = domain_number k; n = u.n }) same in
     let b : ◌≡◌ {A = UnitId} (record { dom = w.dom; n = u.n }) w = ap (λ (k : ℕ). record { dom = w.dom; n = k }) index in
@@ -233,9 +234,6 @@ module _ (m : Machine) (t : ℕ) (queue : List UnitId) (affinity : List (Option 
         by_within false e = elim (is_best (credit_order burned) (greatest_scan burned) own waiting w e).source [ inl o ↦ own_may w o | inr has ↦ waiting_may w has ]
 
     -- what is funded stays so while units go off and on
-    Funded : ℕ → Credit2Domain → Type 0
-    Funded n d = is_funded d n ≡ true
-
     off_has : (cur : Option UnitId) (rs : Credit2Records) (d n : ℕ) → Has (λ (x : Credit2Domain). is_funded x n ≡ true) rs.domains d → Has (λ (x : Credit2Domain). is_funded x n ≡ true) (credit2.off_records cur rs).domains d
     off_has None rs d n has = has
     off_has (Some u) rs d n has = has_change _ (λ (x : Credit2Domain). is_funded x n ≡ true) d u.dom.0 (running None u.n) rs.domains has (λ same x at f. funded_runs u.n n None x ∙ f) (λ ne x f. f)

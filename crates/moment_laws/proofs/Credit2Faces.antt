@@ -1,5 +1,5 @@
 -- The weights, caps and credits of a Credit2 pool, which a decision without a reset leaves as they are, and the greatest of some units.
-use Rattle.std.proofs.Common.{◌≡◌, ◌≤◌, ◌+◌, ℕ, zero, suc, Bool, true, List, [], ◌∷◌, refl, ap, sym, ◌∙◌}
+use Rattle.std.proofs.Common.{◌≡◌, ◌≤◌, ◌+◌, ℕ, zero, suc, true, List, [], ◌∷◌, refl, ap, sym, ◌∙◌}
 use Rattle.std.specs.Prelude.{Option, Some, None, ℤ, pos, int_lt, map, fold, max, option_map, slice_get}
 use Rattle.sched_base.specs.declared.UnitId.{UnitId}
 use Rattle.sched_model.specs.declared.state.Credit2Records.{Credit2Records}
@@ -7,13 +7,12 @@ use Rattle.sched_model.specs.declared.state.Credit2Domain.{Credit2Domain}
 use Rattle.sched_model.specs.declared.state.Credit2Unit.{Credit2Unit}
 use Rattle.sched_model.specs.declared.state.Records.TheVariants.{Credit2Pool}
 use Rattle.sched_model.specs.Places.{at_place, change_at, change_item, numbered_items}
-use Rattle.sched_model.specs.Credit2.{unit_credit, richest_unit}
+use Rattle.sched_model.specs.Credit2.{unit_credit}
 use Rattle.sched_laws.specs.Counts.{total}
-use Rattle.moment_laws.proofs.BestUnits.{IsOrder, IsScan}
 use Rattle.moment_laws.specs.Turns.{how_many, ahead}
 use Rattle.sched_base.specs.Numbers.{one_if}
 use Rattle.moment_laws.proofs.Sums.{count_no_more, count_less, total_no_more, total_less}
-use Rattle.moment_laws.proofs.Credit2Numbers.{lt_irrefl, lt_least, lt_trans}
+use Rattle.moment_laws.proofs.Credit2Numbers.{lt_irrefl, lt_trans}
 use Rattle.moment_laws.specs.Stretches.{units}
 use Rattle.moment_laws.specs.Credit2Turns.{Face, credits, face, Faces, faces, unit_total}
 
@@ -108,17 +107,3 @@ face_of_unit domains u d x at get =
     let a : at_place (faces domains) u.dom.0 ≡ Some (face d) = at_faces domains u.dom.0 ∙ ap (option_map face) at in
     let b = get_credits d.units u.n x get in
     (a, b, ap (λ (o : Option Face). elim o as (λ _. ℤ) [ None ↦ pos 0 | Some f ↦ credit_in f.2 u.n ]) a ∙ ap (λ (o : Option ℤ). elim o as (λ _. ℤ) [ None ↦ pos 0 | Some c ↦ c ]) b)
-
--- which of two units has more credit is an order, and the unit of greatest credit is the best one by it
-abbrev pub has_more : Credit2Records → UnitId → UnitId → Bool
-has_more records u b = int_lt (unit_credit records b) (unit_credit records u)
-
-pub credit_order : (records : Credit2Records) → IsOrder (has_more records)
-credit_order records = record {
-  irrefl = λ u. lt_irrefl (unit_credit records u);
-  trans = λ a b e x y. lt_trans (unit_credit records e) (unit_credit records b) (unit_credit records a) y x;
-  least = λ a b e x y. lt_least (unit_credit records a) (unit_credit records b) (unit_credit records e) x y;
-}
-
-pub greatest_scan : (records : Credit2Records) → IsScan (has_more records) (richest_unit records)
-greatest_scan records = record { ends = λ best. refl; starts = λ u xs. refl; goes_on = λ b u xs. refl }

@@ -7,9 +7,6 @@ use Rattle.sched_base.specs.Credit2Numbers.{taken_budget}
 pub lt_irrefl : (a : ℤ) → int_lt a a ≡ false
 lt_irrefl a = grind (arith, ints)
 
-pub lt_least : (a b e : ℤ) → int_lt b a ≡ true → int_lt b e ≡ false → int_lt a e ≡ false
-lt_least a b e x y = grind (arith, ints)
-
 pub lt_trans : (a b e : ℤ) → int_lt a b ≡ true → int_lt b e ≡ true → int_lt a e ≡ true
 lt_trans a b e x y = grind (arith, ints)
 

@@ -78,7 +78,7 @@ module _ (m : Machine) (checked : IsChecked m) (before : List Entry) (run : IsRu
     ready = λ r c at_r. record { frame = some_major; units = λ rs is w from. has_units rs is r c at_r w from };
   }
 
-ready_pools : (m : Machine) → IsChecked m → (before : List Entry) → IsRun m before → EachPlace (IsReadyPool m (state_after m before).now) (state_after m before).pools
+pub ready_pools : (m : Machine) → IsChecked m → (before : List Entry) → IsRun m before → EachPlace (IsReadyPool m (state_after m before).now) (state_after m before).pools
 ready_pools m checked before run i pool at = ready_pool m checked before run i pool at
 
 -- what is to come of the state, with what is on its way

@@ -70,6 +70,14 @@ pub record Scripted (t : ℕ) (pool : Pool) (v : VcpuId) (x : Vcpu) : Type 0 whe
   is_checked : IsCheckedScript script
   fits : VcpuFits t script x
 
+pub span_there : (script : List Span) → IsCheckedScript script → (n : ℕ) → n < length script → 1 ≤ (slice_index_or script n (span 0)).0
+span_there script is n low = of_spans script n low (recursion_from_All (λ (s : Span). IsWithin 1 most_span s.0) script is.spans)
+  where
+    of_spans : (xs : List Span) (n : ℕ) → n < length xs → AllByRecursion (λ (s : Span). IsWithin 1 most_span s.0) xs → 1 ≤ (slice_index_or xs n (span 0)).0
+    of_spans [] n low each = absurd (omega (arith, low))
+    of_spans (x ∷ xs) zero low each = each.0.least
+    of_spans (x ∷ xs) (suc n) low each = of_spans xs n (omega (arith, low)) each.1
+
 module _ (m : Machine) (checked : IsChecked m) (t : ℕ) (pool : Pool) (fits : PoolFits m t pool) where
   scripted : (v : VcpuId) (x : Vcpu) → pool_vcpu pool v ≡ Some x → Scripted t pool v x
   scripted v x = by_option (λ (o : Option Vcpu). o ≡ Some x → Scripted t pool v x) (at_place pool.domains v.dom.0) _ _ (λ none e. absurd (cc))
@@ -105,14 +113,6 @@ module _ (m : Machine) (checked : IsChecked m) (t : ℕ) (pool : Pool) (fits : P
 
   span_some : (script : List Span) → IsCheckedScript script → (n : ℕ) (w : Span) → slice_get script n ≡ Some w → 1 ≤ w.0
   span_some script is n w get = (each_get (λ (s : Span). IsWithin 1 most_span s.0) script n w (recursion_from_All (λ (s : Span). IsWithin 1 most_span s.0) script is.spans) get).least
-
-  span_there : (script : List Span) → IsCheckedScript script → (n : ℕ) → n < length script → 1 ≤ (slice_index_or script n (span 0)).0
-  span_there script is n low = of_spans script n low (recursion_from_All (λ (s : Span). IsWithin 1 most_span s.0) script is.spans)
-    where
-      of_spans : (xs : List Span) (n : ℕ) → n < length xs → AllByRecursion (λ (s : Span). IsWithin 1 most_span s.0) xs → 1 ≤ (slice_index_or xs n (span 0)).0
-      of_spans [] n low each = absurd (omega (arith, low))
-      of_spans (x ∷ xs) zero low each = each.0.least
-      of_spans (x ∷ xs) (suc n) low each = of_spans xs n (omega (arith, low)) each.1
 
   -- a sleeper that wakes, and a vCPU that falls asleep
   wakes_ripe : (v : VcpuId) (x : Vcpu) → Scripted t pool v x → has_moment_come t x.asleep_until ≡ true → (is_ripe t x ≡ true) × (is_ripe t (pools.woken_vcpu x) ≡ false)

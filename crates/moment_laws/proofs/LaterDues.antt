@@ -1,9 +1,9 @@
 -- A decision asks again later than at its own moment, and brings no deadline and no refill that has come.
 use Rattle.std.proofs.Common.{mod-lt, ◌≡◌, ◌≤◌, ◌<◌, ◌+◌, ◌-◌, ◌*◌, ℕ, zero, suc, Bool, true, false, not, List, [], ◌∷◌, refl, arith, ap, subst, sym, ◌∙◌, cond, ◌⊎◌, inl, inr}
-use Rattle.std.specs.Prelude.{Option, Some, None, is_some, nat_le, nat_lt, slice_get, map, min, max, ℤ, pos, negsuc, int_lt, ◌==◌, ◌&&◌, ◌||◌, ◌%◌, ◌/◌}
+use Rattle.std.specs.Prelude.{Option, Some, None, is_some, nat_le, nat_lt, slice_get, length, option_map, min, max, ℤ, pos, negsuc, int_lt, ◌==◌, ◌&&◌, ◌||◌, ◌%◌, ◌/◌}
 use Rattle.std.proofs.lemmas.Nat.{div-add-mod'}
 use Rattle.std.proofs.lemmas.Bool.{lt-leb}
-use Rattle.sched_base.specs.Credit2Numbers.{positive_part, slice_length, raised_credit}
+use Rattle.sched_base.specs.Credit2Numbers.{positive_part, slice_length}
 use Rattle.sched_base.specs.declared.Cores.{Cores}
 use Rattle.sched_base.specs.declared.UnitId.{UnitId}
 use Rattle.sched_model.specs.declared.ask.Ask.{Ask}
@@ -17,7 +17,7 @@ use Rattle.sched_model.specs.declared.state.Records.{Records}
 use Rattle.sched_model.specs.declared.state.Records.TheVariants.{Credit2Pool, RtdsPool, ArincPool, NullPool}
 use Rattle.sched_model.specs.declared.state.RtdsUnit.{RtdsUnit}
 use Rattle.sched_model.specs.declared.state.Scheduler.{Scheduler}
-use Rattle.sched_model.specs.Places.{at_place, change_at, change_each, change_item, has_listed_unit}
+use Rattle.sched_model.specs.Places.{at_place, change_item, has_listed_unit}
 use Rattle.sched_base.specs.Numbers.{has_moment_come}
 use Rattle.sched_model.specs.Arinc.{Window, window_among, frame_window, current_window}
 use Rattle.sched_model.specs.EligibleUnits.{Decision, is_unit_allowed, is_unit_eligible, eligible_units, has_cap_budget}
@@ -29,12 +29,16 @@ use Rattle.sched_model.specs.Policy.{decision_of}
 use Rattle.sched_base.proofs.Bools.{and_right}
 use Rattle.sched_laws.specs.Counts.{total}
 use Rattle.sched_laws.proofs.EachPlace.{by_cond, by_option}
-use Rattle.moment_laws.proofs.BestUnits.{is_best}
+use Rattle.record_laws.specs.Decisions.{number_in, own_charged, was_reset, taken_domain, decided_domain}
+use Rattle.record_laws.proofs.Changes.{own_number}
+use Rattle.record_laws.proofs.Credit2Seen.{most_stays, taken_records, decided_records, decided_domains, domain_burned, domain_took}
+use Rattle.record_laws.proofs.Charges.{leaves, leaves_taken, reset_budget}
+use Rattle.record_laws.proofs.Best.{is_best}
+use Rattle.record_laws.proofs.Orders.{before_order, credit_order, foremost_scan, greatest_scan}
 use Rattle.moment_laws.specs.Turns.{is_funded, ahead}
 use Rattle.moment_laws.proofs.Waiting.{has_filter}
-use Rattle.moment_laws.proofs.Credit2Faces.{credit_order, greatest_scan}
-use Rattle.moment_laws.proofs.Credit2Steps.{Has, has_change, takes_funded}
-use Rattle.moment_laws.proofs.RtdsKeys.{before_order, foremost_scan, passes_is}
+use Rattle.moment_laws.proofs.Credit2Steps.{Has, takes_funded}
+use Rattle.moment_laws.proofs.RtdsKeys.{passes_is}
 use Rattle.moment_laws.proofs.DueEvents.{of_credit2, of_rtds, of_records, is_deadline_due, is_refill_due, one_less, how_many_less, total-change_at_less, total-change_each_less}
 
 -- what is promised of a decision at the moment t
@@ -124,36 +128,12 @@ module _ (ask : Ask) (queue : List UnitId) (affinity : List (Option (List Cores)
       let some : 0 < rtds.unit_left_budget rtds_burned w = grind (arith, left) in
       record { due = lt-leb (ask.at.0 + rtds.unit_left_budget rtds_burned w) ask.at.0 (omega (arith, some)); records = omega (arith, a, b, c) }
 
--- Credit2: a refill changes by itself and with the cap alone, and the chosen unit holds some budget where its domain is capped
-pub same_refills : (t d : ℕ) (f : Credit2Domain → Credit2Domain) (domains : List (Option Credit2Domain)) → ((x : Credit2Domain) → (f x).refill ≡ x.refill) → total (of_credit2 t) (change_at d f domains) ≤ total (of_credit2 t) domains
-same_refills t d f domains same = total-change_at_less (of_credit2 t) d f domains (λ x at. one_less _ _ (λ due. subst (λ (o : Option ℕ). is_refill_due t o ≡ true) (same x) due))
-
-gives_refill : (n : ℕ) (x : Credit2Domain) → (cond (x.cap == 0) x (credit2.domain_after_return n x)).refill ≡ x.refill
-gives_refill n x =
-    by_cond (λ (y : Credit2Domain). y.refill ≡ x.refill) (x.cap == 0) x (credit2.domain_after_return n x) (λ is. refl)
-    (λ is. by_option (λ (y : Credit2Domain). y.refill ≡ x.refill) (slice_get x.units n) _ _ (λ none. refl) (λ u at. refl))
-
-takes_refill : (n : ℕ) (x : Credit2Domain) → (credit2.domain_after_take n x).refill ≡ x.refill
-takes_refill n x = by_cond (λ (y : Credit2Domain). y.refill ≡ x.refill) (x.cap == 0) x _ (λ is. refl) (λ is. refl)
-
--- a unit of a list stays there
-item_there : (i n : ℕ) (f : Credit2Unit → Credit2Unit) (xs : List Credit2Unit) → is_some (slice_get xs n) ≡ true → is_some (slice_get (change_item i f xs) n) ≡ true
-item_there i n f [] there = there
-item_there zero zero f (x ∷ xs) there = refl
-item_there zero (suc n) f (x ∷ xs) there = there
-item_there (suc i) zero f (x ∷ xs) there = there
-item_there (suc i) (suc n) f (x ∷ xs) there = item_there i n f xs there
-
-map_there : (n : ℕ) (f : Credit2Unit → Credit2Unit) (xs : List Credit2Unit) → is_some (slice_get xs n) ≡ true → is_some (slice_get (map f xs) n) ≡ true
-map_there n f [] there = there
-map_there zero f (x ∷ xs) there = refl
-map_there (suc n) f (x ∷ xs) there = map_there n f xs there
-
-each_has : (P Q : Credit2Domain → Type 0) (f : Credit2Domain → Credit2Domain) (n d : ℕ) (places : List (Option Credit2Domain)) → ((x : Credit2Domain) → P x → Q (f x)) → Has P places d → Has Q (change_each n (λ k x. f x) places) d
-each_has P Q f n d [] to has = (let e : None ≡ Some has.domain = has.at in absurd (cc))
-each_has P Q f n zero (None ∷ places) to has = (let e : None ≡ Some has.domain = has.at in absurd (cc))
-each_has P Q f n zero (Some x ∷ places) to has = (let e : Some x ≡ Some has.domain = has.at in let same : has.domain ≡ x = cc in record { domain = f x; at = refl; fact = to x (subst P same has.fact) })
-each_has P Q f n (suc d) (o ∷ places) to has = (let r = each_has P Q f (suc n) d places to (record { domain = has.domain; at = has.at; fact = has.fact }) in record { domain = r.domain; at = r.at; fact = r.fact })
+-- Credit2: a unit of a list stays there in one as long
+there_still : (n : ℕ) (xs ys : List Credit2Unit) → length ys ≡ length xs → is_some (slice_get xs n) ≡ true → is_some (slice_get ys n) ≡ true
+there_still n [] ys same there = absurd (cc)
+there_still n (x ∷ xs) [] same there = absurd (let e : 0 ≡ suc (length xs) = same in omega (arith, e))
+there_still zero (x ∷ xs) (y ∷ ys) same there = refl
+there_still (suc n) (x ∷ xs) (y ∷ ys) same there = there_still n xs ys (let e : suc (length ys) ≡ suc (length xs) = same in omega (arith, e)) there
 
 long_enough : (a limit : ℕ) → 0 < min (max a (max 500000 limit)) (max 10000000 limit)
 long_enough a limit = grind arith
@@ -182,50 +162,13 @@ module _ (ask : Ask) (queue : List UnitId) (affinity : List (Option (List Cores)
   abbrev chosen : Option UnitId
   chosen = credit2.credit2_choice ask scheduler burned
 
-  burn_less : (cur : Option UnitId) → left (credit2.own_burned_records cur t records) ≤ left records
-  burn_less None = omega arith
-  burn_less (Some u) =
-      let mid : Credit2Records = credit2.change_unit u (credit2.burned_unit (credit2.most_weight records) t) records in
-      let a = same_refills t u.dom.0 (λ (d : Credit2Domain). record d { units = change_item u.n (credit2.burned_unit (credit2.most_weight records) t d) d.units }) records.domains (λ x. refl) in
-      let b = same_refills t u.dom.0 (λ (d : Credit2Domain). cond (d.cap == 0) d (credit2.domain_after_return u.n d)) mid.domains (gives_refill u.n) in
-      omega (arith, a, b)
+  decided_less : (choice : Option UnitId) → left (decided_records ask records choice) ≤ left records
+  decided_less choice =
+      subst (λ (places : List (Option Credit2Domain)). total (of_credit2 t) places ≤ left records) (sym (decided_domains ask records choice))
+      (total-change_each_less (of_credit2 t) (decided_domain ask records choice) records.domains (λ d x. one_less _ _ (λ due. subst (λ (o : Option ℕ). is_refill_due t o ≡ true) (leaves ask records choice d x).refill due)))
 
-  off_less : (cur : Option UnitId) (x : Credit2Records) → left (credit2.off_records cur x) ≤ left x
-  off_less None x = omega arith
-  off_less (Some u) x = same_refills t u.dom.0 (λ (d : Credit2Domain). record d { units = change_item u.n (λ (y : Credit2Unit). record y { burned = None }) d.units }) x.domains (λ y. refl)
-
-  reset_less : (k : ℕ) (x : Credit2Records) → left (credit2.reset_records t k x) ≤ left x
-  reset_less zero x = omega arith
-  reset_less (suc k) x =
-      let mid : Credit2Records = credit2.burn_all t x in
-      let a = total-change_each_less (of_credit2 t) (λ n d. credit2.burned_domain (credit2.most_weight x) t d) x.domains (λ n d. omega arith) in
-      let b = total-change_each_less (of_credit2 t) (λ n d. record d { units = map (λ (y : Credit2Unit). record y { credit = raised_credit y.credit (suc k) }) d.units }) mid.domains (λ n d. omega arith) in
-      omega (arith, a, b)
-
-  -- the units stay there, and the budgets too in a reset
   abbrev There : ℕ → Credit2Domain → Type 0
   There n d = is_some (slice_get d.units n) ≡ true
-
-  abbrev Pays : ℕ → Credit2Domain → Type 0
-  Pays n d = (is_some (slice_get d.units n) ≡ true) × (has_cap_budget d ≡ true)
-
-  burn_there : (cur : Option UnitId) (d n : ℕ) → Has (There n) records.domains d → Has (There n) (credit2.own_burned_records cur t records).domains d
-  burn_there None d n has = has
-  burn_there (Some u) d n has =
-      let mid : Credit2Records = credit2.change_unit u (credit2.burned_unit (credit2.most_weight records) t) records in
-      let a = has_change (There n) (There n) d u.dom.0 (λ (x : Credit2Domain). record x { units = change_item u.n (credit2.burned_unit (credit2.most_weight records) t x) x.units }) records.domains has
-      (λ same x at there. item_there u.n n _ x.units there) (λ other x there. there) in
-      has_change (There n) (There n) d u.dom.0 (λ (x : Credit2Domain). cond (x.cap == 0) x (credit2.domain_after_return u.n x)) mid.domains a
-      (λ same x at there. by_cond (There n) (x.cap == 0) x (credit2.domain_after_return u.n x) (λ is. there)
-      (λ is. by_option (There n) (slice_get x.units u.n) _ _ (λ none. there) (λ y at2. item_there u.n n (λ z. record z { held = pos 0 }) x.units there))) (λ other x there. there)
-
-  reset_pays : (k : ℕ) (d n : ℕ) → Has (Pays n) burned.domains d → Has (Pays n) (credit2.reset_records t k burned).domains d
-  reset_pays zero d n has = has
-  reset_pays (suc k) d n has =
-      let mid : Credit2Records = credit2.burn_all t burned in
-      let a : Has (Pays n) mid.domains d = each_has (Pays n) (Pays n) (credit2.burned_domain (credit2.most_weight burned) t) 0 d burned.domains (λ x pays. (map_there n (credit2.burned_unit (credit2.most_weight burned) t x) x.units pays.0, pays.1)) has in
-      each_has (Pays n) (Pays n) (λ (x : Credit2Domain). record x { units = map (λ (y : Credit2Unit). record y { credit = raised_credit y.credit (suc k) }) x.units }) 0 d mid.domains
-      (λ x pays. (map_there n (λ (y : Credit2Unit). record y { credit = raised_credit y.credit (suc k) }) x.units pays.0, pays.1)) a
 
   -- the chosen unit goes on, or waits, and its domain has budget
   own_pays : (cur : Option UnitId) → ask.cur ≡ cur → (w : UnitId) → elim cur as (λ _. Option UnitId) [ None ↦ None | Some u ↦ cond (ask.runnable && is_unit_allowed scheduler ask.home.0 ask.core.0 u && credit2.has_domain_budget burned u) (Some u) None ] ≡ Some w
@@ -250,26 +193,33 @@ module _ (ask : Ask) (queue : List UnitId) (affinity : List (Option (List Cores)
 
   -- each unit that waits, and the core's own, has a record
   module _ (has_unit_there : (w : UnitId) → (ask.cur ≡ Some w) ⊎ (has_listed_unit queue w ≡ true) → Has (There w.n) records.domains w.dom.0) where
-    pays : (w : UnitId) → chosen ≡ Some w → Has (Pays w.n) burned.domains w.dom.0
-    pays w is =
-        let c = chosen_pays w is in
-        let there = burn_there ask.cur w.dom.0 w.n (has_unit_there w c.0) in
-        record { domain = there.domain; at = there.at; fact = (there.fact, sym (ap (λ (o : Option Credit2Domain). elim o as (λ _. Bool) [ None ↦ false | Some d ↦ has_cap_budget d ]) there.at) ∙ c.1) }
-
     abbrev taken : UnitId → Credit2Records
-    taken w = credit2.change_domain w.dom.0 (credit2.domain_after_take w.n) (credit2.reset_records t (credit2.reset_count t w burned) burned)
+    taken w = taken_records ask records w
 
     abbrev Lasts : ℕ → Credit2Domain → Type 0
     Lasts n d = (is_some (slice_get d.units n) ≡ true) × (is_funded d n ≡ true)
 
-    takes_there : (n : ℕ) (d : Credit2Domain) → There n d → There n (credit2.domain_after_take n d)
-    takes_there n d there = by_cond (There n) (d.cap == 0) d _ (λ is. there) (λ is. item_there n n _ d.units there)
-
     lasts : (w : UnitId) → chosen ≡ Some w → Has (Lasts w.n) (taken w).domains w.dom.0
     lasts w is =
+        let d : ℕ = w.dom.0 in
+        let c = chosen_pays w is in
+        let has = has_unit_there w c.0 in
+        let x : Credit2Domain = has.domain in
         let k : ℕ = credit2.reset_count t w burned in
-        has_change (Pays w.n) (Lasts w.n) w.dom.0 w.dom.0 (credit2.domain_after_take w.n) (credit2.reset_records t k burned).domains (reset_pays k w.dom.0 w.n (pays w is))
-        (λ same x at p. (takes_there w.n x p.0, takes_funded w.n x p.1 p.0)) (λ other x p. absurd (other refl))
+        let most : ℕ = credit2.most_weight records in
+        let most2 : ℕ = credit2.most_weight burned in
+        let same : most2 ≡ most = most_stays ask.cur t records in
+        let had : Option ℕ = number_in d ask.cur in
+        let first : Credit2Domain → Credit2Domain = own_charged most t had in
+        let y : Credit2Domain = was_reset most2 t k (first x) in
+        let there : There w.n y = there_still w.n x.units y.units (leaves_taken most most2 t k had None x same).count has.fact in
+        let charged : at_place burned.domains d ≡ Some (first x) = domain_burned ask records d ∙ ap (option_map first) has.at in
+        let pays : has_cap_budget y ≡ true = reset_budget most2 t k (first x) ∙ sym (ap (λ (o : Option Credit2Domain). elim o as (λ _. Bool) [ None ↦ false | Some z ↦ has_cap_budget z ]) charged) ∙ c.1 in
+        record {
+          domain = credit2.domain_after_take w.n y;
+          at = domain_took ask records w d ∙ ap (option_map (taken_domain most most2 t k had (number_in d (Some w)))) has.at ∙ ap (λ (o : Option ℕ). Some (taken_domain most most2 t k had o x)) (own_number w);
+          fact = (there_still w.n x.units _ (leaves_taken most most2 t k had (Some w.n) x same).count has.fact, takes_funded w.n y pays there);
+        }
 
     slice_lasts : (w : UnitId) (rs : Credit2Records) → Has (Lasts w.n) rs.domains w.dom.0 → 0 < credit2.chosen_slice ask scheduler rs w
     slice_lasts w rs has =
@@ -291,16 +241,10 @@ module _ (ask : Ask) (queue : List UnitId) (affinity : List (Option (List Cores)
             sym (ap (λ (o : Option Credit2Unit). elim o as (λ _. Bool) [ None ↦ false | Some z ↦ int_lt (pos 0) z.held ]) get) ∙ and_right (not (int_lt x.budget (pos 0))) _ rest
 
     credit2_later : (o : Option UnitId) → chosen ≡ o → DecidesLater t (Credit2Pool records) (credit2.credit2_decision_for ask scheduler burned o)
-    credit2_later None is = (let a = burn_less ask.cur in let b = off_less ask.cur burned in record { due = refl; records = omega (arith, a, b) })
+    credit2_later None is = record { due = refl; records = decided_less None }
     credit2_later (Some w) is =
-        let k : ℕ = credit2.reset_count t w burned in
-        let a = burn_less ask.cur in
-        let b = reset_less k burned in
-        let c = same_refills t w.dom.0 (credit2.domain_after_take w.n) (credit2.reset_records t k burned).domains (takes_refill w.n) in
-        let d = off_less ask.cur (taken w) in
-        let e = same_refills t w.dom.0 (λ (x : Credit2Domain). record x { units = change_item w.n (λ (y : Credit2Unit). record y { burned = Some t }) x.units }) (credit2.off_records ask.cur (taken w)).domains (λ x. refl) in
         let some = slice_lasts w (taken w) (lasts w is) in
-        record { due = lt-leb (t + credit2.chosen_slice ask scheduler (taken w) w) t (omega (arith, some)); records = omega (arith, a, b, c, d, e) }
+        record { due = lt-leb (t + credit2.chosen_slice ask scheduler (taken w) w) t (omega (arith, some)); records = decided_less (Some w) }
 
 -- what a decision needs of the pool
 pub record IsReady (ask : Ask) (queue : List UnitId) (records : Records) : Type 0 where

@@ -1,6 +1,6 @@
 -- What records say of the units of which it is known when their cores' legs began: each was charged since then, and what is left to it lasts at least from
 -- the leg's beginning to that charge; and no unit holds more than its quota.
-use Rattle.std.proofs.Common.{◌≡◌, ◌≤◌, ◌+◌, ◌-◌, ℕ, zero, suc, Bool, true, false, List, refl, arith, ap, cond, subst, sym, ◌∙◌, length, inl, inr}
+use Rattle.std.proofs.Common.{◌≡◌, ◌≤◌, ◌+◌, ◌-◌, ℕ, Bool, true, false, List, refl, arith, ap, cond, subst, sym, ◌∙◌, length, ◌⊎◌, inl, inr}
 use Rattle.std.specs.Prelude.{Option, Some, None, is_some, slice_get, map, ◌==◌, ℤ, pos, ◌+ℤ◌, ◌-ℤ◌, ◌≤ℤ◌}
 use Rattle.std.specs.Int.{int_min}
 use Rattle.std.proofs.lemmas.Int.{ints, clamps}
@@ -14,12 +14,13 @@ use Rattle.sched_model.specs.declared.state.RtdsUnit.{RtdsUnit}
 use Rattle.sched_model.specs.Places.{at_place, change_item}
 use Rattle.sched_model.specs.EligibleUnits.{rtds_unit_at}
 use Rattle.sched_model.specs.Rtds as rtds
-use Rattle.sched_model.specs.Credit2.{most_weight, burned_unit, burned_domain, burn_all, change_domain, change_unit, domain_after_return, own_burned_records, reset_records, domain_after_take, running_records, off_records, domain_after_refill, refilled_pool, domain_with_weight, domain_with_cap, records_with_terms}
+use Rattle.sched_model.specs.Credit2.{most_weight, burned_unit, burned_domain, change_domain, domain_after_return, domain_after_take, domain_after_refill, refilled_pool, domain_with_weight, domain_with_cap, records_with_terms}
 use Rattle.sched_laws.specs.EachPlace.{EachAt}
-use Rattle.sched_laws.proofs.EachPlace.{EachAt-change_at, EachAt-change_each, by_option, by_cond}
+use Rattle.sched_laws.proofs.EachPlace.{EachAt-change_at, by_option, by_cond}
 use Rattle.sched_laws.proofs.Lists.{length_change_item}
 use Rattle.sched_laws.proofs.Sound.{read_change_item}
 use Rattle.state_ranges.proofs.Budget.{get_map}
+use Rattle.record_laws.proofs.Charges.{KeptByCharges}
 use Rattle.moment_laws.specs.Turns.{keeps}
 
 -- charged last at a moment of the leg; what is left then and the span from the leg's beginning to there make no less than 0
@@ -210,28 +211,14 @@ module _ (On : ℕ → ℕ → ℕ → Type 0) (t : ℕ) where
       still x at = EachAt-change_at (λ k (x : Credit2Domain). (k ≡ d) → (n : ℕ) (y : Credit2Unit) → slice_get x.units n ≡ Some y → y.burned ≡ None → y.held ≡ pos 0) d (domain_with_weight weight) records.domains
           (λ k z at_z same. idle z (subst (λ j. at_place records.domains j ≡ Some z) same at_z)) (λ z at_z each same. weigh weight z (each same)) d x at refl
 
-  pub c_burn_cur : (cur : Option UnitId) (records : Credit2Records) → Credit2Kept records → Credit2Kept (own_burned_records cur t records)
-  c_burn_cur None records kept = kept
-  c_burn_cur (Some u) records kept =
-      let weight : ℕ = most_weight records in
-      let first : Credit2Kept (change_unit u (burned_unit weight t) records) = EachAt-change_at (λ d. DomainKept (On d) t) u.dom.0 (λ d. record d { units = change_item u.n (burned_unit weight t d) d.units }) records.domains kept
-      (λ x at here. kept_item (On u.dom.0) t u.n (burned_unit weight t x) x (λ y get. kept_burned (On u.dom.0 u.n) t (limit x) weight x y) here) in
-      EachAt-change_at (λ d. DomainKept (On d) t) u.dom.0 (λ d. cond (d.cap == 0) d (domain_after_return u.n d)) (change_unit u (burned_unit weight t) records).domains first
-      (λ x at here. by_cond (DomainKept (On u.dom.0) t) (x.cap == 0) x (domain_after_return u.n x) (λ free. here) (λ capped. kept_give_back (On u.dom.0) t u.n x here))
-
-  pub c_reset : (k : ℕ) (records : Credit2Records) → Credit2Kept records → Credit2Kept (reset_records t k records)
-  c_reset zero records kept = kept
-  c_reset (suc k) records kept =
-      let burned : Credit2Kept (burn_all t records) = EachAt-change_each (λ d. DomainKept (On d) t) (λ n d. burned_domain (most_weight records) t d) records.domains kept (λ d x at here. kept_burn_units (On d) t (most_weight records) x here) in
-      EachAt-change_each (λ d. DomainKept (On d) t) (λ n d. record d { units = map (λ (x : Credit2Unit). record x { credit = raised_credit x.credit (suc k) }) d.units }) (burn_all t records).domains burned
-      (λ d x at here. kept_map (On d) t (λ (y : Credit2Unit). record y { credit = raised_credit y.credit (suc k) }) x (λ n y get. kept_same (On d n) t (limit x) y _ refl refl) here)
-
-  pub c_take : (u : UnitId) (records : Credit2Records) → ((b : ℕ) → On u.dom.0 u.n b → ⊥) → Credit2Kept records → Credit2Kept (change_domain u.dom.0 (domain_after_take u.n) records)
-  c_take u records off kept = EachAt-change_at (λ d. DomainKept (On d) t) u.dom.0 (domain_after_take u.n) records.domains kept (λ x at here. kept_take (On u.dom.0) t u.n x off here)
-
-  pub c_running : (from : Option ℕ) (u : UnitId) (records : Credit2Records) → ((b : ℕ) → On u.dom.0 u.n b → ⊥) → Credit2Kept records → Credit2Kept (running_records from u records)
-  c_running from u records off kept = EachAt-change_at (λ d. DomainKept (On d) t) u.dom.0 (λ d. record d { units = change_item u.n (λ (x : Credit2Unit). record x { burned = from }) d.units }) records.domains kept (λ x at here. kept_running (On u.dom.0) t u.n from x off here)
-
-  pub c_switch_off : (cur : Option UnitId) (records : Credit2Records) → ((u : UnitId) → cur ≡ Some u → (b : ℕ) → On u.dom.0 u.n b → ⊥) → Credit2Kept records → Credit2Kept (off_records cur records)
-  c_switch_off None records off kept = kept
-  c_switch_off (Some u) records off kept = c_running None u records (off u refl) kept
+  -- a decision whose core neither had nor takes such a unit
+  pub charges_kept : (d most k : ℕ) (had has : Option ℕ) → ((n : ℕ) → (had ≡ Some n) ⊎ (has ≡ Some n) → (b : ℕ) → On d n b → ⊥) → KeptByCharges most t k had has (DomainKept (On d) t)
+  charges_kept d most k had has off = record {
+    charges = λ i x is. kept_item (On d) t i (burned_unit most t x) x (λ y get. kept_burned (On d i) t (limit x) most x y);
+    gives = λ i x is. kept_give_back (On d) t i x;
+    burns = λ x some. kept_burn_units (On d) t most x;
+    raises = λ x some. kept_map (On d) t (λ (y : Credit2Unit). record y { credit = raised_credit y.credit k }) x (λ n y get. kept_same (On d n) t (limit x) y _ refl refl);
+    takes = λ j x is. kept_take (On d) t j x (off j (inr is));
+    stops = λ i x is. kept_running (On d) t i None x (off i (inl is));
+    starts = λ j x is. kept_running (On d) t j (Some t) x (off j (inr is));
+  }

@@ -1,12 +1,12 @@
 -- What a decision keeps of a pool whose cores' open legs are given: the chosen unit's leg begins now, and it has some budget left, or holds what it took.
-use Rattle.std.proofs.Common.{◌≡◌, ◌≢◌, ◌≤◌, ◌<◌, ℕ, zero, suc, Bool, true, false, List, [], ◌∷◌, refl, arith, ap, cond, subst, sym, ◌∙◌, length, ◌⊎◌, inl, inr}
-use Rattle.std.specs.Prelude.{Option, Some, None, slice_get, map, nat_lt, int_lt, ◌&&◌, ◌==◌, ℤ, pos, ◌-ℤ◌, ◌≤ℤ◌}
+use Rattle.std.proofs.Common.{◌≡◌, ◌≢◌, ◌≤◌, ◌<◌, ℕ, Bool, true, false, List, [], ◌∷◌, refl, arith, ap, subst, sym, ◌∙◌, length, ◌⊎◌, inl, inr}
+use Rattle.std.specs.Prelude.{Option, Some, None, slice_get, nat_lt, int_lt, ◌&&◌, ◌==◌, ℤ, pos, ◌-ℤ◌, ◌≤ℤ◌}
 use Rattle.std.specs.List.{AllByRecursion}
 use Rattle.std.proofs.lemmas.Int.{ints, clamps}
 use Rattle.std.proofs.Math.Decide.{ℕ_discrete}
 use Rattle.std.proofs.lemmas.Bool.{or_cases}
 use Rattle.sched_base.specs.Numbers.{domain as domain_number}
-use Rattle.sched_base.specs.Credit2Numbers.{raised_credit, taken_budget}
+use Rattle.sched_base.specs.Credit2Numbers.{taken_budget}
 use Rattle.sched_base.specs.declared.UnitId.{UnitId}
 use Rattle.sched_model.specs.declared.ask.Ask.{Ask}
 use Rattle.sched_model.specs.declared.state.Credit2Unit.{Credit2Unit}
@@ -21,7 +21,7 @@ use Rattle.sched_model.specs.declared.state.Resource.{Resource}
 use Rattle.sched_model.specs.Places.{at_place, put_at, change_item, has_listed_unit, same_unit}
 use Rattle.sched_model.specs.EligibleUnits.{Decision, is_unit_allowed, is_unit_eligible, has_cap_budget, eligible_units, rtds_unit_at}
 use Rattle.sched_model.specs.Rtds as rtds
-use Rattle.sched_model.specs.Rtds.{unit_left_budget, first_of_units, is_unit_before}
+use Rattle.sched_model.specs.Rtds.{unit_left_budget, first_of_units}
 use Rattle.sched_model.specs.Credit2 as credit2
 use Rattle.sched_model.specs.Policy.{decision_of, decision_by}
 use Rattle.sched_model.specs.Pool as pools
@@ -30,7 +30,7 @@ use Rattle.sched_laws.proofs.Records.{same_decision}
 use Rattle.sched_laws.specs.EachPlace.{EachAt}
 use Rattle.sched_base.proofs.Bools.{and_right, or_more}
 use Rattle.sched_laws.proofs.Counts.{same_unit_refl}
-use Rattle.sched_laws.proofs.Choices.{decision_has}
+use Rattle.sched_laws.proofs.Choices.{decision_has, foremost_has}
 use Rattle.sched_laws.specs.PoolFacts.{IfUnit}
 use Rattle.sched_laws.proofs.EachPlace.{EachAt-change_to, EachAt-change_at, EachAt-change_each, at_place-put_at, at_place-put_at_other, at_place-clear_at_other, place_below, by_option, by_test, by_cond}
 use Rattle.sched_base.proofs.Lists.{AllByRecursion-filter}
@@ -39,7 +39,14 @@ use Rattle.sched_laws.proofs.Sound.{read_change_item}
 use Rattle.state_ranges.proofs.Decided.{choice_pays}
 use Rattle.moment_laws.specs.Stretches.{Legs, leg_of, units}
 use Rattle.moment_laws.proofs.RtdsKeys.{passes_is}
-use Rattle.moment_laws.proofs.LegCharges.{lasts_now, EachItem, item_change, RtdsKept, rtds_change, limit, Credit2Kept, c_burn_cur, c_reset, c_take, c_running, c_switch_off}
+use Rattle.sched_model.specs.Places.{is_unit}
+use Rattle.sched_laws.proofs.Choices.{same_unit_same}
+use Rattle.record_laws.specs.Decisions.{number_in, was_reset}
+use Rattle.record_laws.proofs.Changes.{numbered}
+use Rattle.record_laws.proofs.Credit2Seen.{records_decided, reset_is}
+use Rattle.record_laws.proofs.Charges.{kept_by_decisions, reset_budget}
+use Rattle.record_laws.proofs.RtdsSeen.{from_units, to_units, units_decided, units_kept}
+use Rattle.moment_laws.proofs.LegCharges.{lasts_now, EachItem, item_change, RtdsUnitKept, RtdsKept, limit, DomainKept, Credit2Kept, charges_kept}
 use Rattle.moment_laws.proofs.LegWalk.{OnSince, Charged, charged_less, IsLegged}
 use Rattle.moment_laws.proofs.Tests.{or_later}
 
@@ -100,11 +107,6 @@ all_units [] = tt
 all_units (u ∷ units) = (tt, all_units units)
 
 -- RTDS: a chosen unit has some budget left
-foremost_has : (P : UnitId → Type 0) (domains : List (Option (List RtdsUnit))) (best : Option UnitId) (units : List UnitId) → IfUnit P best → AllByRecursion P units → IfUnit P (first_of_units domains best units)
-foremost_has P domains best [] own each = own
-foremost_has P domains None (u ∷ units) own each = foremost_has P domains (Some u) units each.0 each.1
-foremost_has P domains (Some best) (u ∷ units) own each = foremost_has P domains (Some (cond (is_unit_before domains u best) u best)) units (by_cond P (is_unit_before domains u best) u best (λ is. each.0) (λ is. own)) each.1
-
 choice_left : (ask : Ask) (scheduler : Scheduler) (domains : List (Option (List RtdsUnit))) → IfUnit (λ u. nat_lt 0 (unit_left_budget domains u) ≡ true) (rtds.rtds_choice ask scheduler domains)
 choice_left ask scheduler domains =
     let P : UnitId → Type 0 = λ u. nat_lt 0 (unit_left_budget domains u) ≡ true in
@@ -150,10 +152,9 @@ module _ (t : ℕ) (u : UnitId) where
   Paid d x = EachItem (λ n (y : Credit2Unit). d ≡ u.dom.0 → n ≡ u.n → (x.cap ≡ 0) ⊎ (pos 0 ≤ℤ y.held)) x.units
 
   pays_reset : (k : ℕ) (records : Credit2Records) → EachAt Pays records.domains → EachAt Pays (credit2.reset_records t k records).domains
-  pays_reset zero records each = each
-  pays_reset (suc k) records each =
-      EachAt-change_each Pays (λ n d. record d { units = map (λ (x : Credit2Unit). record x { credit = raised_credit x.credit (suc k) }) d.units }) (credit2.burn_all t records).domains
-      (EachAt-change_each Pays (λ n d. credit2.burned_domain (credit2.most_weight records) t d) records.domains each (λ d x at here. here)) (λ d x at here. here)
+  pays_reset k records each =
+      subst (EachAt Pays) (sym (reset_is t k records))
+      (EachAt-change_each Pays (λ d. was_reset (credit2.most_weight records) t k) records.domains each (λ d x at here same. reset_budget (credit2.most_weight records) t k x ∙ here same))
 
   paid_taken : (records : Credit2Records) → EachAt Pays records.domains → EachAt Paid (credit2.change_domain u.dom.0 (credit2.domain_after_take u.n) records).domains
   paid_taken records each =
@@ -201,24 +202,26 @@ module _ (On : ℕ → ℕ → ℕ → Type 0) (ask : Ask) (scheduler : Schedule
   abbrev Off : Option UnitId → Type 0
   Off o = (u : UnitId) → o ≡ Some u → (b : ℕ) → On u.dom.0 u.n b → ⊥
 
-  rtds_off : (cur : Option UnitId) (domains : List (Option (List RtdsUnit))) → Off cur → RtdsKept On ask.at.0 domains → RtdsKept On ask.at.0 (rtds.off_domains cur domains)
-  rtds_off None domains off kept = kept
-  rtds_off (Some u) domains off kept = rtds_change On ask.at.0 u (λ x. record x { burned = None }) domains (λ x at old b on. absurd (off u refl b on)) kept
+  rtds_decides : (domains : List (Option (List RtdsUnit))) (chosen : Option UnitId) → Off ask.cur → Off chosen → RtdsKept On ask.at.0 domains → Charged On ask.at.0 (rtds.rtds_decision_for ask (rtds.own_burned_domains ask.cur ask.at.0 domains) chosen).records
+  rtds_decides domains chosen own off kept =
+      subst (Charged On ask.at.0) (sym (units_decided ask domains chosen))
+      (from_units (λ d. RtdsUnitKept On ask.at.0 d) _
+      (units_kept ask domains chosen (λ u. RtdsUnitKept On ask.at.0 u.dom.0 u.n)
+      (λ u. record { charges = λ x had old b on. absurd (is_off ask.cur own u had b on); stops = λ x had old b on. absurd (is_off ask.cur own u had b on); starts = λ x has old b on. absurd (is_off chosen off u has b on) })
+      (to_units (λ d. RtdsUnitKept On ask.at.0 d) domains kept)))
+    where
+      is_off : (o : Option UnitId) → Off o → (u : UnitId) → is_unit o u ≡ true → (b : ℕ) → On u.dom.0 u.n b → ⊥
+      is_off None off u is = absurd (cc)
+      is_off (Some w) off u is = off u (ap (λ (v : UnitId). Some v) (same_unit_same w u is))
 
-  rtds_burned : (cur : Option UnitId) (domains : List (Option (List RtdsUnit))) → Off cur → RtdsKept On ask.at.0 domains → RtdsKept On ask.at.0 (rtds.own_burned_domains cur ask.at.0 domains)
-  rtds_burned None domains off kept = kept
-  rtds_burned (Some u) domains off kept = rtds_change On ask.at.0 u (rtds.unit_burned_to ask.at.0) domains (λ x at old b on. absurd (off u refl b on)) kept
-
-  rtds_decides : (domains : List (Option (List RtdsUnit))) (chosen : Option UnitId) → Off ask.cur → Off chosen → RtdsKept On ask.at.0 domains → Charged On ask.at.0 (rtds.rtds_decision_for ask domains chosen).records
-  rtds_decides domains None own off kept = rtds_off ask.cur domains own kept
-  rtds_decides domains (Some u) own off kept = rtds_change On ask.at.0 u (λ x. record x { burned = Some ask.at.0 }) (rtds.off_domains ask.cur domains) (λ x at old b on. absurd (off u refl b on)) (rtds_off ask.cur domains own kept)
-
-  credit2_decides : (records : Credit2Records) (chosen : Option UnitId) → Off ask.cur → Off chosen → Credit2Kept On ask.at.0 records → Charged On ask.at.0 (credit2.credit2_decision_for ask scheduler records chosen).records
-  credit2_decides records None own off kept = c_switch_off On ask.at.0 ask.cur records own kept
-  credit2_decides records (Some u) own off kept =
-      let k : ℕ = credit2.reset_count ask.at.0 u records in
-      let taken : Credit2Records = credit2.change_domain u.dom.0 (credit2.domain_after_take u.n) (credit2.reset_records ask.at.0 k records) in
-      c_running On ask.at.0 (Some ask.at.0) u (credit2.off_records ask.cur taken) (off u refl) (c_switch_off On ask.at.0 ask.cur taken own (c_take On ask.at.0 u (credit2.reset_records ask.at.0 k records) (off u refl) (c_reset On ask.at.0 k records kept)))
+  credit2_decides : (records : Credit2Records) (chosen : Option UnitId) → Off ask.cur → Off chosen → Credit2Kept On ask.at.0 records → Charged On ask.at.0 (credit2.credit2_decision_for ask scheduler (credit2.own_burned_records ask.cur ask.at.0 records) chosen).records
+  credit2_decides records chosen own off kept =
+      subst (Charged On ask.at.0) (sym (records_decided ask records scheduler chosen))
+      (kept_by_decisions ask records (λ d. DomainKept (On d) ask.at.0) chosen
+      (λ d. charges_kept On ask.at.0 d _ _ (number_in d ask.cur) (number_in d chosen) (λ n is. elim is [ inl had ↦ is_off ask.cur own d n had | inr has ↦ is_off chosen off d n has ])) kept)
+    where
+      is_off : (o : Option UnitId) → Off o → (d n : ℕ) → number_in d o ≡ Some n → (b : ℕ) → On d n b → ⊥
+      is_off o off d n is b on = (let u = numbered d n o is in off u.unit u.is b (subst (λ (k : ℕ). On k u.unit.n b) (sym u.dom) (subst (λ (k : ℕ). On d k b) (sym u.n) on)))
 
   rtds_unit_is : (domains : List (Option (List RtdsUnit))) (chosen : Option UnitId) → (rtds.rtds_decision_for ask domains chosen).unit ≡ chosen
   rtds_unit_is domains None = refl
@@ -255,7 +258,7 @@ module _ (On : ℕ → ℕ → ℕ → Type 0) (ask : Ask) (scheduler : Schedule
           let unit : (credit2.credit2_decision_for ask scheduler burned chosen).unit ≡ chosen = credit2_unit_is burned chosen in
           let off2 : Off chosen = subst Off (ap (λ (d : Decision). d.unit) same ∙ unit) off in
           subst IsDecided (sym same) (record {
-            charged = credit2_decides burned chosen own off2 (c_burn_cur On ask.at.0 ask.cur records (subst (Charged On ask.at.0) is kept));
+            charged = credit2_decides records chosen own off2 (subst (Charged On ask.at.0) is kept);
             fresh = λ u e. credit2_fresh burned chosen (choice_pays ask.at.0 (λ d n. Unit {0}) ask scheduler burned) u (sym unit ∙ e);
           })
       by_records (RtdsPool domains) is =
@@ -265,7 +268,7 @@ module _ (On : ℕ → ℕ → ℕ → Type 0) (ask : Ask) (scheduler : Schedule
           let unit : (rtds.rtds_decision_for ask burned chosen).unit ≡ chosen = rtds_unit_is burned chosen in
           let off2 : Off chosen = subst Off (ap (λ (d : Decision). d.unit) same ∙ unit) off in
           subst IsDecided (sym same) (record {
-            charged = rtds_decides burned chosen own off2 (rtds_burned ask.cur domains own (subst (Charged On ask.at.0) is kept));
+            charged = rtds_decides domains chosen own off2 (subst (Charged On ask.at.0) is kept);
             fresh = λ u e. rtds_fresh burned chosen (choice_left ask scheduler burned) u (sym unit ∙ e);
           })
       by_records records is = not_charging (decision_of ask scheduler) (same_decision is_charging (λ a b. refl) (λ a b. refl) (λ a b. refl) scheduler.records ask scheduler refl ∙ ap is_charging is)

@@ -1,6 +1,5 @@
 pub mod Tests
 pub mod Sums
-pub mod BestUnits
 pub mod Looking
 pub mod Changed
 pub mod Meetings

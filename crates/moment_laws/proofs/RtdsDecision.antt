@@ -24,12 +24,13 @@ use Rattle.sched_model.specs.Pool.{pool_core_set, core_ask}
 use Rattle.sched_base.proofs.Bools.{and_left, and_right, clash}
 use Rattle.sched_laws.proofs.Choices.{at_unit}
 use Rattle.sched_laws.specs.Counts.{total}
-use Rattle.moment_laws.proofs.BestUnits.{is_best, none_best}
+use Rattle.record_laws.proofs.Best.{is_best, none_best}
+use Rattle.record_laws.proofs.Orders.{before_order, foremost_scan}
 use Rattle.moment_laws.specs.Stretches.{units}
 use Rattle.moment_laws.specs.Turns.{how_many, ahead}
 use Rattle.moment_laws.specs.GoodDecisions.{DecidesWell, StirsNone, Secure, SecureThen, decision, next, Standing}
 use Rattle.moment_laws.proofs.Waiting.{any_after, any_has, less_waits, filter_has, has_filter}
-use Rattle.moment_laws.proofs.RtdsKeys.{Key, key, keys, Keys, key_at, keys_change, both_before, before_is, left_is, passes_is, ahead_is, keys_before, fewer_before, some_behind, before_most, before_order, foremost_scan}
+use Rattle.moment_laws.proofs.RtdsKeys.{Key, key, keys, Keys, key_at, keys_change, both_before, before_is, left_is, passes_is, ahead_is, keys_before, fewer_before, some_behind, before_most}
 use Rattle.moment_laws.specs.Turns as turns
 
 module _ (m : Machine) (t : ℕ) (queue : List UnitId) (affinity : List (Option (List Cores))) (xs : List (Option (List RtdsUnit))) (domains : List (Option Domain)) (resources : List (Option Resource)) (r : ℕ) (c : Resource) where

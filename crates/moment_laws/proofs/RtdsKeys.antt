@@ -2,20 +2,20 @@
 use Rattle.std.proofs.Common.{◌≡◌, ◌≤◌, ◌+◌, ℕ, zero, suc, Bool, true, false, not, List, [], ◌∷◌, refl, arith, ap, sym, ◌∙◌, inl, inr}
 use Rattle.std.specs.Prelude.{Option, Some, None, map, option_map, slice_get, nat_lt, ◌&&◌, ◌||◌, ◌==◌}
 use Rattle.std.proofs.lemmas.Bool.{cases_Bool}
+use Rattle.std.proofs.lemmas.Option.{slice_get-map}
 use Rattle.sched_base.specs.declared.UnitId.{UnitId}
 use Rattle.sched_model.specs.declared.state.RtdsUnit.{RtdsUnit}
 use Rattle.sched_model.specs.declared.state.Scheduler.{Scheduler}
 use Rattle.sched_model.specs.declared.state.Records.TheVariants.{RtdsPool}
 use Rattle.sched_model.specs.Places.{at_place, change_at, change_item}
 use Rattle.sched_model.specs.EligibleUnits.{rtds_unit_at, may_have_core}
-use Rattle.sched_model.specs.Rtds.{is_record_before, is_unit_before, unit_left_budget, first_of_units, change_unit}
+use Rattle.sched_model.specs.Rtds.{is_record_before, is_unit_before, unit_left_budget, change_unit}
 use Rattle.sched_base.proofs.Bools.{clash}
 use Rattle.sched_laws.specs.Counts.{total}
 use Rattle.sched_laws.proofs.EachPlace.{by_option}
 use Rattle.moment_laws.specs.Turns.{how_many, goes_before, ahead}
 use Rattle.sched_base.specs.Numbers.{one_if}
 use Rattle.moment_laws.proofs.Sums.{count_no_more, count_less, total_no_more, total_less}
-use Rattle.moment_laws.proofs.BestUnits.{IsOrder, IsScan}
 use Rattle.moment_laws.specs.Stretches.{units}
 
 -- a level, a deadline and what is left of the budget
@@ -37,11 +37,6 @@ keys domains = map (λ (o : Option (List RtdsUnit)). option_map (λ (xs : List R
 abbrev pub key_at : Keys → UnitId → Option Key
 key_at ks u = elim (at_place ks u.dom.0) as (λ _. Option Key) [ None ↦ None | Some xs ↦ slice_get xs u.n ]
 
-get_map : {X Y : Type 0} (f : X → Y) (xs : List X) (n : ℕ) → slice_get (map f xs) n ≡ option_map f (slice_get xs n)
-get_map f [] n = refl
-get_map f (x ∷ xs) zero = refl
-get_map f (x ∷ xs) (suc n) = get_map f xs n
-
 at_map : (domains : List (Option (List RtdsUnit))) (d : ℕ) → at_place (keys domains) d ≡ option_map (λ (xs : List RtdsUnit). map key xs) (at_place domains d)
 at_map [] zero = refl
 at_map [] (suc d) = refl
@@ -54,7 +49,7 @@ key_is domains u =
   where
     by_units : (o : Option (List RtdsUnit)) → elim (option_map (λ (xs : List RtdsUnit). map key xs) o) as (λ _. Option Key) [ None ↦ None | Some xs ↦ slice_get xs u.n ] ≡ option_map key (elim o as (λ _. Option RtdsUnit) [ None ↦ None | Some units ↦ slice_get units u.n ])
     by_units None = refl
-    by_units (Some xs) = get_map key xs u.n
+    by_units (Some xs) = slice_get-map key xs u.n
 
 -- the words on records, by keys
 abbrev pub both_before : Option Key → Option Key → Bool
@@ -168,14 +163,3 @@ some_behind ks w k is =
 
 pub before_most : (o : Option Key) (ks : Keys) → keys_before o ks ≤ total (λ (xs : List Key). how_many (λ x. true) xs) ks
 before_most o ks = total_no_more (λ (xs : List Key). how_many (λ x. both_before (Some x) o) xs) (λ (xs : List Key). how_many (λ x. true) xs) (λ xs. count_no_more (λ x. both_before (Some x) o) (λ x. true) (λ x y. refl) xs) ks
-
--- which of two units comes before the other is an order, and the foremost unit is the best one by it
-pub before_order : (domains : List (Option (List RtdsUnit))) → IsOrder (is_unit_before domains)
-before_order domains = record {
-  irrefl = λ u. before_is domains u u ∙ both_irrefl (key_at (keys domains) u);
-  trans = λ a b e x y. before_is domains a e ∙ both_trans (key_at (keys domains) a) (key_at (keys domains) b) (key_at (keys domains) e) (sym (before_is domains a b) ∙ x) (sym (before_is domains b e) ∙ y);
-  least = λ a b e x y. before_is domains e a ∙ both_least (key_at (keys domains) a) (key_at (keys domains) b) (key_at (keys domains) e) (sym (before_is domains a b) ∙ x) (sym (before_is domains e b) ∙ y);
-}
-
-pub foremost_scan : (domains : List (Option (List RtdsUnit))) → IsScan (is_unit_before domains) (first_of_units domains)
-foremost_scan domains = record { ends = λ best. refl; starts = λ u xs. refl; goes_on = λ b u xs. refl }

@@ -6,6 +6,7 @@ use Rattle.std.proofs.Math.Nat.{div-mul-le_self, zero-div}
 use Rattle.std.proofs.lemmas.Nat.{mul-le, le-div, div-mul-add, div-add-mod'}
 use Rattle.sched_base.specs.RtdsNumbers.{next_deadline}
 use Rattle.service_laws.specs.Demand.{Job, asked_by, renewed}
+use Rattle.service_laws.proofs.DemandSums.{one_more}
 
 -- a sleeping unit keeps the grid of its deadlines: where its deadline has come, it is as if it had its whole budget up to the next one
 abbrev pub kept : ℕ → Job → Job
@@ -37,22 +38,12 @@ pub asked_out : (until : ℕ) (job : Job) → until < job.deadline → asked_by 
 asked_out until job later = ap (λ b. cond b (job.left + job.budget * ((until - job.deadline) / job.period)) 0) (gt_is job.deadline until later)
 
 -- with less left it asks for less
-with_left : ℕ → Job → Job
-with_left left job = record job { left = left }
-
 asked_less : (until : ℕ) (job : Job) (l1 l2 : ℕ) → l1 ≤ l2 → asked_by until (record job { left = l1 }) ≤ asked_by until (record job { left = l2 })
 asked_less until job l1 l2 less =
     elim (dec_le job.deadline until) [
       | yes by ↦ (let a = asked_in until (record job { left = l1 }) by in let b = asked_in until (record job { left = l2 }) by in omega (arith, a, b, less))
       | no later ↦ (let a = asked_out until (record job { left = l1 }) (omega (arith, later)) in omega (arith, a))
     ]
-
--- a whole period more is one budget more
-pub one_more : (x t : ℕ) → 0 < t → (x + t) / t ≡ x / t + 1
-one_more x t some =
-    let d : x / t * t + x % t ≡ x = div-add-mod' x t in
-    let e : x + t ≡ (x / t + 1) * t + x % t = grind (arith, d) in
-    ap (λ n. n / t) e ∙ div-mul-add (x / t + 1) t (x % t) (mod-lt x some)
 
 -- at its deadline, whatever was left
 pub asked_renewed : (until : ℕ) (job : Job) → 0 < job.period → asked_by until (renewed job) ≤ asked_by until (record job { left = 0 })

@@ -40,7 +40,8 @@ use Rattle.undisturbed_laws.proofs.Opened.{configured_opening}
 use Rattle.undisturbed_laws.proofs.Runs.{pool_as_configured}
 use Rattle.reservation_laws.specs.Reservations.{GetsBudget, IsFeasibleRtds, NeverSleeps, reservation, reservations}
 use Rattle.reservation_laws.specs.Sleepers.{HasRoom, IsCalmRtds, claim, claims, domain_claims, may_sleep}
-use Rattle.reservation_laws.proofs.Asks.{asked_in, one_more}
+use Rattle.reservation_laws.proofs.Asks.{asked_in}
+use Rattle.service_laws.proofs.DemandSums.{one_more}
 use Rattle.reservation_laws.proofs.Follows.{first_vcpu}
 use Rattle.reservation_laws.proofs.Reserved.{gets_budget, gets_none, is_low}
 

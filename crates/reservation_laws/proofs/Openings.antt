@@ -1,32 +1,29 @@
 -- The records of an RTDS pool at the opening, as the file gives them.
 use Rattle.std.proofs.Common.{◌≡◌, ◌<◌, ◌+◌, ◌-◌, ◌/◌, ℕ, zero, suc, Bool, true, false, List, [], ◌∷◌, ◌++◌, refl, arith, cond, subst, sym, ◌∙◌, ap, append_assoc, length, ◌≤◌, inr}
-use Rattle.std.specs.Prelude.{Option, Some, None, replicate, slice_get, ◌==◌, ◌&&◌, sum_by}
+use Rattle.std.specs.Prelude.{Option, Some, None, replicate, slice_get, ◌==◌, sum_by}
 use Rattle.std.specs.List.{AllByRecursion}
 use Rattle.std.proofs.lemmas.List.Sums.{sum_by-cons}
 use Rattle.std.proofs.lemmas.List.{length-map, length-append}
 use Rattle.sched_base.specs.Numbers.{domain as domain_number}
-use Rattle.sched_base.specs.declared.Cores.{Cores}
 use Rattle.sched_base.specs.declared.UnitId.{UnitId}
 use Rattle.sched_model.specs.declared.config.DomConfig.{DomConfig}
 use Rattle.sched_model.specs.declared.config.DomParams.{DomParams}
 use Rattle.sched_model.specs.declared.config.DomParams.TheVariants as dom_params
-use Rattle.sched_model.specs.declared.config.ParamChange.TheVariants as changes
 use Rattle.sched_model.specs.declared.config.SchedKind.TheVariants as kinds
 use Rattle.sched_model.specs.declared.state.Pool.{Pool}
 use Rattle.sched_model.specs.declared.state.Records.{Records}
-use Rattle.sched_model.specs.declared.state.Records.TheVariants.{Credit2Pool, RtdsPool, ArincPool, NullPool}
+use Rattle.sched_model.specs.declared.state.Records.TheVariants.{RtdsPool}
 use Rattle.sched_model.specs.declared.state.RtdsUnit.{RtdsUnit}
 use Rattle.sched_model.specs.Actions.{configured_units}
 use Rattle.sched_model.specs.CheckedMachine.{DomParamsPass}
 use Rattle.sched_model.specs.EligibleUnits.{rtds_unit_at}
 use Rattle.sched_model.specs.Opening.{domain_at_opening, pool_with_configured, pool_with_domains, vcpu_at_opening}
 use Rattle.sched_model.specs.Places.{numbers_from, put_at}
-use Rattle.sched_model.specs.Policy.{joined_records, changed_records}
-use Rattle.sched_model.specs.Pool.{domain_unit_count, is_unit_off, pool_with_domain, pool_with_queued_if_off, pool_with_queued_units, queue_unit}
+use Rattle.sched_model.specs.Policy.{joined_records}
+use Rattle.sched_model.specs.Pool.{domain_unit_count, pool_with_domain}
 use Rattle.sched_model.specs.Rtds.{fresh_rtds_units}
-use Rattle.sched_model.specs.State.{may_unit_run}
-use Rattle.sched_laws.proofs.EachPlace.{by_cond}
 use Rattle.sched_laws.proofs.Opened.{pins_keep}
+use Rattle.term_laws.proofs.Beginning.{pin_keeps, queue_keeps}
 use Rattle.reservation_laws.specs.Reservations.{reservation}
 use Rattle.reservation_laws.specs.Sleepers.{claim, claims, domain_claims, may_sleep}
 use Rattle.reservation_laws.proofs.Asks.{ask, room_of, sleeper_most, waker_most}
@@ -34,25 +31,11 @@ use Rattle.reservation_laws.proofs.Jobs.{first_left, job, since}
 use Rattle.reservation_laws.proofs.Tracks.{Base, Watch, asks, rooms}
 use Rattle.reservation_laws.proofs.UnitSums.{items_sum, number, sum_from, sum_le}
 
--- the queue and the sets of cores change no record
-queued_records : (g : ℕ) (u : UnitId) (pool : Pool) → (pool_with_queued_if_off g u pool).scheduler.records ≡ pool.scheduler.records
-queued_records g u pool = by_cond (λ (p : Pool). p.scheduler.records ≡ pool.scheduler.records) (may_unit_run g pool u && is_unit_off pool u) (queue_unit u pool) pool (λ is. refl) (λ is. refl)
-
-units_records : (g d : ℕ) (units : List ℕ) (pool : Pool) → (pool_with_queued_units g d units pool).scheduler.records ≡ pool.scheduler.records
-units_records g d [] pool = refl
-units_records g d (n ∷ ns) pool = units_records g d ns _ ∙ queued_records g (record { dom = domain_number d; n = n }) pool
-
-pinned_records : (d n : ℕ) (cores : Cores) (records : Records) → changed_records records (changes.Pin (domain_number d) (Some n) cores) 0 ≡ records
-pinned_records d n cores (Credit2Pool records) = refl
-pinned_records d n cores (RtdsPool domains) = refl
-pinned_records d n cores (ArincPool records) = refl
-pinned_records d n cores (NullPool kept) = refl
-
 module _ (g : ℕ) where
   configured_records : (d : ℕ) (joining : DomConfig) (pool : Pool) → (pool_with_configured g d joining pool).scheduler.records ≡ joined_records pool.scheduler.records joining.params d (domain_unit_count g (domain_at_opening joining)) 0
   configured_records d joining pool =
-      pins_keep (λ p. p.scheduler.records ≡ joined_records pool.scheduler.records joining.params d (domain_unit_count g (domain_at_opening joining)) 0) (λ e n cores p same. pinned_records e n cores p.scheduler.records ∙ same) d 0 joining.pins
-      (pool_with_domain g 0 d (domain_at_opening joining) joining.params pool) (units_records g d (numbers_from 0 (domain_unit_count g (domain_at_opening joining))) _)
+      pins_keep (λ p. p.scheduler.records ≡ joined_records pool.scheduler.records joining.params d (domain_unit_count g (domain_at_opening joining)) 0) (λ e n cores p same. pin_keeps p.scheduler.records e n cores ∙ same) d 0 joining.pins
+      (pool_with_domain g 0 d (domain_at_opening joining) joining.params pool) (queue_keeps g d (numbers_from 0 (domain_unit_count g (domain_at_opening joining))) _)
 
   count_is : (joining : DomConfig) → domain_unit_count g (domain_at_opening joining) ≡ configured_units g joining
   count_is joining = ap (λ (n : ℕ). (n + g - 1) / g) (length-map joining.guests vcpu_at_opening)

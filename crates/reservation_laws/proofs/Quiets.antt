@@ -37,7 +37,8 @@ use Rattle.sched_laws.proofs.Lists.{test_at-some}
 use Rattle.moment_laws.proofs.AllowedAlone.{allowed_alone}
 use Rattle.service_laws.specs.OnTime.{CoresAreOnTime, IsOnTime}
 use Rattle.service_laws.specs.Service.{HasNoLaterUnit, MostUrgentRun, is_usable}
-use Rattle.service_laws.proofs.Quiet.{parts_of}
+use Rattle.sched_laws.proofs.Waiting.{parts_of}
+use Rattle.service_laws.proofs.Unstalled.{all_up, up_is}
 use Rattle.undisturbed_laws.specs.Undisturbed.{CoreStays}
 use Rattle.reservation_laws.proofs.Ticks.{IsCalm}
 use Rattle.reservation_laws.proofs.Tracks.{Watch}
@@ -65,13 +66,6 @@ each_repl m P each u there =
     let e = parts_of P repl (map (λ n. Refill (domain n)) domains) d.0 in
     let f = parts_of P moved (map Repl (units_from m.config.granularity 0 m.config.domains)) e.0 in
     times_has (λ v. P (Repl v)) u (units_from m.config.granularity 0 m.config.domains) (map_back P Repl (units_from m.config.granularity 0 m.config.domains) f.1) there
-
-up_is : (n t : ℕ) → n ≡ 0 → nat_le n t ≡ true
-up_is n t is = grind (arith, is)
-
-all_up : (t : ℕ) (ps : List Processor) → AllByRecursion (λ (p : Processor). p.stall_end.0 ≡ 0) ps → list_all (is_not_stalled t) ps ≡ true
-all_up t [] each = refl
-all_up t (p ∷ ps) each = and_from (is_not_stalled t p) (list_all (is_not_stalled t) ps) (up_is p.stall_end.0 t each.0) (all_up t ps each.1)
 
 first_up : (t : ℕ) (ps : List Processor) → 0 < length ps → AllByRecursion (λ (p : Processor). p.stall_end.0 ≡ 0) ps → elim ps as (λ _. Bool) [ [] ↦ false | p ∷ rest ↦ is_not_stalled t p ] ≡ true
 first_up t [] some each = absurd (omega (arith, some))

@@ -46,7 +46,7 @@ module _ (P : UnitId → Type 0) where
   greatest_has records (Some best) (u ∷ units) own each =
       greatest_has records (Some (cond (int_lt (credit2.unit_credit records best) (credit2.unit_credit records u)) u best)) units (by_cond P _ u best (λ is. each.0) (λ is. own)) each.1
 
-  foremost_has : (domains : List (Option (List RtdsUnit))) (best : Option UnitId) (units : List UnitId) → IfUnit P best → AllByRecursion P units → IfUnit P (rtds.first_of_units domains best units)
+  pub foremost_has : (domains : List (Option (List RtdsUnit))) (best : Option UnitId) (units : List UnitId) → IfUnit P best → AllByRecursion P units → IfUnit P (rtds.first_of_units domains best units)
   foremost_has domains best [] own each = own
   foremost_has domains None (u ∷ units) own each = foremost_has domains (Some u) units each.0 each.1
   foremost_has domains (Some best) (u ∷ units) own each =
@@ -72,7 +72,7 @@ module _ (P : UnitId → Type 0) where
         by_option (IfUnit P) ask.cur _ _ (λ is. tt)
         (λ u is. by_cond (IfUnit P) (ask.runnable && is_unit_allowed scheduler ask.home.0 ask.core.0 u && nat_lt 0 (rtds.unit_left_budget domains u)) _ _ (λ may. own u is (and_left _ _ (and_left _ _ may))) (λ may. tt))
 
-    choice_rt_has : (domains : List (Option (List RtdsUnit))) → IfUnit P (rtds.rtds_choice ask scheduler domains)
+    pub choice_rt_has : (domains : List (Option (List RtdsUnit))) → IfUnit P (rtds.rtds_choice ask scheduler domains)
     choice_rt_has domains =
         by_cond (IfUnit P) ask.leaving _ _ (λ is. tt)
         (λ is. foremost_has domains (rtds.rtds_candidate ask scheduler domains) _ (own_rt_has domains) (eligible_have (RtdsPool domains)))

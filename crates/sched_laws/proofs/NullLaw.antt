@@ -2,7 +2,7 @@
 use Rattle.sched_base.specs.Numbers.{core as core_number}
 use Rattle.std.proofs.Common.{◌≡◌, ◌≤◌, ℕ, zero, suc, Bool, true, false, not, List, [], ◌∷◌, ◌++◌, refl, arith, subst, sym, ◌∙◌, ap, cond, ◌⊎◌, inl, inr}
 use Rattle.std.specs.Prelude.{Option, Some, None, is_some, unwrap_or, filter, ◌&&◌, ◌+◌}
-use Rattle.std.specs.List.{list_any, list_all}
+use Rattle.std.specs.List.{list_any, list_all, AllByRecursion}
 use Rattle.std.proofs.Math.Decide.{dec_le}
 use Rattle.std.proofs.lemmas.Bool.{cases_Bool, or_cases, not-true}
 use Rattle.sched_base.specs.declared.UnitId.{UnitId}
@@ -24,8 +24,8 @@ use Rattle.sched_model.specs.EligibleUnits.{Decision, is_unit_allowed, is_unit_e
 use Rattle.sched_model.specs.Policy.{decision_of, decision_by}
 use Rattle.sched_model.specs.NullScheduler as null
 use Rattle.sched_model.specs.Pool.{pool_core_set, core_ask, decision_at}
-use Rattle.sched_model.specs.Actions.{home_pool_of_core}
-use Rattle.sched_model.specs.Machine.{event_of, home_pool}
+use Rattle.sched_model.specs.Actions.{home_pool_of_core, candidates}
+use Rattle.sched_model.specs.Machine.{event_of, home_pool, is_action_enabled}
 use Rattle.sched_model.specs.Runs.{IsRun, IsNextEvent, event_action, run_start}
 use Rattle.sched_model.specs.CheckedMachine.{IsChecked}
 use Rattle.sched_laws.specs.StateLaws.{state_after}
@@ -39,12 +39,13 @@ use Rattle.sched_laws.specs.PoolFacts.{core_places}
 use Rattle.sched_laws.proofs.PoolsLaw.{IsKnown, known_in_runs}
 use Rattle.sched_laws.proofs.SiblingsLaw.{some_processor}
 use Rattle.sched_laws.proofs.StillWaits.{core_home, split_run}
-use Rattle.sched_laws.proofs.Ready.{ready_in_runs}
-use Rattle.sched_laws.proofs.Waiting.{quiet_event, saves_none, nobody_waits}
+use Rattle.sched_laws.proofs.Ready.{IsReady, ready_in_runs}
+use Rattle.sched_laws.proofs.Waiting.{saves_none, nobody_waits_in, none_comes}
 use Rattle.sched_laws.proofs.HomeCores.{home_has}
 use Rattle.sched_laws.proofs.NullKept.{KeptFits, goes_on}
 use Rattle.sched_laws.proofs.NullWalk.{IsKeptPool, null_is_kept}
 use Rattle.sched_base.proofs.Bools.{and_left, and_right, or_left, or_right, clash}
+use Rattle.sched_laws.specs.EachPlace.{EachPlace}
 use Rattle.sched_laws.proofs.EachPlace.{by_option, by_cond}
 
 pub kept_in_runs : (m : Machine) → IsChecked m → (entries : List Entry) → IsRun m entries → IsKnown (IsKeptPool m.config.granularity) (state_after m entries)
@@ -60,7 +61,7 @@ given_home scheduler kept home r u placed = and_right (is_unit (at_place kept r)
 given_allowed : (scheduler : Scheduler) (kept : List (Option UnitId)) (home r : ℕ) (u : UnitId) → is_unit_placed scheduler kept home r u ≡ true → is_unit_allowed scheduler home r u ≡ true
 given_allowed scheduler kept home r u placed = and_right (is_unit (at_place kept r) u && has_core_bit home r) (is_unit_allowed scheduler home r u) placed
 
-fits_of : (g : ℕ) (pool : Pool) (kept : List (Option UnitId)) → IsKeptPool g pool → Keeps pool kept → KeptFits kept pool.resources
+pub fits_of : (g : ℕ) (pool : Pool) (kept : List (Option UnitId)) → IsKeptPool g pool → Keeps pool kept → KeptFits kept pool.resources
 fits_of g pool kept known keeps = known.fits kept (rw keeps refl)
 
 same_kept : (a b : List (Option UnitId)) → NullPool a ≡ NullPool b → a ≡ b
@@ -189,17 +190,11 @@ own_core m checked entries next run pool q r c u on given is =
     ]
 
 -- a runnable unit that was given the core, where the core has no unit
-module _ (m : Machine) (checked : IsChecked m) (before : List Entry) (last : Entry) (run : IsRun m (before ++ last ∷ [])) (ends : event_action last.event ≡ None)
-    (i r : ℕ) (pool : Pool) (c : Resource) (u : UnitId) (at : at_place (state_after m before).pools i ≡ Some pool) (has : at_place pool.resources r ≡ Some c) (given : IsGiven pool r u)
-    (runs : may_unit_run m.config.granularity pool u ≡ true) (stays : c.leaving ≡ false) (up : list_all (is_not_stalled (state_after m before).now) c.processors ≡ true) (none : c.cur ≡ None) where
-  state : State
-  state = state_after m before
-
-  earlier : IsRun m before
-  earlier = (split_run m (run_start m) before (last ∷ []) run).0
-
+module _ (m : Machine) (checked : IsChecked m) (s : State) (ready : IsReady m s) (kept : EachPlace (IsKeptPool m.config.granularity) s.pools) (quiet : AllByRecursion (λ action. is_action_enabled m s s.now action ≡ false) (candidates m.config))
+    (i r : ℕ) (pool : Pool) (c : Resource) (u : UnitId) (at : at_place s.pools i ≡ Some pool) (has : at_place pool.resources r ≡ Some c) (given : IsGiven pool r u)
+    (runs : may_unit_run m.config.granularity pool u ≡ true) (stays : c.leaving ≡ false) (up : list_all (is_not_stalled s.now) c.processors ≡ true) (none : c.cur ≡ None) where
   here : IsKeptPool m.config.granularity pool
-  here = (kept_in_runs m checked before earlier).pools i pool at
+  here = kept i pool at
 
   fit : KeptFits given.kept pool.resources
   fit = fits_of m.config.granularity pool given.kept here given.keeps
@@ -207,24 +202,22 @@ module _ (m : Machine) (checked : IsChecked m) (before : List Entry) (last : Ent
   at_kept : at_place given.kept r ≡ Some u
   at_kept = given_at pool.scheduler given.kept (pool_core_set pool) r u given.placed
 
-  none_eligible : list_any (is_unit_eligible pool.scheduler (pool_core_set pool) r (state_after m before).now) pool.scheduler.queue ≡ false
-  none_eligible = (let calm = nobody_waits m checked before last run ends i pool at r c has in not-true _ (rw (none, stays, up) at calm))
+  none_eligible : list_any (is_unit_eligible pool.scheduler (pool_core_set pool) r s.now) pool.scheduler.queue ≡ false
+  none_eligible = (let calm = nobody_waits_in m checked s ready (λ j p at_j. (kept j p at_j).known.sound) quiet i pool at r c has in not-true _ (rw (none, stays, up) at calm))
 
-  eligible : is_unit_eligible pool.scheduler (pool_core_set pool) r (state_after m before).now u ≡ true
+  eligible : is_unit_eligible pool.scheduler (pool_core_set pool) r s.now u ≡ true
   eligible =
       let allowed = given_allowed pool.scheduler given.kept (pool_core_set pool) r u given.placed in
-      let passed : may_have_core pool.scheduler.records pool.scheduler (pool_core_set pool) r (state_after m before).now u ≡ true = (let keeps = given.keeps in let placed = given.placed in rw (keeps, may_have_core, placed) refl) in
+      let passed : may_have_core pool.scheduler.records pool.scheduler (pool_core_set pool) r s.now u ≡ true = (let keeps = given.keeps in let placed = given.placed in rw (keeps, may_have_core, placed) refl) in
       rw (is_unit_eligible, allowed) passed
 
   not_queued : 1 ≤ times u pool.scheduler.queue → ⊥
   not_queued waits =
-      clash (is_unit_eligible pool.scheduler (pool_core_set pool) r (state_after m before).now u) eligible
-      (times_has (λ w. is_unit_eligible pool.scheduler (pool_core_set pool) r (state_after m before).now w ≡ false) u pool.scheduler.queue (none_passes _ pool.scheduler.queue none_eligible) waits)
+      clash (is_unit_eligible pool.scheduler (pool_core_set pool) r s.now u) eligible
+      (times_has (λ w. is_unit_eligible pool.scheduler (pool_core_set pool) r s.now w ≡ false) u pool.scheduler.queue (none_passes _ pool.scheduler.queue none_eligible) waits)
 
   saves_no_unit : is_some c.saving ≡ true → ⊥
-  saves_no_unit =
-      saves_none m (state_after m before) checked (ready_in_runs m checked before earlier) (λ j p at_j. ((kept_in_runs m checked before earlier).pools j p at_j).known.sound)
-      (quiet_event m (state_after m before) last.event (event_action last.event) ends (split_run m (run_start m) before (last ∷ []) run).1.0.event) i r pool c at has up
+  saves_no_unit = saves_none m s checked ready (λ j p at_j. (kept j p at_j).known.sound) quiet i r pool c at has up
 
   same_core : (q : ℕ) (e : Resource) → q ≡ r → at_place pool.resources q ≡ Some e → e ≡ c
   same_core q e is at_q = (let b : at_place pool.resources r ≡ Some e = subst (λ k. at_place pool.resources k ≡ Some e) is at_q in let d = has in cc)
@@ -252,19 +245,23 @@ module _ (m : Machine) (checked : IsChecked m) (before : List Entry) (last : Ent
         | inr nobody ↦ nobody
       ]
 
-pub running : (m : Machine) → IsChecked m → (before : List Entry) (last : Entry) → IsRun m (before ++ last ∷ []) → event_action last.event ≡ None → GivenUnitsRun m.config.granularity (state_after m before)
-running m checked before last run ends i pool at r u given runs =
+pub running_in : (m : Machine) → IsChecked m → (s : State) → IsReady m s → EachPlace (IsKeptPool m.config.granularity) s.pools → AllByRecursion (λ action. is_action_enabled m s s.now action ≡ false) (candidates m.config) → GivenUnitsRun m.config.granularity s
+running_in m checked s ready kept quiet i pool at r u given runs =
     let found = some_is (at_place pool.resources r) (sym (home_has pool.resources r) ∙ given_home pool.scheduler given.kept (pool_core_set pool) r u given.placed) in
     (found.0, found.1, λ stays up. by_cur found.0 found.1 stays up)
   where
     same_unit_is : (a w : UnitId) (kept : List (Option UnitId)) → at_place kept r ≡ Some a → at_place kept r ≡ Some w → Some a ≡ Some w
     same_unit_is a w kept x y = sym x ∙ y
 
-    by_cur : (c : Resource) → at_place pool.resources r ≡ Some c → RunsUnlessHindered (state_after m before).now u c
+    by_cur : (c : Resource) → at_place pool.resources r ≡ Some c → RunsUnlessHindered s.now u c
     by_cur c has stays up =
-        let known = (kept_in_runs m checked before (split_run m (run_start m) before (last ∷ []) run).0).pools i pool at in
-        let fits = fits_of m.config.granularity pool given.kept known given.keeps in
+        let fits = fits_of m.config.granularity pool given.kept (kept i pool at) given.keeps in
         elim c.cur as (λ o. c.cur ≡ o → o ≡ Some u) [
-          | None ↦ λ none. absurd (has_no_place m checked before last run ends i r pool c u at has given runs stays up none)
+          | None ↦ λ none. absurd (has_no_place m checked s ready kept quiet i r pool c u at has given runs stays up none)
           | Some w ↦ λ own. same_unit_is w u given.kept (fits.cur r c has w own) (given_at pool.scheduler given.kept (pool_core_set pool) r u given.placed)
         ] refl
+
+pub running : (m : Machine) → IsChecked m → (before : List Entry) (last : Entry) → IsRun m (before ++ last ∷ []) → event_action last.event ≡ None → GivenUnitsRun m.config.granularity (state_after m before)
+running m checked before last run ends =
+    let earlier : IsRun m before = (split_run m (run_start m) before (last ∷ []) run).0 in
+    running_in m checked (state_after m before) (ready_in_runs m checked before earlier) (kept_in_runs m checked before earlier).pools (none_comes m before last run ends)

@@ -59,7 +59,7 @@ one_is u w =
     ] refl
 
 -- the same unit, or another
-same_or_other : (u w : UnitId) → (u ≡ w) ⊎ (u ≢ w)
+pub same_or_other : (u w : UnitId) → (u ≡ w) ⊎ (u ≢ w)
 same_or_other u w = elim (same_unit u w) as (λ b. same_unit u w ≡ b → (u ≡ w) ⊎ (u ≢ w)) [ true ↦ λ is. inl (same_unit_same u w is) | false ↦ λ is. inr (same_unit_other u w is) ] refl
 
 one_other : (u w : UnitId) → u ≢ w → one_at u (Some w) ≡ 0

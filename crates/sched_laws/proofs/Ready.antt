@@ -160,7 +160,7 @@ pub record IsReady (m : Machine) (s : State) : Type 0 where
   pub pools : EachPlace (PoolIsReady m s.now) s.pools
   pub free : FreeFits (Whole m.config.granularity) s
 
-ready_after : (m : Machine) (s : State) (action : Action) → is_action_enabled m s s.now action ≡ true → IsReady m s → IsReady m (after m s s.now action)
+pub ready_after : (m : Machine) (s : State) (action : Action) → is_action_enabled m s s.now action ≡ true → IsReady m s → IsReady m (after m s s.now action)
 ready_after m s action on ready =
     let free = free_after (ready_steps m s.now) s action ready.free (λ l is. tt) ready.pools in
     record {

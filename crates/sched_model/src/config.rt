@@ -71,7 +71,7 @@ pub enum PoolParams {
 /// The parameters of a domain.
 #[derive(Clone, Copy)]
 pub enum DomParams {
-    /// The weight, 1 to 65535, and the cap in percent of one processor, 0 (none) to 6400.
+    /// The weight, 1 to 65535, and the cap in percent of one core, 0 (none) to 6400.
     Credit2 {
         weight: u32,
         cap: u32,

@@ -99,7 +99,7 @@ pub struct Credit2Unit {
 /// The records of a domain's units, in order.
 pub type Credit2Units = Short<Credit2Unit, 32>;
 
-/// What Credit2 keeps of a domain: its weight, its cap in percent of one processor (0 for none), the budget that is left
+/// What Credit2 keeps of a domain: its weight, its cap in percent of one core (0 for none), the budget that is left
 /// of the cap, and the moment of the next refill.
 #[derive(Drop)]
 pub struct Credit2Domain {

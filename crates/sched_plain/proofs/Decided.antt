@@ -1,9 +1,8 @@
 -- A decision lets no event of a domain come: no deadline and no refill changes, who waits or runs after it did so before, and what its core ran it
 -- runs or saves.
-use Rattle.std.proofs.Common.{◌≡◌, ◌+◌, ◌∙◌, ℕ, zero, suc, Bool, true, false, not, List, [], ◌∷◌, cond, refl, sym, ap, subst, inl, inr}
-use Rattle.std.specs.Prelude.{Option, Some, None, ◌&&◌, ◌||◌, ◌==◌, filter, is_some, nat_le, option_map, slice_get, slice_set}
+use Rattle.std.proofs.Common.{◌≡◌, ◌∙◌, ℕ, Bool, true, false, not, List, [], ◌∷◌, cond, refl, sym, ap, subst, inl, inr}
+use Rattle.std.specs.Prelude.{Option, Some, None, ◌&&◌, ◌||◌, filter, is_some, nat_le, option_map, slice_set}
 use Rattle.std.specs.List.{AllByRecursion, list_any, list_all}
-use Rattle.std.proofs.Math.Decide.{ℕ_discrete}
 use Rattle.std.proofs.lemmas.Bool.{not-true, or_cases}
 use Rattle.sched_base.specs.Numbers.{core, has_moment_come, moment}
 use Rattle.sched_base.specs.declared.DomId.{DomId}
@@ -25,19 +24,21 @@ use Rattle.sched_model.specs.Arinc.{Window}
 use Rattle.sched_model.specs.Credit2 as credit2
 use Rattle.sched_model.specs.EligibleUnits.{Decision, rtds_unit_at}
 use Rattle.sched_model.specs.NullScheduler as null
-use Rattle.sched_model.specs.Places.{at_place, change_at, change_each, change_item, has_listed_unit, is_unit, numbered_items, put_at, same_unit, test_at}
+use Rattle.sched_model.specs.Places.{at_place, change_at, has_listed_unit, is_unit, numbered_items, put_at, same_unit, test_at}
 use Rattle.sched_model.specs.Policy.{arinc_decision, decision_by, decision_of, is_replenish_due, next_refill_moment}
 use Rattle.sched_model.specs.Pool as pools
 use Rattle.sched_model.specs.Pool.{core_ask, decided_core, enabled_in, is_domain_unit, is_first_processor_up, is_gathering, is_held_back, is_lowest_processor_up, same_choice, unit_core}
 use Rattle.sched_model.specs.Rtds as rtds
-use Rattle.sched_model.proofs.PlaceLemmas.{at_place-change_at_other}
 use Rattle.sched_laws.specs.PoolFacts.{IfUnit, IsKnownPool}
 use Rattle.sched_laws.proofs.Choices.{decision_has, is_unit_same}
 use Rattle.sched_laws.proofs.Counts.{is_that_unit}
-use Rattle.sched_laws.proofs.EachPlace.{at_place-change_at, at_place-change_each, by_cond, by_option, by_test, found_at, none_found, read_put_at}
+use Rattle.sched_laws.proofs.EachPlace.{by_cond, by_option, by_test, found_at, none_found, read_put_at}
 use Rattle.sched_laws.proofs.Events.{LikePlaces, like_change_at}
-use Rattle.sched_laws.proofs.Lists.{slice_get-change_item, slice_get-change_item_other, some_is, some_same}
+use Rattle.sched_laws.proofs.Lists.{some_is, some_same}
 use Rattle.sched_laws.proofs.Sound.{some_if_all}
+use Rattle.record_laws.proofs.Credit2Seen.{records_decided, domain_decided}
+use Rattle.record_laws.proofs.Charges.{leaves}
+use Rattle.record_laws.proofs.RtdsSeen.{units_decided, unit_decided, unit_leaves}
 use Rattle.sched_plain.proofs.AlikeCores.{UpAsBefore, lowest_same, none_less}
 use Rattle.sched_plain.proofs.TouchedSteps.{both}
 
@@ -45,50 +46,9 @@ use Rattle.sched_plain.proofs.TouchedSteps.{both}
 abbrev refill_in : Option Credit2Domain → Option Moment
 refill_in o = elim o as (λ _. Option Moment) [ None ↦ None | Some x ↦ option_map moment x.refill ]
 
-abbrev refill_at : ℕ → Credit2Records → Option Moment
-refill_at d records = refill_in (at_place records.domains d)
-
 mapped_refill : (f : Credit2Domain → Credit2Domain) → ((x : Credit2Domain) → (f x).refill ≡ x.refill) → (o : Option Credit2Domain) → refill_in (option_map f o) ≡ refill_in o
 mapped_refill f keeps None = refl
 mapped_refill f keeps (Some x) = ap (λ (m : Option ℕ). option_map moment m) (keeps x)
-
-changed_refill : (d e : ℕ) (f : Credit2Domain → Credit2Domain) (records : Credit2Records) → ((x : Credit2Domain) → (f x).refill ≡ x.refill) → refill_at d (credit2.change_domain e f records) ≡ refill_at d records
-changed_refill d e f records keeps = elim (ℕ_discrete d e) [
-  | no other ↦ ap refill_in (at_place-change_at_other e d f records.domains other)
-  | yes same ↦
-      subst (λ (k : ℕ). refill_in (at_place (change_at e f records.domains) k) ≡ refill_in (at_place records.domains k)) (sym same)
-      (ap refill_in (at_place-change_at e f records.domains) ∙ mapped_refill f keeps (at_place records.domains e))
-]
-
-each_refill : (d : ℕ) (f : ℕ → Credit2Domain → Credit2Domain) (domains : List (Option Credit2Domain)) → ((n : ℕ) (x : Credit2Domain) → (f n x).refill ≡ x.refill) → refill_in (at_place (change_each 0 f domains) d) ≡ refill_in (at_place domains d)
-each_refill d f domains keeps = ap refill_in (at_place-change_each 0 d f domains) ∙ mapped_refill (f (0 + d)) (keeps (0 + d)) (at_place domains d)
-
-return_refill : (n : ℕ) (x : Credit2Domain) → (credit2.domain_after_return n x).refill ≡ x.refill
-return_refill n x = by_option (λ (y : Credit2Domain). y.refill ≡ x.refill) (slice_get x.units n) _ _ (λ none. refl) (λ u some. refl)
-
-own_refill : (d t : ℕ) (cur : Option UnitId) (records : Credit2Records) → refill_at d (credit2.own_burned_records cur t records) ≡ refill_at d records
-own_refill d t None records = refl
-own_refill d t (Some u) records =
-    changed_refill d u.dom.0 _ (credit2.change_unit u (credit2.burned_unit (credit2.most_weight records) t) records) (λ x. by_cond (λ (y : Credit2Domain). y.refill ≡ x.refill) (x.cap == 0) _ _ (λ is. refl) (λ is. return_refill u.n x))
-    ∙ changed_refill d u.dom.0 _ records (λ x. refl)
-
-off_refill : (d : ℕ) (cur : Option UnitId) (records : Credit2Records) → refill_at d (credit2.off_records cur records) ≡ refill_at d records
-off_refill d None records = refl
-off_refill d (Some u) records = changed_refill d u.dom.0 _ records (λ x. refl)
-
-reset_refill : (d t m : ℕ) (records : Credit2Records) → refill_at d (credit2.reset_records t m records) ≡ refill_at d records
-reset_refill d t zero records = refl
-reset_refill d t (suc m) records = each_refill d _ (credit2.burn_all t records).domains (λ n x. refl) ∙ each_refill d _ records.domains (λ n x. refl)
-
-take_refill : (n : ℕ) (x : Credit2Domain) → (credit2.domain_after_take n x).refill ≡ x.refill
-take_refill n x = by_cond (λ (y : Credit2Domain). y.refill ≡ x.refill) (x.cap == 0) _ _ (λ is. refl) (λ is. refl)
-
-chosen_refill : (d : ℕ) (ask : Ask) (s : Scheduler) (records : Credit2Records) (choice : Option UnitId) → next_refill_moment (credit2.credit2_decision_for ask s records choice).records d ≡ refill_at d records
-chosen_refill d ask s records None = off_refill d ask.cur records
-chosen_refill d ask s records (Some u) =
-    let reset : Credit2Records = credit2.reset_records ask.at.0 (credit2.reset_count ask.at.0 u records) records in
-    let taken : Credit2Records = credit2.change_domain u.dom.0 (credit2.domain_after_take u.n) reset in
-    changed_refill d u.dom.0 _ (credit2.off_records ask.cur taken) (λ x. refl) ∙ off_refill d ask.cur taken ∙ changed_refill d u.dom.0 (credit2.domain_after_take u.n) reset (take_refill u.n) ∙ reset_refill d ask.at.0 (credit2.reset_count ask.at.0 u records) records
 
 -- other schedulers have none
 rtds_refill : (d : ℕ) (ask : Ask) (domains : List (Option (List RtdsUnit))) (choice : Option UnitId) → next_refill_moment (rtds.rtds_decision_for ask domains choice).records d ≡ None
@@ -104,7 +64,9 @@ window_records ask s None = refl
 window_records ask s (Some window) = refl
 
 refill_by : (d : ℕ) (ask : Ask) (s : Scheduler) (records : Records) → s.records ≡ records → next_refill_moment (decision_by records ask s).records d ≡ next_refill_moment records d
-refill_by d ask s (Credit2Pool records) is = chosen_refill d ask s (credit2.own_burned_records ask.cur ask.at.0 records) _ ∙ own_refill d ask.at.0 ask.cur records
+refill_by d ask s (Credit2Pool records) is =
+    let choice : Option UnitId = credit2.credit2_choice ask s (credit2.own_burned_records ask.cur ask.at.0 records) in
+    ap (λ (r : Records). next_refill_moment r d) (records_decided ask records s choice) ∙ ap refill_in (domain_decided ask records choice d) ∙ mapped_refill _ (λ x. (leaves ask records choice d x).refill) (at_place records.domains d)
 refill_by d ask s (RtdsPool domains) is = rtds_refill d ask (rtds.own_burned_domains ask.cur ask.at.0 domains) _
 refill_by d ask s (ArincPool records) is = ap (λ (r : Records). next_refill_moment r d) (window_records ask s _ ∙ is)
 refill_by d ask s (NullPool kept) is = by_cond (λ (e : Decision). next_refill_moment e.records d ≡ None) ask.leaving _ _ (λ leaves. refl) (λ stays. null_refill d ask.core.0 kept _)
@@ -113,44 +75,9 @@ refill_by d ask s (NullPool kept) is = by_cond (λ (e : Decision). next_refill_m
 abbrev due_in : ℕ → Option RtdsUnit → Bool
 due_in t o = elim o as (λ _. Bool) [ None ↦ false | Some x ↦ nat_le x.deadline t ]
 
-abbrev units_in : ℕ → Option (List RtdsUnit) → Option RtdsUnit
-units_in n o = elim o as (λ _. Option RtdsUnit) [ None ↦ None | Some units ↦ slice_get units n ]
-
 mapped_due : (t : ℕ) (f : RtdsUnit → RtdsUnit) → ((x : RtdsUnit) → (f x).deadline ≡ x.deadline) → (o : Option RtdsUnit) → due_in t (option_map f o) ≡ due_in t o
 mapped_due t f keeps None = refl
 mapped_due t f keeps (Some x) = ap (λ (n : ℕ). nat_le n t) (keeps x)
-
-item_due : (t i n : ℕ) (f : RtdsUnit → RtdsUnit) → ((x : RtdsUnit) → (f x).deadline ≡ x.deadline) → (o : Option (List RtdsUnit)) → due_in t (units_in n (option_map (change_item i f) o)) ≡ due_in t (units_in n o)
-item_due t i n f keeps None = refl
-item_due t i n f keeps (Some units) = elim (ℕ_discrete n i) [
-  | no other ↦ ap (due_in t) (slice_get-change_item_other i n f units (λ e. other (sym e)))
-  | yes same ↦
-      subst (λ (k : ℕ). due_in t (slice_get (change_item i f units) k) ≡ due_in t (slice_get units k)) (sym same)
-      (ap (due_in t) (slice_get-change_item i f units) ∙ mapped_due t f keeps (slice_get units i))
-]
-
-changed_due : (t : ℕ) (u w : UnitId) (f : RtdsUnit → RtdsUnit) (domains : List (Option (List RtdsUnit))) → ((x : RtdsUnit) → (f x).deadline ≡ x.deadline) → due_in t (rtds_unit_at (rtds.change_unit u f domains) w) ≡ due_in t (rtds_unit_at domains w)
-changed_due t u w f domains keeps = elim (ℕ_discrete w.dom.0 u.dom.0) [
-  | no other ↦ ap (λ (o : Option (List RtdsUnit)). due_in t (units_in w.n o)) (at_place-change_at_other u.dom.0 w.dom.0 (change_item u.n f) domains other)
-  | yes same ↦
-      subst (λ (k : ℕ). due_in t (units_in w.n (at_place (change_at u.dom.0 (change_item u.n f) domains) k)) ≡ due_in t (units_in w.n (at_place domains k))) (sym same)
-      (ap (λ (o : Option (List RtdsUnit)). due_in t (units_in w.n o)) (at_place-change_at u.dom.0 (change_item u.n f) domains) ∙ item_due t u.n w.n f keeps (at_place domains u.dom.0))
-]
-
-burned_deadline : (t : ℕ) (x : RtdsUnit) → (rtds.unit_burned_to t x).deadline ≡ x.deadline
-burned_deadline t x = by_option (λ (y : RtdsUnit). y.deadline ≡ x.deadline) x.burned _ _ (λ none. refl) (λ from some. refl)
-
-own_due : (t at : ℕ) (cur : Option UnitId) (w : UnitId) (domains : List (Option (List RtdsUnit))) → due_in t (rtds_unit_at (rtds.own_burned_domains cur at domains) w) ≡ due_in t (rtds_unit_at domains w)
-own_due t at None w domains = refl
-own_due t at (Some u) w domains = changed_due t u w (rtds.unit_burned_to at) domains (burned_deadline at)
-
-off_due : (t : ℕ) (cur : Option UnitId) (w : UnitId) (domains : List (Option (List RtdsUnit))) → due_in t (rtds_unit_at (rtds.off_domains cur domains) w) ≡ due_in t (rtds_unit_at domains w)
-off_due t None w domains = refl
-off_due t (Some u) w domains = changed_due t u w _ domains (λ x. refl)
-
-chosen_due : (t : ℕ) (ask : Ask) (w : UnitId) (domains : List (Option (List RtdsUnit))) (choice : Option UnitId) → is_replenish_due (rtds.rtds_decision_for ask domains choice).records t w ≡ due_in t (rtds_unit_at domains w)
-chosen_due t ask w domains None = off_due t ask.cur w domains
-chosen_due t ask w domains (Some u) = changed_due t u w _ (rtds.off_domains ask.cur domains) (λ x. refl) ∙ off_due t ask.cur w domains
 
 credit2_due : (t : ℕ) (ask : Ask) (s : Scheduler) (w : UnitId) (records : Credit2Records) (choice : Option UnitId) → is_replenish_due (credit2.credit2_decision_for ask s records choice).records t w ≡ false
 credit2_due t ask s w records None = refl
@@ -162,7 +89,10 @@ null_due t core w kept (Some u) = refl
 
 due_by : (t : ℕ) (ask : Ask) (s : Scheduler) (w : UnitId) (records : Records) → s.records ≡ records → is_replenish_due (decision_by records ask s).records t w ≡ is_replenish_due records t w
 due_by t ask s w (Credit2Pool records) is = credit2_due t ask s w (credit2.own_burned_records ask.cur ask.at.0 records) _
-due_by t ask s w (RtdsPool domains) is = chosen_due t ask w (rtds.own_burned_domains ask.cur ask.at.0 domains) _ ∙ own_due t ask.at.0 ask.cur w domains
+due_by t ask s w (RtdsPool domains) is =
+    let choice : Option UnitId = rtds.rtds_choice ask s (rtds.own_burned_domains ask.cur ask.at.0 domains) in
+    ap (λ (r : Records). is_replenish_due r t w) (units_decided ask domains choice) ∙ ap (due_in t) (unit_decided ask domains choice w)
+    ∙ mapped_due t _ (λ x. (unit_leaves ask.at.0 (is_unit ask.cur w) (is_unit choice w) x).deadline) (rtds_unit_at domains w)
 due_by t ask s w (ArincPool records) is = ap (λ (r : Records). is_replenish_due r t w) (window_records ask s _ ∙ is)
 due_by t ask s w (NullPool kept) is = by_cond (λ (e : Decision). is_replenish_due e.records t w ≡ false) ask.leaving _ _ (λ leaves. refl) (λ stays. null_due t ask.core.0 w kept _)
 

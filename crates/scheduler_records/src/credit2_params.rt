@@ -128,7 +128,7 @@ fn set_cap_of(most: u32, t: Moment, d: DomId, cap: Option<u32>, records: &mut Cr
 }
 
 /// The pool at t after the domain's weight is set, and then its cap, where they are given: the weight 1 to 65535, the cap in
-/// percent of one processor, at most 6400 (0 for none).
+/// percent of one core, at most 6400 (0 for none).
 pub fn set_domain(
     t: Moment,
     d: DomId,
@@ -147,7 +147,7 @@ pub fn set_domain(
     set_cap_of(most, t, d, cap, records);
 }
 
-/// A domain with so many units that joins at t. The cap is in percent of one processor, at most 6400 (0 for none).
+/// A domain with so many units that joins at t. The cap is in percent of one core, at most 6400 (0 for none).
 pub fn fresh_domain(weight: u32, cap: u32, count: u8, t: Moment) -> Credit2Domain
     requires early { t.0 ≤ most_span }
     requires cap { cap ≤ 6400 }

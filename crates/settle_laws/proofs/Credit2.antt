@@ -15,46 +15,29 @@ use Rattle.sched_model.specs.declared.state.Records.{Records}
 use Rattle.sched_model.specs.declared.state.Records.TheVariants.{Credit2Pool}
 use Rattle.sched_model.specs.declared.state.Scheduler.{Scheduler}
 use Rattle.sched_model.specs.declared.ask.Ask.{Ask}
-use Rattle.sched_model.specs.Places.{has_listed_unit, is_unit, same_unit}
+use Rattle.sched_model.specs.Places.{at_place, has_listed_unit, is_unit, same_unit}
 use Rattle.sched_model.specs.EligibleUnits.{Decision, is_unit_allowed, is_unit_eligible, eligible_units, may_have_core}
 use Rattle.sched_model.specs.Policy.{after_decision, decision_of, is_unit_better}
 use Rattle.sched_model.specs.Pool.{same_choice}
 use Rattle.sched_model.specs.Credit2 as credit2
-use Rattle.sched_model.specs.Credit2.{own_burned_records, burned_unit, change_domain, change_unit, unit_credit, has_domain_budget, richest_unit, is_rate_limited, most_weight, reset_records, running_records, off_records, domain_after_take}
-use Rattle.sched_laws.proofs.Choices.{same_unit_same}
+use Rattle.sched_model.specs.Credit2.{own_burned_records, burned_unit, change_unit, unit_credit, has_domain_budget, richest_unit, is_rate_limited, most_weight, reset_records, running_records, off_records}
+use Rattle.sched_laws.proofs.Choices.{greatest_has, same_unit_same}
 use Rattle.sched_laws.proofs.Counts.{same_unit_refl}
 use Rattle.sched_laws.proofs.EachPlace.{by_cond, by_option}
 use Rattle.sched_laws.specs.PoolFacts.{IfUnit}
+use Rattle.record_laws.specs.Decisions.{number_in, resets_for}
+use Rattle.record_laws.proofs.Best.{is_best, none_listed}
+use Rattle.record_laws.proofs.Charges.{most_decided}
+use Rattle.record_laws.proofs.Credit2Seen.{decided_limit, decided_records, domain_burned, domain_decided, most_stays, own_limit, records_decided, taken_records}
+use Rattle.record_laws.proofs.Orders.{credit_order, greatest_scan, has_more}
 use Rattle.settle_laws.specs.Frees.{frees, lets_run}
 use Rattle.settle_laws.specs.Ready.{HasRecord, IsOff}
 use Rattle.settle_laws.specs.Wanted.{waits_for}
 use Rattle.settle_laws.proofs.Waiting.{Left, has_filter}
-use Rattle.settle_laws.proofs.Foremost.{best_by, best_has, IsStrict, none_before_any, none_best}
 use Rattle.settle_laws.proofs.Spares.{Apart, Spares, others_from, own_from}
-use Rattle.settle_laws.proofs.Views.{View, view, of_domain, view_of, burn_view, credit_in, now_of, up, reset_view, with_burned, no_time, again, credit_is, now_is, view_other, view_taken, view_burned, view_own, view_off, view_run, view_reset, most_burned, most_off, most_running, most_taken, most_reset}
-use Rattle.settle_laws.proofs.Budgets.{budget_burned, budget_off, budget_reset, budget_same, budget_taken, budget_unit}
+use Rattle.settle_laws.proofs.Views.{View, view, of_domain, view_of, burn_view, credit_in, now_of, up, reset_view, with_burned, no_time, again, credit_is, now_is, view_other, view_taken, view_burned, view_own, view_off, view_run, view_reset}
+use Rattle.settle_laws.proofs.Budgets.{budget_at, budget_burned, budget_chosen, budget_same}
 use Rattle.settle_laws.proofs.Tests.{false_if}
-
--- the order by credit
-abbrev pub before : Credit2Records → UnitId → UnitId → Bool
-before records u best = int_lt (unit_credit records best) (unit_credit records u)
-
-pub strict : (records : Credit2Records) → IsStrict (before records)
-strict records = record {
-  own = λ u. own (unit_credit records u);
-  chain = λ u w x a b. chain (unit_credit records u) (unit_credit records w) (unit_credit records x) a b;
-}
-  where
-    own : (a : ℤ) → int_lt a a ≡ false
-    own a = grind (arith, ints)
-
-    chain : (a b c : ℤ) → int_lt b a ≡ true → int_lt c b ≡ true → int_lt c a ≡ true
-    chain a b c f s = grind (arith, ints, f, s)
-
-pub greatest_is : (records : Credit2Records) (best : Option UnitId) (units : List UnitId) → richest_unit records best units ≡ best_by (before records) best units
-greatest_is records best [] = refl
-greatest_is records None (u ∷ units) = greatest_is records (Some u) units
-greatest_is records (Some best) (u ∷ units) = greatest_is records (Some (cond (before records u best) u best)) units
 
 -- resets change no order
 up_less : (m : ℕ) (a b : ℤ) → int_lt (up m a) (up m b) ≡ true → int_lt a b ≡ true
@@ -163,53 +146,26 @@ module _ (ask : Ask) (queue : List UnitId) (affinity : List (Option (List Cores)
   count (Some u) = credit2.reset_count t u burned
 
   abbrev taken : UnitId → Credit2Records
-  taken u = change_domain u.dom.0 (domain_after_take u.n) (reset_records t (credit2.reset_count t u burned) burned)
+  taken = taken_records ask records
 
   abbrev last : Option UnitId → Credit2Records
-  last None = off_records ask.cur burned
-  last (Some u) = running_records (Some t) u (off_records ask.cur (taken u))
+  last = decided_records ask records
 
   unit_by : (o : Option UnitId) → (credit2.credit2_decision_for ask s burned o).unit ≡ o
   unit_by None = refl
   unit_by (Some u) = refl
 
-  records_by : (o : Option UnitId) → (credit2.credit2_decision_for ask s burned o).records ≡ Credit2Pool (last o)
-  records_by None = refl
-  records_by (Some u) = refl
-
   unit_is : decision.unit ≡ chosen
   unit_is = unit_by chosen
 
   records_is : next.records ≡ Credit2Pool (last chosen)
-  records_is = records_by chosen
-
-  most_last : (o : Option UnitId) → most_weight (last o) ≡ most
-  most_last None = most_off ask.cur burned ∙ most_burned ask.cur t records
-  most_last (Some u) =
-      most_running (Some t) u (off_records ask.cur (taken u)) ∙ most_off ask.cur (taken u) ∙ most_taken u.dom.0 u.n (reset_records t (credit2.reset_count t u burned) burned)
-      ∙ most_reset t (credit2.reset_count t u burned) burned ∙ most_burned ask.cur t records
-
-  limit_reset : (m : ℕ) (r : Credit2Records) → (reset_records t m r).limit ≡ r.limit
-  limit_reset zero r = refl
-  limit_reset (suc m) r = refl
-
-  limit_off : (cur : Option UnitId) (r : Credit2Records) → (off_records cur r).limit ≡ r.limit
-  limit_off None r = refl
-  limit_off (Some u) r = refl
-
-  limit_burned : (cur : Option UnitId) → (own_burned_records cur t records).limit ≡ records.limit
-  limit_burned None = refl
-  limit_burned (Some u) = refl
-
-  limit_last : (o : Option UnitId) → (last o).limit ≡ records.limit
-  limit_last None = limit_off ask.cur burned ∙ limit_burned ask.cur
-  limit_last (Some u) = limit_off ask.cur (taken u) ∙ limit_reset (credit2.reset_count t u burned) burned ∙ limit_burned ask.cur
+  records_is = records_decided ask records s chosen
 
   within_last : (o : Option UnitId) (since : ℕ) → is_rate_limited (last o) since t ≡ is_rate_limited records since t
-  within_last o since = ap (λ (k : ℕ). nat_lt (t - since) (k * 1000)) (limit_last o)
+  within_last o since = ap (λ (k : ℕ). nat_lt (t - since) (k * 1000)) (decided_limit ask records o)
 
   reset_of : (m : ℕ) (w : UnitId) → view_of (reset_records t m burned) w ≡ option_map (reset_view most t m) (view_of burned w)
-  reset_of m w = view_reset t m burned w ∙ ap (λ (k : ℕ). option_map (reset_view k t m) (view_of burned w)) (most_burned ask.cur t records)
+  reset_of m w = view_reset t m burned w ∙ ap (λ (k : ℕ). option_map (reset_view k t m) (view_of burned w)) (most_stays ask.cur t records)
 
   same_view : (o : Option View) → o ≡ option_map (reset_view most t 0) o
   same_view None = refl
@@ -245,7 +201,7 @@ module _ (ask : Ask) (queue : List UnitId) (affinity : List (Option (List Cores)
       let within : not (is_rate_limited records since t) ≡ true = ap not (sym (within_last o since)) ∙ and_left _ _ raw in
       let less : int_lt (up (count o) (now_of most t (view_of records x))) (up (count o) (credit_in (view_of records w))) ≡ true =
       ap (λ (a : ℤ). int_lt a (up (count o) (credit_in (view_of records w)))) (sym (running_now o x has own other_x))
-      ∙ ap (λ (k : ℕ). int_lt (now_of k t (view_of (last o) x)) (up (count o) (credit_in (view_of records w)))) (sym (most_last o))
+      ∙ ap (λ (k : ℕ). int_lt (now_of k t (view_of (last o) x)) (up (count o) (credit_in (view_of records w)))) (sym (most_decided ask records o))
       ∙ ap (λ (a : ℤ). int_lt (now_of (most_weight (last o)) t (view_of (last o) x)) a) (sym (waiting_credit o w waits other_w))
       ∙ and_right _ _ raw in
       better_is records x since t w
@@ -254,9 +210,9 @@ module _ (ask : Ask) (queue : List UnitId) (affinity : List (Option (List Cores)
 
   -- a domain that may run after the choice may run before it, once the core's own unit gave back what it held
   budget_last : (o : Option UnitId) (w : UnitId) → has_domain_budget (last o) w ≡ true → has_domain_budget burned w ≡ true
-  budget_last None w is = budget_off ask.cur burned w is
-  budget_last (Some u) w is =
-      budget_reset t (credit2.reset_count t u burned) burned w (budget_taken u.dom.0 u.n (reset_records t (credit2.reset_count t u burned) burned) w (budget_off ask.cur (taken u) w (budget_unit u _ (off_records ask.cur (taken u)) w is)))
+  budget_last o w is =
+      ap budget_at (domain_burned ask records w.dom.0)
+      ∙ budget_chosen most (most_weight burned) t (resets_for t burned o) (number_in w.dom.0 ask.cur) (number_in w.dom.0 o) (at_place records.domains w.dom.0) (sym (ap budget_at (domain_decided ask records o w.dom.0)) ∙ is)
 
   -- and before that too, where the own unit's domain gains nothing
   abbrev gains : Option UnitId → Bool
@@ -368,7 +324,7 @@ module _ (ask : Ask) (queue : List UnitId) (affinity : List (Option (List Cores)
   chosen_fits =
       by_cond (IfUnit IsFit) ask.leaving _ _ (λ is. tt)
       (λ is. by_cond (IfUnit IsFit) keeps_on own_unit _ (λ on. own_fits)
-      (λ on. subst (IfUnit IsFit) (sym (greatest_is burned own_unit asked)) (best_has (before burned) IsFit own_unit asked own_fits (all_in IsFit (is_unit_eligible at_choice ask.home.0 ask.core.0 t) queue waiting_fit))))
+      (λ on. greatest_has IsFit burned own_unit asked own_fits (all_in IsFit (is_unit_eligible at_choice ask.home.0 ask.core.0 t) queue waiting_fit)))
 
   fit_of : (u : UnitId) → chosen ≡ Some u → IsFit u
   fit_of u is = subst (IfUnit IsFit) is chosen_fits
@@ -448,7 +404,7 @@ module _ (ask : Ask) (queue : List UnitId) (affinity : List (Option (List Cores)
           let within : is_rate_limited (last chosen) since t ≡ true =
           ap (λ (k : ℕ). is_rate_limited (last chosen) k t) same
           ∙ within_last chosen ask.since.0
-          ∙ sym (ap (λ (k : ℕ). nat_lt (t - ask.since.0) (k * 1000)) (limit_burned ask.cur))
+          ∙ sym (ap (λ (k : ℕ). nat_lt (t - ask.since.0) (k * 1000)) (own_limit t ask.cur records))
           ∙ and_right (is_some own_unit) _ on in
           ap (λ (b : Bool). (allowed && has_domain_budget (last chosen) w) && (not b && int_lt (unit_credit (change_unit u (burned_unit (most_weight (last chosen)) t) (last chosen)) u) (unit_credit (last chosen) w))) within
           ∙ and_false (allowed && has_domain_budget (last chosen) w)
@@ -466,18 +422,18 @@ module _ (ask : Ask) (queue : List UnitId) (affinity : List (Option (List Cores)
 
       -- or the unit of the greatest credit is chosen
       greatest : keeps_on ≡ false → (o : Option UnitId) → chosen ≡ o → asks_for o (last chosen) since t w allowed ≡ false
-      greatest on None is = false_if (allowed && has_domain_budget (last chosen) w) (λ may. none_best (before burned) own_unit w asked (was_asked may) (sym (greatest_is burned own_unit asked) ∙ sym (choice_is ∙ ap (λ (b : Bool). cond b own_unit (richest_unit burned own_unit asked)) on) ∙ is))
+      greatest on None is = false_if (allowed && has_domain_budget (last chosen) w) (λ may. none_listed (credit_order burned) (greatest_scan burned) own_unit w asked (was_asked may) (sym (choice_is ∙ ap (λ (b : Bool). cond b own_unit (richest_unit burned own_unit asked)) on) ∙ is))
       greatest on (Some u) is = false_if _ (λ asks.
           let may = and_left (allowed && has_domain_budget (last chosen) w) _ asks in
-          let best : best_by (before burned) own_unit asked ≡ Some u = sym (greatest_is burned own_unit asked) ∙ sym (choice_is ∙ ap (λ (b : Bool). cond b own_unit (richest_unit burned own_unit asked)) on) ∙ is in
-          let none : before burned w u ≡ false = none_before_any (before burned) (strict burned) own_unit u w asked (was_asked may) best in
+          let best : richest_unit burned own_unit asked ≡ Some u = sym (choice_is ∙ ap (λ (b : Bool). cond b own_unit (richest_unit burned own_unit asked)) on) ∙ is in
+          let none : has_more burned w u ≡ false = (is_best (credit_order burned) (greatest_scan burned) own_unit asked u best).none_better w (was_asked may) in
           let raw = sym (better_is (last chosen) u since t w) ∙ and_right (allowed && has_domain_budget (last chosen) w) _ asks in
           let less : int_lt (up (count chosen) (unit_credit burned u)) (up (count chosen) (unit_credit burned w)) ≡ true =
           ap (λ (a : ℤ). int_lt a (up (count chosen) (unit_credit burned w))) (sym (now u is))
-          ∙ ap (λ (k : ℕ). int_lt (now_of k t (view_of (last chosen) u)) (up (count chosen) (unit_credit burned w))) (sym (most_last chosen))
+          ∙ ap (λ (k : ℕ). int_lt (now_of k t (view_of (last chosen) u)) (up (count chosen) (unit_credit burned w))) (sym (most_decided ask records chosen))
           ∙ ap (λ (a : ℤ). int_lt (now_of (most_weight (last chosen)) t (view_of (last chosen) u)) a) (ap (up (count chosen)) (credit_is burned w ∙ ap credit_in (view_burned ask.cur t records w (waits_not w left.waits))) ∙ sym (waiting_credit chosen w left.waits not_chosen))
           ∙ and_right _ _ raw in
-          clash (before burned w u) (up_less (count chosen) (unit_credit burned u) (unit_credit burned w) less) none)
+          clash (has_more burned w u) (up_less (count chosen) (unit_credit burned u) (unit_credit burned w) less) none)
         where
           now : (u : UnitId) → chosen ≡ Some u → now_of most t (view_of (last chosen) u) ≡ up (count chosen) (unit_credit burned u)
           now u is = subst (λ (o : Option UnitId). now_of most t (view_of (last o) u) ≡ up (count o) (unit_credit burned u)) (sym is) (chosen_now u (fit_of u is))

@@ -2,7 +2,6 @@ pub mod Fixed
 pub mod Moments
 pub mod Comes
 pub mod Waiting
-pub mod Foremost
 pub mod Spares
 pub mod Rtds
 pub mod Arinc

@@ -1,7 +1,6 @@
 -- A decision of an RTDS core: of the units that wait none changes its claim, and the chosen one goes before all of them.
-use Rattle.std.proofs.Common.{◌≡◌, ℕ, Bool, true, false, List, [], ◌∷◌, refl, sym, ap, subst, ◌∙◌, cond, arith}
+use Rattle.std.proofs.Common.{◌≡◌, ℕ, Bool, true, false, List, refl, sym, ap, subst, ◌∙◌, cond}
 use Rattle.std.specs.Prelude.{Option, Some, None, ◌&&◌, ◌||◌, ◌==◌, nat_lt, option_map}
-use Rattle.std.proofs.lemmas.Bool.Decides.{nat_tests}
 use Rattle.sched_base.proofs.Bools.{and_left, and_right}
 use Rattle.sched_base.specs.declared.Cores.{Cores}
 use Rattle.sched_base.specs.declared.UnitId.{UnitId}
@@ -10,18 +9,21 @@ use Rattle.sched_model.specs.declared.state.Records.TheVariants.{RtdsPool}
 use Rattle.sched_model.specs.declared.state.RtdsUnit.{RtdsUnit}
 use Rattle.sched_model.specs.declared.state.Scheduler.{Scheduler}
 use Rattle.sched_model.specs.declared.ask.Ask.{Ask}
-use Rattle.sched_model.specs.Places.{has_listed_unit, is_unit, same_unit}
+use Rattle.sched_model.specs.Places.{has_listed_unit, is_unit}
 use Rattle.sched_model.specs.EligibleUnits.{Decision, is_unit_allowed, is_unit_eligible, eligible_units, may_have_core, rtds_unit_at}
 use Rattle.sched_model.specs.Policy.{after_decision, decision_of, is_unit_better}
 use Rattle.sched_model.specs.Rtds as rtds
-use Rattle.sched_model.specs.Rtds.{is_record_before, is_unit_before, change_unit, first_of_units}
-use Rattle.sched_laws.proofs.Choices.{same_unit_same}
+use Rattle.sched_model.specs.Rtds.{is_record_before, is_unit_before, first_of_units}
+use Rattle.sched_laws.proofs.Choices.{foremost_has}
 use Rattle.sched_laws.proofs.EachPlace.{by_option, by_cond}
-use Rattle.sched_laws.proofs.RtdsUnits.{rtds_unit-same, rtds_unit-none, rtds_unit-other}
+use Rattle.sched_laws.proofs.RtdsUnits.{rtds_unit-other}
 use Rattle.sched_laws.specs.PoolFacts.{IfUnit}
+use Rattle.record_laws.specs.Decisions.{after_decision as unit_after, charged_if}
+use Rattle.record_laws.proofs.Best.{is_best, none_listed}
+use Rattle.record_laws.proofs.Orders.{before_order, foremost_scan}
+use Rattle.record_laws.proofs.RtdsSeen.{burned_at, decided_units, unit_decided, units_decided}
 use Rattle.settle_laws.specs.Wanted.{waits_for}
 use Rattle.settle_laws.proofs.Waiting.{Left, has_filter, all_filter}
-use Rattle.settle_laws.proofs.Foremost.{best_by, IsStrict, none_before_any, none_best, best_has}
 use Rattle.settle_laws.proofs.Spares.{Apart, Spares, others_from, own_from}
 
 -- what of a unit's record the order and the right to run read
@@ -60,67 +62,25 @@ before_by (Some x) (Some y) = refl
 before_is : (domains : Domains) (u w : UnitId) → is_unit_before domains u w ≡ before_of (claim_of domains u) (claim_of domains w)
 before_is domains u w = before_by (rtds_unit_at domains u) (rtds_unit_at domains w)
 
--- the order is strict
-pub strict : (domains : Domains) → IsStrict (is_unit_before domains)
-strict domains = record {
-  own = λ u. before_is domains u u ∙ own (claim_of domains u);
-  chain = λ u w x a b. before_is domains u x ∙ chain (claim_of domains u) (claim_of domains w) (claim_of domains x) (sym (before_is domains u w) ∙ a) (sym (before_is domains w x) ∙ b);
-}
-  where
-    own : (a : Option Claim) → before_of a a ≡ false
-    own None = refl
-    own (Some a) = grind (arith, nat_tests)
-
-    chain : (a b c : Option Claim) → before_of a b ≡ true → before_of b c ≡ true → before_of a c ≡ true
-    chain None b c f s = absurd (cc)
-    chain (Some a) None c f s = absurd (cc)
-    chain (Some a) (Some b) None f s = absurd (cc)
-    chain (Some a) (Some b) (Some c) f s = orders a.level a.deadline b.level b.deadline c.level c.deadline f s
-      where
-        orders : (l d m e n h : ℕ) → (nat_lt l m || (l == m && nat_lt d e)) ≡ true → (nat_lt m n || (m == n && nat_lt e h)) ≡ true → (nat_lt l n || (l == n && nat_lt d h)) ≡ true
-        orders l d m e n h f s = grind (arith, nat_tests, f, s)
-
-pub foremost_is : (domains : Domains) (best : Option UnitId) (units : List UnitId) → first_of_units domains best units ≡ best_by (is_unit_before domains) best units
-foremost_is domains best [] = refl
-foremost_is domains None (u ∷ units) = foremost_is domains (Some u) units
-foremost_is domains (Some best) (u ∷ units) = foremost_is domains (Some (cond (is_unit_before domains u best) u best)) units
-
--- a change of records that no claim shows
-claim_kept : (v w : UnitId) (f : RtdsUnit → RtdsUnit) (domains : Domains) → ((x : RtdsUnit) → claim (f x) ≡ claim x) → claim_of (change_unit v f domains) w ≡ claim_of domains w
-claim_kept v w f domains same =
-    elim (same_unit v w) as (λ b. same_unit v w ≡ b → claim_of (change_unit v f domains) w ≡ claim_of domains w) [
-      | true ↦ λ is. subst (λ (x : UnitId). claim_of (change_unit x f domains) w ≡ claim_of domains w) (sym (same_unit_same v w is)) (by_record (rtds_unit_at domains w) refl)
-      | false ↦ λ is. ap (option_map claim) (rtds_unit-other v w f domains is)
-    ] refl
-  where
-    by_record : (o : Option RtdsUnit) → rtds_unit_at domains w ≡ o → claim_of (change_unit w f domains) w ≡ claim_of domains w
-    by_record None is = ap (option_map claim) (rtds_unit-none w f domains is ∙ sym is)
-    by_record (Some x) is = ap (option_map claim) (rtds_unit-same w f domains x is) ∙ ap (λ (y : Claim). Some y) (same x) ∙ sym (ap (option_map claim) is)
-
 claim_burned : (cur : Option UnitId) (t : ℕ) (domains : Domains) (w : UnitId) → is_unit cur w ≡ false → claim_of (rtds.own_burned_domains cur t domains) w ≡ claim_of domains w
 claim_burned None t domains w other = refl
 claim_burned (Some v) t domains w other = ap (option_map claim) (rtds_unit-other v w (rtds.unit_burned_to t) domains other)
 
-claim_off : (cur : Option UnitId) (domains : Domains) (w : UnitId) → claim_of (rtds.off_domains cur domains) w ≡ claim_of domains w
-claim_off None domains w = refl
-claim_off (Some v) domains w = claim_kept v w _ domains (λ x. refl)
-
--- the records after the choice
-abbrev records_after : Ask → Domains → Option UnitId → Domains
-records_after ask domains None = rtds.off_domains ask.cur domains
-records_after ask domains (Some u) = rtds.running_domains (Some ask.at.0) u (rtds.off_domains ask.cur domains)
-
-claim_after : (ask : Ask) (domains : Domains) (chosen : Option UnitId) (w : UnitId) → claim_of (records_after ask domains chosen) w ≡ claim_of domains w
-claim_after ask domains None w = claim_off ask.cur domains w
-claim_after ask domains (Some u) w = claim_kept u w _ (rtds.off_domains ask.cur domains) (λ x. refl) ∙ claim_off ask.cur domains w
+-- a decision shows no more of a claim than the charge of the core's own unit
+claim_after : (ask : Ask) (domains : Domains) (chosen : Option UnitId) (w : UnitId) → claim_of (decided_units ask domains chosen) w ≡ claim_of (rtds.own_burned_domains ask.cur ask.at.0 domains) w
+claim_after ask domains chosen w =
+    ap (option_map claim) (unit_decided ask domains chosen w) ∙ by_record (is_unit ask.cur w) (is_unit chosen w) (rtds_unit_at domains w) ∙ sym (ap (option_map claim) (burned_at w ask.cur ask.at.0 domains))
+  where
+    by_record : (had has : Bool) (o : Option RtdsUnit) → option_map claim (option_map (unit_after ask.at.0 had has) o) ≡ option_map claim (option_map (charged_if had ask.at.0) o)
+    by_record had has None = refl
+    by_record true true (Some x) = refl
+    by_record true false (Some x) = refl
+    by_record false true (Some x) = refl
+    by_record false false (Some x) = refl
 
 decide_unit : (ask : Ask) (domains : Domains) (chosen : Option UnitId) → (rtds.rtds_decision_for ask domains chosen).unit ≡ chosen
 decide_unit ask domains None = refl
 decide_unit ask domains (Some u) = refl
-
-decide_records : (ask : Ask) (domains : Domains) (chosen : Option UnitId) → (rtds.rtds_decision_for ask domains chosen).records ≡ RtdsPool (records_after ask domains chosen)
-decide_records ask domains None = refl
-decide_records ask domains (Some u) = refl
 
 -- what a waiting unit asks for, by its claim and that of the core's own unit
 abbrev own_claim : Domains → Option UnitId → Option Claim
@@ -158,16 +118,16 @@ module _ (ask : Ask) (queue : List UnitId) (affinity : List (Option (List Cores)
   next = after_decision decision s
 
   abbrev last : Domains
-  last = records_after ask burned chosen
+  last = decided_units ask domains chosen
 
   unit_is : decision.unit ≡ chosen
   unit_is = decide_unit ask burned chosen
 
   records_is : next.records ≡ RtdsPool last
-  records_is = decide_records ask burned chosen
+  records_is = units_decided ask domains chosen
 
   claim_last : (w : UnitId) → is_unit ask.cur w ≡ false → claim_of last w ≡ claim_of domains w
-  claim_last w other = claim_after ask burned chosen w ∙ claim_burned ask.cur ask.at.0 domains w other
+  claim_last w other = claim_after ask domains chosen w ∙ claim_burned ask.cur ask.at.0 domains w other
 
   others_claim : (cur : Option UnitId) → ((x : UnitId) → cur ≡ Some x → Apart ask s x) → own_claim last cur ≡ own_claim domains cur
   others_claim None apart = refl
@@ -201,23 +161,23 @@ module _ (ask : Ask) (queue : List UnitId) (affinity : List (Option (List Cores)
   chosen_allowed : IfUnit IsAllowed chosen
   chosen_allowed =
       by_cond (IfUnit IsAllowed) ask.leaving _ _ (λ is. tt)
-      (λ is. subst (IfUnit IsAllowed) (sym (foremost_is burned own_unit asked)) (best_has (is_unit_before burned) IsAllowed own_unit asked own_allowed (all_filter IsAllowed (is_unit_eligible at_choice ask.home.0 ask.core.0 ask.at.0) queue (λ u may. and_left _ _ may))))
+      (λ is. foremost_has IsAllowed burned own_unit asked own_allowed (all_filter IsAllowed (is_unit_eligible at_choice ask.home.0 ask.core.0 ask.at.0) queue (λ u may. and_left _ _ may)))
 
   -- no unit that waits is asked for by the core of the chosen one
   none_asked : ask.leaving ≡ false → (since : ℕ) (w : UnitId) → has_listed_unit queue w ≡ true → waits_for chosen since ask.at.0 ask.core.0 ask.home.0 at_choice w ≡ false
   none_asked stays since w waits =
-      by_choice chosen (sym (ap (λ (b : Bool). cond b None (first_of_units burned own_unit asked)) stays ∙ foremost_is burned own_unit asked))
+      by_choice chosen (sym (ap (λ (b : Bool). cond b None (first_of_units burned own_unit asked)) stays))
     where
       -- with the eligible ones a unit that is asked for
-      by_choice : (o : Option UnitId) → best_by (is_unit_before burned) own_unit asked ≡ o → waits_for o since ask.at.0 ask.core.0 ask.home.0 at_choice w ≡ false
+      by_choice : (o : Option UnitId) → first_of_units burned own_unit asked ≡ o → waits_for o since ask.at.0 ask.core.0 ask.home.0 at_choice w ≡ false
       by_choice None is =
           elim (is_unit_eligible at_choice ask.home.0 ask.core.0 ask.at.0 w) as (λ b. is_unit_eligible at_choice ask.home.0 ask.core.0 ask.at.0 w ≡ b → b ≡ false) [
-            | true ↦ λ may. absurd (none_best (is_unit_before burned) own_unit w asked (has_filter _ queue w waits may) is)
+            | true ↦ λ may. absurd (none_listed (before_order burned) (foremost_scan burned) own_unit w asked (has_filter _ queue w waits may) is)
             | false ↦ λ may. refl
           ] refl
       by_choice (Some u) is =
           elim (is_unit_eligible at_choice ask.home.0 ask.core.0 ask.at.0 w) as (λ b. is_unit_eligible at_choice ask.home.0 ask.core.0 ask.at.0 w ≡ b → (b && is_unit_before burned w u) ≡ false) [
-            | true ↦ λ may. none_before_any (is_unit_before burned) (strict burned) own_unit u w asked (has_filter _ queue w waits may) is
+            | true ↦ λ may. (is_best (before_order burned) (foremost_scan burned) own_unit asked u is).none_better w (has_filter _ queue w waits may)
             | false ↦ λ may. refl
           ] refl
 
@@ -226,7 +186,7 @@ module _ (ask : Ask) (queue : List UnitId) (affinity : List (Option (List Cores)
     where
       by_choice : (o : Option UnitId) → own_claim last o ≡ own_claim burned o
       by_choice None = refl
-      by_choice (Some u) = claim_after ask burned chosen u
+      by_choice (Some u) = claim_after ask domains chosen u
 
   pub rtds_spares : Spares ask s
   rtds_spares = record {
@@ -236,7 +196,7 @@ module _ (ask : Ask) (queue : List UnitId) (affinity : List (Option (List Cores)
         (λ w left.
         ap (λ (o : Option UnitId). waits_for o since ask.at.0 ask.core.0 ask.home.0 next w) unit_is
         ∙ waits_is next last chosen since ask.at.0 ask.core.0 ask.home.0 w records_is
-        ∙ ap (λ (a : Option Claim). asks_for chosen (is_unit_allowed s ask.home.0 ask.core.0 w) a (own_claim last chosen)) (claim_after ask burned chosen w)
+        ∙ ap (λ (a : Option Claim). asks_for chosen (is_unit_allowed s ask.home.0 ask.core.0 w) a (own_claim last chosen)) (claim_after ask domains chosen w)
         ∙ ap (λ (b : Option Claim). asks_for chosen (is_unit_allowed s ask.home.0 ask.core.0 w) (claim_of burned w) b) own_claims
         ∙ sym (waits_is at_choice burned chosen since ask.at.0 ask.core.0 ask.home.0 w refl)
         ∙ none_asked stays since w left.waits);

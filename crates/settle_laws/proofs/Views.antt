@@ -1,15 +1,16 @@
 -- What a unit's credit rests on, and what each step of Credit2 makes of it.
 use Rattle.std.proofs.Common.{◌≡◌, ◌≢◌, ◌<◌, ◌+◌, ◌-◌, ◌*◌, ◌/◌, ℕ, zero, suc, false, List, [], ◌∷◌, refl, ap, subst, ◌∙◌, cond, arith, map}
-use Rattle.std.specs.Prelude.{Option, Some, None, ◌==◌, option_map, slice_get, pos, ℤ, ◌-ℤ◌, fold, max}
+use Rattle.std.specs.Prelude.{Option, Some, None, ◌==◌, option_map, slice_get, pos, ℤ, ◌-ℤ◌}
 use Rattle.std.proofs.Math.Decide.{ℕ_discrete}
 use Rattle.std.proofs.Math.Nat.{mod-lt, div-eq_of_lt}
 use Rattle.std.proofs.lemmas.Int.{ints}
+use Rattle.std.proofs.lemmas.Option.{slice_get-map}
 use Rattle.sched_base.specs.Credit2Numbers.{burned_credit, burned_residual, undivided_charge, raised_credit}
 use Rattle.sched_base.specs.declared.UnitId.{UnitId}
 use Rattle.sched_model.specs.declared.state.Credit2Domain.{Credit2Domain}
 use Rattle.sched_model.specs.declared.state.Credit2Records.{Credit2Records}
 use Rattle.sched_model.specs.declared.state.Credit2Unit.{Credit2Unit}
-use Rattle.sched_model.specs.Places.{at_place, change_at, change_each, change_item, is_unit, numbered_items, same_unit}
+use Rattle.sched_model.specs.Places.{at_place, change_at, change_item, is_unit, same_unit}
 use Rattle.sched_model.specs.Credit2.{burn_all, own_burned_records, burned_unit, burned_domain, change_domain, change_unit, unit_credit, domain_after_return, most_weight, reset_records, running_records, off_records, domain_after_take}
 use Rattle.sched_laws.proofs.EachPlace.{at_place-change_at, at_place-change_each, at_place-set_other, by_cond, by_option}
 use Rattle.sched_laws.proofs.Lists.{slice_get-change_item, slice_get-change_item_other}
@@ -191,11 +192,6 @@ view_run from u records =
     by_domain (Some d) = ap (option_map (view d.weight)) (slice_get-change_item u.n (λ (x : Credit2Unit). record x { burned = from }) d.units) ∙ by_unit d.weight (slice_get d.units u.n)
 
 -- a reset_records
-get_map : (f : Credit2Unit → Credit2Unit) (units : List Credit2Unit) (n : ℕ) → slice_get (map f units) n ≡ option_map f (slice_get units n)
-get_map f [] n = refl
-get_map f (x ∷ units) zero = refl
-get_map f (x ∷ units) (suc n) = get_map f units n
-
 pub view_reset : (t m : ℕ) (records : Credit2Records) (w : UnitId) → view_of (reset_records t m records) w ≡ option_map (reset_view (most_weight records) t m) (view_of records w)
 view_reset t zero records w = same (view_of records w)
   where
@@ -220,51 +216,6 @@ view_reset t (suc m) records w =
         ≡ option_map (reset_view most t (suc m)) (of_domain w.n o)
     by_domain None = refl
     by_domain (Some d) =
-        ap (option_map (view d.weight)) (get_map (λ (x : Credit2Unit). record x { credit = raised_credit x.credit (suc m) }) (map (burned_unit most t d) d.units) w.n
-        ∙ ap (option_map (λ (x : Credit2Unit). record x { credit = raised_credit x.credit (suc m) })) (get_map (burned_unit most t d) d.units w.n))
+        ap (option_map (view d.weight)) (slice_get-map (λ (x : Credit2Unit). record x { credit = raised_credit x.credit (suc m) }) (map (burned_unit most t d) d.units) w.n
+        ∙ ap (option_map (λ (x : Credit2Unit). record x { credit = raised_credit x.credit (suc m) })) (slice_get-map (burned_unit most t d) d.units w.n))
         ∙ by_unit d (slice_get d.units w.n)
-
--- no step changes the greatest weight
-weights_each : (n k : ℕ) (f : ℕ → Credit2Domain → Credit2Domain) (places : List (Option Credit2Domain)) → ((j : ℕ) (d : Credit2Domain) → (f j d).weight ≡ d.weight)
-    → map (λ (e : ℕ × Credit2Domain). e.1.weight) (numbered_items n (change_each k f places)) ≡ map (λ (e : ℕ × Credit2Domain). e.1.weight) (numbered_items n places)
-weights_each n k f [] same = refl
-weights_each n k f (None ∷ places) same = weights_each (suc n) (suc k) f places same
-weights_each n k f (Some d ∷ places) same =
-    ap (λ (x : ℕ). x ∷ map (λ (e : ℕ × Credit2Domain). e.1.weight) (numbered_items (suc n) (change_each (suc k) f places))) (same k d)
-    ∙ ap (λ (xs : List ℕ). d.weight ∷ xs) (weights_each (suc n) (suc k) f places same)
-
-weights_at : (n i : ℕ) (f : Credit2Domain → Credit2Domain) (places : List (Option Credit2Domain)) → ((d : Credit2Domain) → (f d).weight ≡ d.weight)
-    → map (λ (e : ℕ × Credit2Domain). e.1.weight) (numbered_items n (change_at i f places)) ≡ map (λ (e : ℕ × Credit2Domain). e.1.weight) (numbered_items n places)
-weights_at n i f [] same = refl
-weights_at n zero f (None ∷ places) same = refl
-weights_at n zero f (Some d ∷ places) same = ap (λ (x : ℕ). x ∷ map (λ (e : ℕ × Credit2Domain). e.1.weight) (numbered_items (suc n) places)) (same d)
-weights_at n (suc i) f (None ∷ places) same = weights_at (suc n) i f places same
-weights_at n (suc i) f (Some d ∷ places) same = ap (λ (xs : List ℕ). d.weight ∷ xs) (weights_at (suc n) i f places same)
-
-most_at : (i : ℕ) (f : Credit2Domain → Credit2Domain) (records : Credit2Records) → ((d : Credit2Domain) → (f d).weight ≡ d.weight) → most_weight (change_domain i f records) ≡ most_weight records
-most_at i f records same = ap (fold max 0) (weights_at 0 i f records.domains same)
-
-given_weight : (j : ℕ) (d : Credit2Domain) → (cond (d.cap == 0) d (domain_after_return j d)).weight ≡ d.weight
-given_weight j d = by_cond (λ (x : Credit2Domain). x.weight ≡ d.weight) (d.cap == 0) d (domain_after_return j d) (λ is. refl) (λ is. by_option (λ (x : Credit2Domain). x.weight ≡ d.weight) (slice_get d.units j) _ _ (λ none. refl) (λ x some. refl))
-
-pub most_burned : (cur : Option UnitId) (t : ℕ) (records : Credit2Records) → most_weight (own_burned_records cur t records) ≡ most_weight records
-most_burned None t records = refl
-most_burned (Some v) t records =
-    most_at v.dom.0 (λ d. cond (d.cap == 0) d (domain_after_return v.n d)) (change_unit v (burned_unit (most_weight records) t) records) (given_weight v.n)
-    ∙ most_at v.dom.0 (λ d. record d { units = change_item v.n (burned_unit (most_weight records) t d) d.units }) records (λ d. refl)
-
-pub most_off : (cur : Option UnitId) (records : Credit2Records) → most_weight (off_records cur records) ≡ most_weight records
-most_off None records = refl
-most_off (Some v) records = most_at v.dom.0 _ records (λ d. refl)
-
-pub most_running : (from : Option ℕ) (u : UnitId) (records : Credit2Records) → most_weight (running_records from u records) ≡ most_weight records
-most_running from u records = most_at u.dom.0 _ records (λ d. refl)
-
-pub most_taken : (i j : ℕ) (records : Credit2Records) → most_weight (change_domain i (domain_after_take j) records) ≡ most_weight records
-most_taken i j records = most_at i (domain_after_take j) records (λ d. by_cond (λ (x : Credit2Domain). x.weight ≡ d.weight) (d.cap == 0) d _ (λ is. refl) (λ is. refl))
-
-pub most_reset : (t m : ℕ) (records : Credit2Records) → most_weight (reset_records t m records) ≡ most_weight records
-most_reset t zero records = refl
-most_reset t (suc m) records =
-    ap (fold max 0) (weights_each 0 0 (λ n (d : Credit2Domain). record d { units = map (λ (x : Credit2Unit). record x { credit = raised_credit x.credit (suc m) }) d.units }) (burn_all t records).domains (λ j d. refl)
-    ∙ weights_each 0 0 (λ n (d : Credit2Domain). burned_domain (most_weight records) t d) records.domains (λ j d. refl))

@@ -19,9 +19,10 @@ use Rattle.sched_model.specs.Places.{at_place, has_listed_unit, is_unit, same_un
 use Rattle.sched_laws.proofs.Choices.{same_unit_same}
 use Rattle.sched_laws.proofs.Counts.{same_unit_other}
 use Rattle.sched_laws.proofs.EachPlace.{by_option, by_cond}
-use Rattle.settle_laws.proofs.Views.{most_burned, most_off, most_reset, most_running, most_taken}
-use Rattle.moment_laws.proofs.BestUnits.{is_best}
-use Rattle.moment_laws.proofs.Credit2Faces.{credit_order, greatest_scan}
+use Rattle.record_laws.specs.Decisions.{resets_for}
+use Rattle.record_laws.proofs.Best.{is_best}
+use Rattle.record_laws.proofs.Credit2Seen.{decided_records, records_decided, taken_limit, taken_records}
+use Rattle.record_laws.proofs.Orders.{credit_order, greatest_scan}
 use Rattle.moment_laws.proofs.Credit2Numbers.{lt_irrefl}
 use Rattle.moment_laws.proofs.Waiting.{filter_has}
 use Rattle.share_laws.proofs.Numbers.{Has, burned_has, called_low, charge_less, charge_more, less_not, raised_has, raised_uncut, residual_low, slice_most}
@@ -130,19 +131,13 @@ module _ (ask : Ask) (scheduler : Scheduler) (records : Credit2Records) where
   is_kept = is_some own && is_rate_limited charged_records ask.since.0 ask.at.0
 
   abbrev pub resets : Option UnitId → ℕ
-  resets None = 0
-  resets (Some q) = reset_count ask.at.0 q charged_records
+  resets = resets_for ask.at.0 charged_records
 
   abbrev pub then : Option UnitId → Credit2Records
-  then None = off_records ask.cur charged_records
-  then (Some q) = running_records (Some ask.at.0) q (off_records ask.cur (change_domain q.dom.0 (domain_after_take q.n) (reset_records ask.at.0 (reset_count ask.at.0 q charged_records) charged_records)))
+  then = decided_records ask records
 
   pub records_then : (credit2_decision ask scheduler records).records ≡ Credit2Pool (then chosen)
-  records_then = by_choice chosen
-    where
-      by_choice : (o : Option UnitId) → (credit2_decision_for ask scheduler charged_records o).records ≡ Credit2Pool (then o)
-      by_choice None = refl
-      by_choice (Some q) = refl
+  records_then = records_decided ask records scheduler chosen
 
   pub unit_then : (credit2_decision ask scheduler records).unit ≡ chosen
   unit_then = by_choice chosen
@@ -150,18 +145,6 @@ module _ (ask : Ask) (scheduler : Scheduler) (records : Credit2Records) where
       by_choice : (o : Option UnitId) → (credit2_decision_for ask scheduler charged_records o).unit ≡ o
       by_choice None = refl
       by_choice (Some q) = refl
-
-  limit_charged : (cur : Option UnitId) → (own_burned_records cur ask.at.0 records).limit ≡ records.limit
-  limit_charged None = refl
-  limit_charged (Some u) = refl
-
-  limit_reset : (k : ℕ) (rs : Credit2Records) → (reset_records ask.at.0 k rs).limit ≡ rs.limit
-  limit_reset zero rs = refl
-  limit_reset (suc k) rs = refl
-
-  limit_off : (cur : Option UnitId) (rs : Credit2Records) → (off_records cur rs).limit ≡ rs.limit
-  limit_off None rs = refl
-  limit_off (Some u) rs = refl
 
   slice_low : (rs : Credit2Records) (q : UnitId) → chosen_slice ask scheduler rs q ≤ max 10000000 (rs.limit * 1000)
   slice_low rs q =
@@ -180,29 +163,11 @@ module _ (ask : Ask) (scheduler : Scheduler) (records : Credit2Records) where
   pub due_then : (q : UnitId) → chosen ≡ Some q → (due : Moment) × ((credit2_decision ask scheduler records).due ≡ Some due) × (due.0 ≤ ask.at.0 + max 10000000 (records.limit * 1000))
   due_then q is = subst (λ (o : Option UnitId). (due : Moment) × ((credit2_decision_for ask scheduler charged_records o).due ≡ Some due) × (due.0 ≤ ask.at.0 + max 10000000 (records.limit * 1000))) (sym is) some
     where
-      same_limit : (change_domain q.dom.0 (domain_after_take q.n) (reset_records ask.at.0 (reset_count ask.at.0 q charged_records) charged_records)).limit ≡ records.limit
-      same_limit = limit_reset (reset_count ask.at.0 q charged_records) charged_records ∙ limit_charged ask.cur
-
-      low : chosen_slice ask scheduler (change_domain q.dom.0 (domain_after_take q.n) (reset_records ask.at.0 (reset_count ask.at.0 q charged_records) charged_records)) q ≤ max 10000000 (records.limit * 1000)
-      low = subst (λ k. chosen_slice ask scheduler (change_domain q.dom.0 (domain_after_take q.n) (reset_records ask.at.0 (reset_count ask.at.0 q charged_records) charged_records)) q ≤ max 10000000 (k * 1000)) same_limit (slice_low (change_domain q.dom.0 (domain_after_take q.n) (reset_records ask.at.0 (reset_count ask.at.0 q charged_records) charged_records)) q)
+      low : chosen_slice ask scheduler (taken_records ask records q) q ≤ max 10000000 (records.limit * 1000)
+      low = subst (λ k. chosen_slice ask scheduler (taken_records ask records q) q ≤ max 10000000 (k * 1000)) (taken_limit ask records q) (slice_low (taken_records ask records q) q)
 
       some : (due : Moment) × ((credit2_decision_for ask scheduler charged_records (Some q)).due ≡ Some due) × (due.0 ≤ ask.at.0 + max 10000000 (records.limit * 1000))
-      some = (moment (ask.at.0 + chosen_slice ask scheduler (change_domain q.dom.0 (domain_after_take q.n) (reset_records ask.at.0 (reset_count ask.at.0 q charged_records) charged_records)) q), refl, (let l = low in omega (arith, l)))
-
-  -- the rate limit stays
-  pub limit_then : (o : Option UnitId) → (then o).limit ≡ records.limit
-  limit_then None = limit_off ask.cur charged_records ∙ limit_charged ask.cur
-  limit_then (Some q) =
-      limit_off ask.cur (change_domain q.dom.0 (domain_after_take q.n) (reset_records ask.at.0 (reset_count ask.at.0 q charged_records) charged_records))
-      ∙ limit_reset (reset_count ask.at.0 q charged_records) charged_records ∙ limit_charged ask.cur
-
-  -- the greatest weight stays
-  pub most_then : (o : Option UnitId) → most_weight (then o) ≡ most_weight records
-  most_then None = most_off ask.cur charged_records ∙ most_burned ask.cur ask.at.0 records
-  most_then (Some q) =
-      let whole : Credit2Records = reset_records ask.at.0 (reset_count ask.at.0 q charged_records) charged_records in
-      let taken : Credit2Records = change_domain q.dom.0 (domain_after_take q.n) whole in
-      most_running (Some ask.at.0) q (off_records ask.cur taken) ∙ most_off ask.cur taken ∙ most_taken q.dom.0 q.n whole ∙ most_reset ask.at.0 (reset_count ask.at.0 q charged_records) charged_records ∙ most_burned ask.cur ask.at.0 records
+      some = (moment (ask.at.0 + chosen_slice ask scheduler (taken_records ask records q) q), refl, (let l = low in omega (arith, l)))
 
   -- what is left of a unit's record
   pub sees_then : (o : Option UnitId) (u : UnitId) (w : ℕ) (x : Credit2Unit) → x.residual < w → ((ask.cur ≡ Some u) × (x.burned ≡ Some ask.at.0)) ⊎ (x.burned ≡ None) → Sees charged_records u w x

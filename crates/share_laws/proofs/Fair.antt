@@ -21,9 +21,9 @@ use Rattle.sched_model.specs.Credit2.{credit2_decision, most_weight, own_burned_
 use Rattle.sched_model.specs.EligibleUnits.{Decision}
 use Rattle.sched_model.specs.Places.{at_place, change_at, is_unit}
 use Rattle.sched_model.specs.Policy as policy
-use Rattle.sched_model.specs.Policy.{after_decision, decision_by, decision_of, unit_rtds_record}
+use Rattle.sched_model.specs.Policy.{decision_by, decision_of, unit_rtds_record}
 use Rattle.sched_model.specs.Pool as pools
-use Rattle.sched_model.specs.Pool.{after_decide, after_in, change_core, core_ask, decided_core, enabled_in, reconsidered_core, same_choice, settled_pool, with_records}
+use Rattle.sched_model.specs.Pool.{after_decide, after_in, change_core, core_ask, decided_core, enabled_in, reconsidered_core, same_choice, settled_pool}
 use Rattle.sched_model.proofs.PlaceLemmas.{at_place-change_at_other}
 use Rattle.sched_laws.proofs.Choices.{is_unit_same}
 use Rattle.sched_laws.proofs.EachPlace.{at_place-change_at, at_place-change_each, at_place-put_at, place_below, by_cond, by_test}
@@ -32,7 +32,9 @@ use Rattle.sched_laws.proofs.OnePlace.{decided_cur}
 use Rattle.service_laws.specs.Passing.{at_moment}
 use Rattle.service_laws.specs.Service.{count_from, has_unit, time_until}
 use Rattle.share_laws.specs.Shares.{longest_slice}
-use Rattle.share_laws.proofs.Decision.{MayBeChosen, PaysAll, PaysNoMore, all_charged, all_then, charged_records, chosen, due_then, is_kept, limit_then, most_then, no_more_charged, no_more_then, not_poorer, records_then, resets, sees_then, then, uncut, unit_then}
+use Rattle.record_laws.proofs.Charges.{most_decided}
+use Rattle.record_laws.proofs.Credit2Seen.{decided_limit}
+use Rattle.share_laws.proofs.Decision.{MayBeChosen, PaysAll, PaysNoMore, all_charged, all_then, charged_records, chosen, due_then, is_kept, no_more_charged, no_more_then, not_poorer, records_then, resets, sees_then, then, uncut, unit_then}
 use Rattle.share_laws.proofs.Numbers.{fair, more_time, paid_less, slice_more}
 use Rattle.share_laws.proofs.Records.{Sees, sees_charged, sees_credit, sees_uncharged}
 use Rattle.share_laws.proofs.Refills.{NoRefills, none_then, weight_most}
@@ -280,9 +282,9 @@ module _ (i r rate most : ℕ) (u v : UnitId) (wu wv : ℕ) where
             has = at_place-change_each 0 r look after.resources ∙ ap (option_map (look (0 + r))) (at_place-put_at r decided here.pool.resources (place_below here.pool.resources r here.core here.has));
             books = then ask here.pool.scheduler here.books pick;
             is = ap (λ (x : Decision). x.records) decision_is ∙ records_then ask here.pool.scheduler here.books;
-            unfilled = none_then ask here.pool.scheduler here.books pick here.unfilled;
-            limit = limit_then ask here.pool.scheduler here.books pick ∙ here.limit;
-            heavy = most_then ask here.pool.scheduler here.books pick ∙ here.heavy;
+            unfilled = none_then ask here.books pick here.unfilled;
+            limit = decided_limit ask here.books pick ∙ here.limit;
+            heavy = most_decided ask here.books pick ∙ here.heavy;
             given = here.given + resets ask here.pool.scheduler here.books pick * 10000000;
             last = s.now;
             past = omega arith;

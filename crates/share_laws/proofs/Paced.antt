@@ -1,7 +1,7 @@
 -- A core of a Credit2 pool is pending only where its unit ran for the rate limit, or sleeps beyond this moment; and its due comes no earlier.
 use Rattle.std.proofs.Common.{◌≡◌, ◌<◌, ◌≤◌, ◌+◌, ◌-◌, ◌*◌, ◌/◌, ◌%◌, ℕ, zero, suc, Bool, true, false, not, List, [], ◌∷◌, refl, arith, subst, sym, ap, ◌∙◌, ◌⊎◌, inl, inr, length, take, drop}
 use Rattle.std.specs.Prelude.{Option, Some, None, is_none, option_map, slice_get, slice_index_or, nat_le, ◌&&◌}
-use Rattle.std.specs.List.{list_any, AllByRecursion}
+use Rattle.std.specs.List.{list_any}
 use Rattle.std.proofs.lemmas.Bool.{or_cases}
 use Rattle.std.proofs.lemmas.List.{length-map}
 use Rattle.std.proofs.lemmas.List.Elements.{recursion_from_All}
@@ -29,12 +29,12 @@ use Rattle.sched_model.specs.declared.state.Resource.{Resource}
 use Rattle.sched_model.specs.declared.state.Scheduler.{Scheduler}
 use Rattle.sched_model.specs.declared.state.Vcpu.{Vcpu}
 use Rattle.sched_model.specs.Actions.{configured_units}
-use Rattle.sched_model.specs.CheckedMachine.{IsChecked, IsCheckedDomain, IsCheckedScript, IsWithin, most_span}
+use Rattle.sched_model.specs.CheckedMachine.{IsChecked, IsCheckedDomain, IsCheckedScript}
 use Rattle.sched_model.specs.Places.{at_place, change_at, change_item}
 use Rattle.sched_model.specs.Policy as policy
-use Rattle.sched_model.specs.Policy.{decision_by, decision_of, has_better_waiting, is_unit_better, unit_rtds_record}
+use Rattle.sched_model.specs.Policy.{unit_rtds_record}
 use Rattle.sched_model.specs.Pool as pools
-use Rattle.sched_model.specs.Pool.{after_decide, after_in, change_among, change_core, change_processor, change_vcpu, core_ask, decided_core, done_moment, domain_unit_count, enabled_in, is_first_processor_up, pool_core_set, pool_vcpu, queue_unit, reconsidered_core, running_guest, same_choice, settled_pool, started_on, vcpu_among, vcpu_unit, with_doing, with_records}
+use Rattle.sched_model.specs.Pool.{after_in, change_among, change_core, change_processor, change_vcpu, done_moment, enabled_in, pool_vcpu, running_guest, settled_pool, started_on, vcpu_among, vcpu_unit, with_doing, with_records}
 use Rattle.sched_model.specs.State.{is_awake, may_unit_run, runnable_among, unit_runnable, vcpus_of_unit}
 use Rattle.sched_laws.specs.PoolFacts.{CoreIsSound, OnePlace, UnitsAreOwn}
 use Rattle.sched_laws.proofs.EachPlace.{at_place-change_at, by_cond, by_option, by_test, read_change_at, vcpu_is}
@@ -46,6 +46,8 @@ use Rattle.state_ranges.proofs.RangesWalk.{DomFits, PoolFits}
 use Rattle.state_ranges.proofs.Vcpus.{VcpuFits}
 use Rattle.undisturbed_laws.specs.Undisturbed.{Credit2Stays, DomainStays, HasHome, NeverSleeps, PoolStays}
 use Rattle.undisturbed_laws.proofs.Steps.{stays_after}
+use Rattle.undisturbed_laws.proofs.Units.{place_high, place_low}
+use Rattle.moment_laws.proofs.DueInPools.{span_there}
 use Rattle.undisturbed_laws.proofs.Units.{never_sleeps, only_core}
 use Rattle.share_laws.specs.Shares.{IsPlainCredit2, NobodySleeps}
 use Rattle.share_laws.proofs.Start.{first_books}
@@ -94,15 +96,6 @@ part_none test (suc a) zero (suc k) (y ∷ xs) x at low high none = part_none te
 part_none test a (suc b) zero (y ∷ xs) x at low high none = absurd (omega (arith, low))
 part_none test a (suc b) (suc k) (y ∷ xs) x at low high none = part_none test a b k xs x at (omega (arith, low)) (omega (arith, high)) none
 
-place_low : (g k n : ℕ) → k / g ≡ n → n * g ≤ k
-place_low g k n is = (let e = div-add-mod' k g in let f : k / g * g ≡ n * g = ap (λ q. q * g) is in omega (arith, e, f))
-
-place_high : (g k n : ℕ) → 0 < g → k / g ≡ n → k < n * g + g
-place_high g k n some is = (let e = div-add-mod' k g in let f : k / g * g ≡ n * g = ap (λ q. q * g) is in let low : k % g < g = rest g k some in omega (arith, e, f, low))
-  where
-    rest : (g k : ℕ) → 0 < g → k % g < g
-    rest g k some = omega (arith, some)
-
 -- the domain is neither paused nor moving
 record GoesOn (d : Domain) : Type 0 where
   config : DomConfig
@@ -115,15 +108,6 @@ inside_of g n count some low = le-div (suc (n / g)) (count + g - 1) g some (let 
 
 pub unit_low : (g n count : ℕ) → 0 < g → n * g < count → n < (count + g - 1) / g
 unit_low g n count some low = le-div (suc n) (count + g - 1) g some (let s : suc n * g ≡ n * g + g = grind arith in omega (arith, s, low, some))
-
--- a vCPU whose work is done sleeps for some time
-span_some : (script : List Span) → IsCheckedScript script → (n : ℕ) → n < length script → 1 ≤ (slice_index_or script n (span 0)).0
-span_some script is n low = of_spans script n low (recursion_from_All (λ (s : Span). IsWithin 1 most_span s.0) script is.spans)
-  where
-    of_spans : (xs : List Span) (n : ℕ) → n < length xs → AllByRecursion (λ (s : Span). IsWithin 1 most_span s.0) xs → 1 ≤ (slice_index_or xs n (span 0)).0
-    of_spans [] n low each = absurd (omega (arith, low))
-    of_spans (x ∷ xs) zero low each = each.0.least
-    of_spans (x ∷ xs) (suc n) low each = of_spans xs n (omega (arith, low)) each.1
 
 odd_place : (p n : ℕ) → p % 2 ≡ 0 → p < n → n % 2 ≡ 0 → p + 1 < n
 odd_place p n even inside whole = omega (arith, even, inside, whole)
@@ -147,7 +131,7 @@ sleeps_some t script x checked fits done = by_start x.started refl x.work_left r
     by_start (Some from) is (Some work) is2 None is3 =
         let some = fits.worth work is2 in
         let place : (x.place % 2 ≡ 0) × (x.place < length script) = elim (fits.awake is3) [ inl none ↦ (let z = none.0 in absurd (omega (arith, z, some))) | inr even ↦ even ] in
-        subst (λ (xs : List Span). 1 ≤ (slice_index_or xs (x.place + 1) (span 0)).0) (sym fits.follows) (span_some script checked (x.place + 1) (odd_place x.place (length script) place.0 place.1 checked.even))
+        subst (λ (xs : List Span). 1 ≤ (slice_index_or xs (x.place + 1) (span 0)).0) (sym fits.follows) (span_there script checked (x.place + 1) (odd_place x.place (length script) place.0 place.1 checked.even))
 
 -- the core keeps its pace
 pub record SamePace (c d : Resource) : Type 0 where

@@ -23,7 +23,7 @@ use Rattle.sched_model.specs.declared.state.Resource.{Resource}
 use Rattle.sched_model.specs.declared.state.Scheduler.{Scheduler}
 use Rattle.sched_model.specs.Actions.{configured_units}
 use Rattle.sched_model.specs.CheckedMachine.{IsChecked}
-use Rattle.sched_model.specs.Credit2.{best_other_credit, change_domain, chosen_slice, credit2_decision, credit2_decision_for, domain_after_take, is_rate_limited, most_weight, own_burned_records, reset_count, reset_records}
+use Rattle.sched_model.specs.Credit2.{best_other_credit, chosen_slice, credit2_decision, credit2_decision_for, is_rate_limited, most_weight, own_burned_records}
 use Rattle.sched_model.specs.EligibleUnits.{Decision, is_unit_allowed, is_unit_eligible}
 use Rattle.sched_model.specs.Places.{at_place, change_at}
 use Rattle.sched_model.specs.Policy.{decision_by, decision_of, has_better_waiting, is_unit_better}
@@ -40,7 +40,8 @@ use Rattle.sched_laws.proofs.SiblingsLaw.{some_processor}
 use Rattle.moment_laws.proofs.AllowedAlone.{allowed_alone}
 use Rattle.moment_laws.proofs.Waiting.{any_has}
 use Rattle.undisturbed_laws.specs.Undisturbed.{Credit2DomainStays, Credit2Stays, PoolStays}
-use Rattle.undisturbed_laws.proofs.Records.{c_own, c_reset, c_take}
+use Rattle.record_laws.proofs.Credit2Seen.{taken_records}
+use Rattle.undisturbed_laws.proofs.Records.{c_taken}
 use Rattle.undisturbed_laws.proofs.Units.{only_core}
 use Rattle.share_laws.specs.Shares.{IsPlainCredit2}
 use Rattle.share_laws.proofs.Decision.{chosen, unit_then}
@@ -91,12 +92,10 @@ module _ (m : Machine) (checked : IsChecked m) (i r rate : ℕ) (plain : IsPlain
         subst (IfUnit (λ u. may_unit_run m.config.granularity pool u ≡ true)) (ap (λ (d : Decision). d.unit) decision_is ∙ unit_then ask pool.scheduler books ∙ is) all
 
     abbrev taken : UnitId → Credit2Records
-    taken w = change_domain w.dom.0 (domain_after_take w.n) (reset_records t (reset_count t w (own_burned_records here.core.cur t books)) (own_burned_records here.core.cur t books))
+    taken = taken_records ask books
 
     taken_stays : (w : UnitId) → Credit2Stays m i rate (taken w)
-    taken_stays w =
-        c_take m i rate w (reset_records t (reset_count t w (own_burned_records here.core.cur t books)) (own_burned_records here.core.cur t books))
-        (c_reset m i rate t (reset_count t w (own_burned_records here.core.cur t books)) (own_burned_records here.core.cur t books) (c_own m i rate here.core.cur t books (books_are m checked i r rate plain pool known.stays).2))
+    taken_stays w = c_taken m i rate ask w books (books_are m checked i r rate plain pool known.stays).2
 
     slice_long : (w : UnitId) → chosen ask pool.scheduler books ≡ Some w → rate * 1000 ≤ chosen_slice ask pool.scheduler (taken w) w
     slice_long w is =

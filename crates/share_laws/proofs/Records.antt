@@ -1,26 +1,21 @@
 -- The record of one unit of a Credit2 pool without caps, through the parts of a decision.
-use Rattle.std.proofs.Common.{◌≡◌, ◌≢◌, ◌<◌, ◌+◌, ◌-◌, ℕ, suc, true, false, refl, arith, cond, subst, sym, ap, ◌∙◌, ◌⊎◌, inl, inr}
+use Rattle.std.proofs.Common.{◌≡◌, ◌≢◌, ◌<◌, ◌+◌, ◌-◌, ℕ, suc, true, refl, arith, cond, subst, sym, ap, ◌∙◌, ◌⊎◌, inl, inr}
 use Rattle.std.specs.Prelude.{Option, Some, None, option_map, map, slice_get, ◌==◌, ℤ, pos, ◌-ℤ◌}
 use Rattle.std.proofs.Math.Decide.{ℕ_discrete}
 use Rattle.std.proofs.lemmas.Option.{slice_get-map}
-use Rattle.sched_base.specs.Numbers.{domain as domain_number}
 use Rattle.sched_base.specs.declared.UnitId.{UnitId}
 use Rattle.sched_base.specs.Credit2Numbers.{burned_credit, burned_residual, raised_credit}
 use Rattle.sched_model.specs.declared.state.Credit2Domain.{Credit2Domain}
 use Rattle.sched_model.specs.declared.state.Credit2Records.{Credit2Records}
 use Rattle.sched_model.specs.declared.state.Credit2Unit.{Credit2Unit}
 use Rattle.sched_model.specs.Credit2.{burned_domain, burned_unit, change_domain, change_unit, domain_after_return, domain_after_take, most_weight, off_records, own_burned_records, reset_records, running_records, unit_credit}
-use Rattle.sched_model.specs.Places.{at_place, change_at, change_each, change_item, same_unit}
+use Rattle.sched_model.specs.Places.{at_place, change_at, change_each, change_item}
 use Rattle.sched_model.proofs.PlaceLemmas.{at_place-change_at_other}
 use Rattle.sched_laws.proofs.EachPlace.{at_place-change_at, at_place-change_each, by_cond}
 use Rattle.sched_laws.proofs.Lists.{slice_get-change_item, slice_get-change_item_other}
-use Rattle.sched_laws.proofs.Choices.{same_unit_same}
-use Rattle.sched_laws.proofs.Counts.{same_unit_other}
+use Rattle.sched_laws.proofs.OnePlace.{same_or_other}
+use Rattle.moment_laws.proofs.Credit2Decision.{other_index}
 use Rattle.moment_laws.proofs.Credit2Steps.{burn_same}
-
--- the same unit, or another
-pub same_or_other : (u w : UnitId) → (u ≡ w) ⊎ (u ≢ w)
-same_or_other u w = elim (same_unit u w) as (λ b. same_unit u w ≡ b → (u ≡ w) ⊎ (u ≢ w)) [ true ↦ λ is. inl (same_unit_same u w is) | false ↦ λ is. inr (same_unit_other u w is) ] refl
 
 -- the unit has this record, in a domain of this weight without a cap
 pub record Sees (records : Credit2Records) (u : UnitId) (w : ℕ) (x : Credit2Unit) : Type 0 where
@@ -61,16 +56,10 @@ sees_own f records u w x here =
     sees_domain u.dom.0 (λ d. record d { units = change_item u.n (f d) d.units }) records u w x (f here.domain x) here
     (λ is. (here.weight, here.cap, slice_get-change_item u.n (f here.domain) here.domain.units ∙ ap (option_map (f here.domain)) here.get)) (λ ne. absurd (ne refl))
 
-same_parts : (u v : UnitId) → u.dom.0 ≡ v.dom.0 → u.n ≡ v.n → u ≡ v
-same_parts u v same index =
-    let a : ◌≡◌ {A = UnitId} u (record { dom = v.dom; n = u.n }) = ap (λ (k : ℕ). record { dom = domain_number k; n = u.n }) same in
-    let b : ◌≡◌ {A = UnitId} (record { dom = v.dom; n = u.n }) v = ap (λ (k : ℕ). record { dom = v.dom; n = k }) index in
-    a ∙ b
-
 pub sees_other : (v : UnitId) (f : Credit2Domain → Credit2Unit → Credit2Unit) (records : Credit2Records) (u : UnitId) (w : ℕ) (x : Credit2Unit) → v ≢ u → Sees records u w x → Sees (change_unit v f records) u w x
 sees_other v f records u w x other here =
     sees_domain v.dom.0 (λ d. record d { units = change_item v.n (f d) d.units }) records u w x x here
-    (λ is. (here.weight, here.cap, slice_get-change_item_other v.n u.n (f here.domain) here.domain.units (λ index. other (same_parts v u (sym is) index)) ∙ here.get)) (λ ne. refl)
+    (λ is. (here.weight, here.cap, slice_get-change_item_other v.n u.n (f here.domain) here.domain.units (other_index v u other (sym is)) ∙ here.get)) (λ ne. refl)
 
 -- charging a unit that does not run, and one that runs
 abbrev burn_from : ℕ → ℕ → Credit2Domain → Credit2Unit → Option ℕ → Credit2Unit

@@ -1,5 +1,5 @@
 -- What the records of Credit2 keep: weights, caps, refills, and the credit of each unit, which falls by 65,536 a nanosecond at most.
-use Rattle.std.proofs.Common.{◌≡◌, ◌<◌, ◌≤◌, ◌+◌, ◌-◌, ◌*◌, ◌/◌, ◌%◌, ℕ, zero, suc, List, [], ◌∷◌, refl, arith, subst, sym, ◌∙◌, cond}
+use Rattle.std.proofs.Common.{◌≡◌, ◌<◌, ◌≤◌, ◌+◌, ◌-◌, ◌*◌, ◌/◌, ◌%◌, ℕ, zero, suc, List, [], ◌∷◌, refl, arith, ap, subst, sym, ◌∙◌, cond, length}
 use Rattle.std.specs.Prelude.{Option, Some, None, unwrap_or, slice_get, map, fold, max, replicate, is_some, ◌==◌, ℤ, pos, neg_ℤ, ◌+ℤ◌, ◌≤ℤ◌}
 use Rattle.std.specs.List.{AllByRecursion}
 use Rattle.std.specs.Int.{int_min}
@@ -12,12 +12,15 @@ use Rattle.sched_base.specs.declared.UnitId.{UnitId}
 use Rattle.sched_model.specs.declared.state.Credit2Unit.{Credit2Unit}
 use Rattle.sched_model.specs.declared.state.Credit2Domain.{Credit2Domain}
 use Rattle.sched_model.specs.declared.state.Credit2Records.{Credit2Records}
-use Rattle.sched_model.specs.Places.{at_place, change_item, numbered_items}
+use Rattle.sched_model.specs.Places.{at_place, change_each, change_item, numbered_items}
 use Rattle.sched_model.specs.CheckedMachine.{IsWithin}
-use Rattle.sched_model.specs.Credit2.{most_weight, burned_unit, burned_domain, burn_all, change_domain, change_unit, domain_after_return, own_burned_records, reset_records, domain_after_take, running_records, off_records, domain_after_refill, refilled_pool, first_refill_moment, fresh_credit2_domain, domain_with_weight, domain_with_cap, records_with_terms}
+use Rattle.sched_model.specs.Credit2.{most_weight, burned_unit, burned_domain, change_domain, change_unit, domain_after_return, own_burned_records, domain_after_take, off_records, domain_after_refill, refilled_pool, first_refill_moment, fresh_credit2_domain, domain_with_weight, domain_with_cap, records_with_terms}
 use Rattle.sched_laws.specs.EachPlace.{EachPlace}
-use Rattle.sched_laws.proofs.EachPlace.{EachPlace-change_at, EachPlace-change_each, by_option, by_cond, length_set, length_change_each}
+use Rattle.sched_laws.proofs.EachPlace.{EachPlace-change_at, by_option, by_cond, length_set, length_change_each}
 use Rattle.sched_laws.proofs.Lists.{AllByRecursion-change_item}
+use Rattle.record_laws.specs.Decisions.{number_in}
+use Rattle.record_laws.proofs.Credit2Seen.{burn_is, own_limit, idle_is, idle_limit, ran_by, ran_by_is, ran_by_limit}
+use Rattle.record_laws.proofs.Charges.{KeptByCharges, kept_by_burn, kept_by_idle, kept_by_run}
 use Rattle.state_ranges.proofs.Rtds.{still_last}
 use Rattle.state_ranges.specs.Fits.{UnitFits, Credit2DomainFits, Credit2Fits}
 
@@ -146,41 +149,38 @@ module _ (count t : ℕ) where
   c_change_unit : (u : UnitId) (f : Credit2Domain → Credit2Unit → Credit2Unit) (records : Credit2Records) → ((d : Credit2Domain) (x : Credit2Unit) → UnitFits t d.weight x → UnitFits t d.weight (f d x)) → C records → C (change_unit u f records)
   c_change_unit u f records keeps fits = c_change_domain u.dom.0 (λ d. record d { units = change_item u.n (f d) d.units }) records (λ d at. domain_unit t u.n (f d) d (keeps d)) fits
 
-  c_burn_all : (records : Credit2Records) → C records → C (burn_all t records)
-  c_burn_all records fits = record {
-    places = length_change_each 0 _ records.domains ∙ fits.places;
-    limit = fits.limit;
-    domains = EachPlace-change_each (Credit2DomainFits t) (λ n d. burned_domain (most_weight records) t d) records.domains fits.domains (λ n d at. domain_burned t (most_weight records) d (max_weight_small count t records fits));
+  -- a decision
+  domain_kept : (most k : ℕ) (had has : Option ℕ) → most ≤ 65535 → KeptByCharges most t k had has (Credit2DomainFits t)
+  domain_kept most k had has small = record {
+    charges = λ i d is. domain_unit t i (burned_unit most t d) d (λ x. unit_burned t most d x small);
+    gives = λ i d is. domain_given_back t i d;
+    burns = λ d some. domain_burned t most d small;
+    raises = λ d some fits. with_units t d _ refl refl refl (each_map (UnitFits t d.weight) (UnitFits t d.weight) _ (unit_raised t d.weight k) d.units fits.units) fits;
+    takes = λ j d is. domain_taken t j d;
+    stops = λ i d is. domain_unit t i (λ x. record x { burned = None }) d (λ x. unit_runs t d.weight x None refl);
+    starts = λ j d is. domain_unit t j (λ x. record x { burned = Some t }) d (λ x. unit_runs t d.weight x (Some t) refl);
   }
 
-  pub c_burn_cur : (cur : Option UnitId) (records : Credit2Records) → C records → C (own_burned_records cur t records)
-  c_burn_cur None records fits = fits
-  c_burn_cur (Some u) records fits =
-      c_change_domain u.dom.0 (λ d. cond (d.cap == 0) d (domain_after_return u.n d)) (change_unit u (burned_unit (most_weight records) t) records)
-      (λ d at here. by_cond (Credit2DomainFits t) (d.cap == 0) d (domain_after_return u.n d) (λ none. here) (λ some. domain_given_back t u.n d here))
-      (c_change_unit u (burned_unit (most_weight records) t) records (λ d x. unit_burned t (most_weight records) d x (max_weight_small count t records fits)) fits)
+  -- each domain was changed
+  c_each : (records next : Credit2Records) (f : ℕ → Credit2Domain → Credit2Domain) → next.domains ≡ change_each 0 f records.domains → next.limit ≡ records.limit → EachPlace (Credit2DomainFits t) next.domains → C records → C next
+  c_each records next f is limit each fits = record {
+    places = ap length is ∙ length_change_each 0 f records.domains ∙ fits.places;
+    limit = subst (λ (k : ℕ). k ≤ 500000) (sym limit) fits.limit;
+    domains = each;
+  }
 
-  pub c_reset : (k : ℕ) (records : Credit2Records) → C records → C (reset_records t k records)
-  c_reset zero records fits = fits
-  c_reset (suc k) records fits =
-      let burned : C (burn_all t records) = c_burn_all records fits in
-      record {
-        places = length_change_each 0 _ (burn_all t records).domains ∙ burned.places;
-        limit = burned.limit;
-        domains = EachPlace-change_each (Credit2DomainFits t) (λ n d. record d { units = map (λ (x : Credit2Unit). record x { credit = raised_credit x.credit (suc k) }) d.units }) (burn_all t records).domains burned.domains
-            (λ n d at here. with_units t d (record d { units = map (λ (x : Credit2Unit). record x { credit = raised_credit x.credit (suc k) }) d.units }) refl refl refl
-            (each_map (UnitFits t d.weight) (UnitFits t d.weight) (λ (x : Credit2Unit). record x { credit = raised_credit x.credit (suc k) }) (unit_raised t d.weight (suc k)) d.units here.units) here);
-      }
+  module _ (cur : Option UnitId) (records : Credit2Records) (fits : C records) where
+    kept : (k : ℕ) (chosen : Option UnitId) (d : ℕ) → KeptByCharges (most_weight records) t k (number_in d cur) (number_in d chosen) (Credit2DomainFits t)
+    kept k chosen d = domain_kept (most_weight records) k (number_in d cur) (number_in d chosen) (max_weight_small count t records fits)
 
-  pub c_take : (u : UnitId) (records : Credit2Records) → C records → C (change_domain u.dom.0 (domain_after_take u.n) records)
-  c_take u records fits = c_change_domain u.dom.0 (domain_after_take u.n) records (λ d at. domain_taken t u.n d) fits
+    pub c_burn_cur : C (own_burned_records cur t records)
+    c_burn_cur = c_each records (own_burned_records cur t records) _ (burn_is t cur records) (own_limit t cur records) (kept_by_burn t 0 cur None records (λ d. Credit2DomainFits t) (kept 0 None) fits.domains) fits
 
-  pub c_switch_off : (cur : Option UnitId) (records : Credit2Records) → C records → C (off_records cur records)
-  c_switch_off None records fits = fits
-  c_switch_off (Some u) records fits = c_change_unit u (λ d x. record x { burned = None }) records (λ d x. unit_runs t d.weight x None refl) fits
+    pub c_idle : C (off_records cur (own_burned_records cur t records))
+    c_idle = c_each records (off_records cur (own_burned_records cur t records)) _ (idle_is t cur records) (idle_limit t cur records) (kept_by_idle t cur records (λ d. Credit2DomainFits t) fits.domains (kept 0 None)) fits
 
-  pub c_set_running : (u : UnitId) (records : Credit2Records) → C records → C (running_records (Some t) u records)
-  c_set_running u records fits = c_change_unit u (λ d x. record x { burned = Some t }) records (λ d x. unit_runs t d.weight x (Some t) refl) fits
+    pub c_ran : (k : ℕ) (u : UnitId) → C (ran_by t cur records k u)
+    c_ran k u = c_each records (ran_by t cur records k u) _ (ran_by_is t cur records k u) (ran_by_limit t cur records k u) (kept_by_run t cur records (λ d. Credit2DomainFits t) fits.domains k u (kept k (Some u))) fits
 
   -- a refill that has come
   pub c_refilled : (d : ℕ) (records : Credit2Records) → ((x : Credit2Domain) (r : ℕ) → at_place records.domains d ≡ Some x → x.refill ≡ Some r → r ≤ t) → C records → C (refilled_pool t d records)

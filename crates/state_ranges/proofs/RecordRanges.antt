@@ -40,7 +40,8 @@ use Rattle.sched_laws.proofs.EachPlace.{EachPlace-put_at, EachPlace-clear_at, Ea
 use Rattle.sched_laws.proofs.Window.{FitsMajor, until_last}
 use Rattle.sched_laws.proofs.Fits.{ChangeFits}
 use Rattle.sched_laws.proofs.NullKept.{length_released}
-use Rattle.state_ranges.proofs.Credit2.{c_burn_cur, c_reset, c_take, c_switch_off, c_set_running, c_refilled, c_fresh, c_set_domain, c_later}
+use Rattle.record_laws.proofs.Credit2Seen.{taken_records, taken_limit}
+use Rattle.state_ranges.proofs.Credit2.{c_idle, c_ran, c_refilled, c_fresh, c_set_domain, c_later}
 use Rattle.state_ranges.specs.Fits.{Credit2DomainFits, Credit2Fits}
 use Rattle.state_ranges.proofs.Rtds as rtds_lemmas
 use Rattle.state_ranges.proofs.Rtds.{rtds_chooses, rtds_replenished, rtds_set, rtds_fresh, rtds_later, fit_unit, fit_change_unit}
@@ -89,17 +90,15 @@ slice_of_low ask scheduler records u low =
     nat_is_zero : ℕ → Bool
     nat_is_zero k = k == 0
 
-c2_decides : (n cores : ℕ) (ask : Ask) (scheduler : Scheduler) (records : Credit2Records) (chosen : Option UnitId) → Credit2Fits n ask.at.0 records → DecisionFits n cores ask.at.0 (credit2.credit2_decision_for ask scheduler records chosen)
-c2_decides n cores ask scheduler records None fits = record { records = c_switch_off n ask.at.0 ask.cur records fits; due = λ a is. absurd (cc) }
+c2_decides : (n cores : ℕ) (ask : Ask) (scheduler : Scheduler) (records : Credit2Records) (chosen : Option UnitId) → Credit2Fits n ask.at.0 records → DecisionFits n cores ask.at.0 (credit2.credit2_decision_for ask scheduler (credit2.own_burned_records ask.cur ask.at.0 records) chosen)
+c2_decides n cores ask scheduler records None fits = record { records = c_idle n ask.at.0 ask.cur records fits; due = λ a is. absurd (cc) }
 c2_decides n cores ask scheduler records (Some u) fits =
-    let k : ℕ = credit2.reset_count ask.at.0 u records in
-    let taken : Credit2Records = credit2.change_domain u.dom.0 (credit2.domain_after_take u.n) (credit2.reset_records ask.at.0 k records) in
-    let good : Credit2Fits n ask.at.0 taken = c_take n ask.at.0 u (credit2.reset_records ask.at.0 k records) (c_reset n ask.at.0 k records fits) in
+    let taken : Credit2Records = taken_records ask records u in
     record {
-      records = c_set_running n ask.at.0 u (credit2.off_records ask.cur taken) (c_switch_off n ask.at.0 ask.cur taken good);
+      records = c_ran n ask.at.0 ask.cur records fits (credit2.reset_count ask.at.0 u (credit2.own_burned_records ask.cur ask.at.0 records)) u;
       due = λ a is. (
           let e : ◌≡◌ {A = Moment} (moment (ask.at.0 + credit2.chosen_slice ask scheduler taken u)) a = cc in
-          let l = slice_of_low ask scheduler taken u good.limit in
+          let l = slice_of_low ask scheduler taken u (subst (λ (k : ℕ). k ≤ 500000) (sym (taken_limit ask records u)) fits.limit) in
           subst (λ (b : Moment). b.0 ≤ ask.at.0 + most_span) e (omega (arith, l)));
     }
 
@@ -138,7 +137,7 @@ null_decides n cores core t kept (Some u) whole = record { records = length_set 
 
 -- a decision keeps the records in range, and its due is near
 pub decision_fits : (n cores : ℕ) (records : Records) (ask : Ask) (scheduler : Scheduler) → scheduler.records ≡ records → RecordsFit n cores ask.at.0 records → DecisionFits n cores ask.at.0 (decision_by records ask scheduler)
-decision_fits n cores (Credit2Pool records) ask scheduler is fits = c2_decides n cores ask scheduler (credit2.own_burned_records ask.cur ask.at.0 records) (credit2.credit2_choice ask scheduler (credit2.own_burned_records ask.cur ask.at.0 records)) (c_burn_cur n ask.at.0 ask.cur records fits)
+decision_fits n cores (Credit2Pool records) ask scheduler is fits = c2_decides n cores ask scheduler records (credit2.credit2_choice ask scheduler (credit2.own_burned_records ask.cur ask.at.0 records)) fits
 decision_fits n cores (RtdsPool domains) ask scheduler is fits =
     let burned : List (Option (List RtdsUnit)) = rtds.own_burned_domains ask.cur ask.at.0 domains in
     let pool = rt_pool ask burned (rtds.rtds_choice ask scheduler burned) in

@@ -1,7 +1,7 @@
 -- How many units the records of a scheduler have of each domain, and what leaves these numbers.
 use Rattle.sched_laws.proofs.Records.{decided_is}
-use Rattle.std.proofs.Common.{◌≡◌, ℕ, zero, suc, List, refl, ap, ◌∙◌, cond, length}
-use Rattle.std.specs.Prelude.{Option, Some, None, slice_get, ◌==◌}
+use Rattle.std.proofs.Common.{◌≡◌, ℕ, List, refl, ap, ◌∙◌, length}
+use Rattle.std.specs.Prelude.{Option, Some, None}
 use Rattle.std.proofs.lemmas.List.{length-map}
 use Rattle.sched_base.specs.declared.UnitId.{UnitId}
 use Rattle.sched_model.specs.declared.ask.Ask.{Ask}
@@ -19,8 +19,10 @@ use Rattle.sched_model.specs.Policy as policy
 use Rattle.sched_model.specs.Policy.{decision_by, changed_records}
 use Rattle.sched_model.specs.Credit2 as credit2
 use Rattle.sched_model.specs.Rtds as rtds
-use Rattle.sched_laws.proofs.EachPlace.{by_option, by_cond}
 use Rattle.sched_laws.proofs.Lists.{length_change_item}
+use Rattle.record_laws.specs.Decisions.{decided_domain}
+use Rattle.record_laws.proofs.Credit2Seen.{records_decided, decided_domains}
+use Rattle.record_laws.proofs.Charges.{leaves}
 use Rattle.state_ranges.proofs.Measured.{measured_change_at, measured_change_each}
 use Rattle.state_ranges.specs.Counts.{units_in, credit2_counts, rtds_counts, shape}
 
@@ -34,40 +36,11 @@ c_domain d f records same = measured_change_at units_in d f records.domains same
 c_unit : (u : UnitId) (f : Credit2Domain → Credit2Unit → Credit2Unit) (records : Credit2Records) → credit2_counts (credit2.change_unit u f records) ≡ credit2_counts records
 c_unit u f records = c_domain u.dom.0 (λ d. record d { units = change_item u.n (f d) d.units }) records (λ d. length_change_item u.n (f d) d.units)
 
-given_back : (n : ℕ) (d : Credit2Domain) → units_in (credit2.domain_after_return n d) ≡ units_in d
-given_back n d = by_option (λ (x : Credit2Domain). units_in x ≡ units_in d) (slice_get d.units n) d _ (λ is. refl) (λ u is. length_change_item n _ d.units)
-
-c_burn_cur : (cur : Option UnitId) (t : ℕ) (records : Credit2Records) → credit2_counts (credit2.own_burned_records cur t records) ≡ credit2_counts records
-c_burn_cur None t records = refl
-c_burn_cur (Some u) t records =
-    let burned : Credit2Records = credit2.change_unit u (credit2.burned_unit (credit2.most_weight records) t) records in
-    c_domain u.dom.0 (λ d. cond (d.cap == 0) d (credit2.domain_after_return u.n d)) burned
-    (λ d. by_cond (λ (x : Credit2Domain). units_in x ≡ units_in d) (d.cap == 0) d (credit2.domain_after_return u.n d) (λ is. refl) (λ is. given_back u.n d))
-    ∙ c_unit u (credit2.burned_unit (credit2.most_weight records) t) records
-
-c_burn_all : (t : ℕ) (records : Credit2Records) → credit2_counts (credit2.burn_all t records) ≡ credit2_counts records
-c_burn_all t records =
-    measured_change_each units_in 0 (λ n d. credit2.burned_domain (credit2.most_weight records) t d) records.domains (λ n d. length-map d.units (credit2.burned_unit (credit2.most_weight records) t d))
-
-c_reset : (t m : ℕ) (records : Credit2Records) → credit2_counts (credit2.reset_records t m records) ≡ credit2_counts records
-c_reset t zero records = refl
-c_reset t (suc m) records = measured_change_each units_in 0 _ (credit2.burn_all t records).domains (λ n d. length-map d.units _) ∙ c_burn_all t records
-
-c_take : (u : UnitId) (records : Credit2Records) → credit2_counts (credit2.change_domain u.dom.0 (credit2.domain_after_take u.n) records) ≡ credit2_counts records
-c_take u records =
-    c_domain u.dom.0 (credit2.domain_after_take u.n) records (λ d. by_cond (λ (x : Credit2Domain). units_in x ≡ units_in d) (d.cap == 0) d _ (λ is. refl) (λ is. length_change_item u.n _ d.units))
-
-c_switch_off : (cur : Option UnitId) (records : Credit2Records) → credit2_counts (credit2.off_records cur records) ≡ credit2_counts records
-c_switch_off None records = refl
-c_switch_off (Some u) records = c_unit u (λ d x. record x { burned = None }) records
-
-c_decide : (ask : Ask) (scheduler : Scheduler) (records : Credit2Records) (chosen : Option UnitId) → shape (credit2.credit2_decision_for ask scheduler records chosen).records ≡ Some (credit2_counts records)
-c_decide ask scheduler records None = ap some_counts (c_switch_off ask.cur records)
-c_decide ask scheduler records (Some u) =
-    let whole : Credit2Records = credit2.reset_records ask.at.0 (credit2.reset_count ask.at.0 u records) records in
-    let taken : Credit2Records = credit2.change_domain u.dom.0 (credit2.domain_after_take u.n) whole in
-    ap some_counts
-    (c_unit u (λ d x. record x { burned = Some ask.at.0 }) (credit2.off_records ask.cur taken) ∙ c_switch_off ask.cur taken ∙ c_take u whole ∙ c_reset ask.at.0 (credit2.reset_count ask.at.0 u records) records)
+c_decide : (ask : Ask) (scheduler : Scheduler) (records : Credit2Records) (chosen : Option UnitId) → shape (credit2.credit2_decision_for ask scheduler (credit2.own_burned_records ask.cur ask.at.0 records) chosen).records ≡ Some (credit2_counts records)
+c_decide ask scheduler records chosen =
+    ap shape (records_decided ask records scheduler chosen)
+    ∙ ap (λ (places : List (Option Credit2Domain)). Some (credit2_counts (record records { domains = places }))) (decided_domains ask records chosen)
+    ∙ ap some_counts (measured_change_each units_in 0 (decided_domain ask records chosen) records.domains (λ d x. (leaves ask records chosen d x).count))
 
 c_refilled : (t d : ℕ) (records : Credit2Records) → credit2_counts (credit2.refilled_pool t d records) ≡ credit2_counts records
 c_refilled t d records = c_domain d (credit2.domain_after_refill (credit2.most_weight records) t) records (λ x. length-map x.units (credit2.burned_unit (credit2.most_weight records) t x))
@@ -105,7 +78,7 @@ r_decide ask domains (Some u) = ap some_counts (r_unit u (λ x. record x { burne
 pub shape_decision : (records : Records) (ask : Ask) (scheduler : Scheduler) → scheduler.records ≡ records → shape (decision_by records ask scheduler).records ≡ shape records
 shape_decision (Credit2Pool records) ask scheduler is =
     let burned : Credit2Records = credit2.own_burned_records ask.cur ask.at.0 records in
-    c_decide ask scheduler burned (credit2.credit2_choice ask scheduler burned) ∙ ap some_counts (c_burn_cur ask.cur ask.at.0 records)
+    c_decide ask scheduler records (credit2.credit2_choice ask scheduler burned)
 shape_decision (RtdsPool domains) ask scheduler is =
     let burned : List (Option (List RtdsUnit)) = rtds.own_burned_domains ask.cur ask.at.0 domains in
     r_decide ask burned (rtds.rtds_choice ask scheduler burned) ∙ ap some_counts (r_burn_cur ask.cur ask.at.0 domains)

@@ -95,7 +95,7 @@ queue_keeps g d (n ∷ ns) pool =
     let u : UnitId = record { dom = domain_number d; n = n } in
     queue_keeps g d ns (pool_with_queued_if_off g u pool) ∙ by_cond (λ (q : Pool). q.scheduler.records ≡ pool.scheduler.records) (may_unit_run g pool u && is_unit_off pool u) _ _ (λ is. refl) (λ is. refl)
 
-pin_keeps : (records : Records) (d : ℕ) (n : ℕ) (cores : Cores) → changed_records records (changes.Pin (domain_number d) (Some n) cores) 0 ≡ records
+pub pin_keeps : (records : Records) (d : ℕ) (n : ℕ) (cores : Cores) → changed_records records (changes.Pin (domain_number d) (Some n) cores) 0 ≡ records
 pin_keeps (Credit2Pool records) d n cores = refl
 pin_keeps records d n cores = refl
 

@@ -1,9 +1,8 @@
 -- What each entry of a run does to a capped domain: to its budget, to its units that run, and to the cores that run them.
-use Rattle.std.specs.Prelude.{ℕ, ◌+◌, ◌==◌, ◌≡◌, ◌≤◌, ◌<◌, true, false, Option, Some, None, slice_get, ℤ, pos, ◌+ℤ◌, ◌-ℤ◌, ◌≤ℤ◌, if◌then◌else◌}
+use Rattle.std.specs.Prelude.{ℕ, ◌+◌, ◌≡◌, ◌≤◌, ◌<◌, true, false, Option, Some, None, slice_get, ℤ, pos, ◌+ℤ◌, ◌-ℤ◌, ◌≤ℤ◌}
 use Rattle.sched_base.specs.Numbers.{moment}
 use Rattle.sched_base.specs.Credit2Numbers.{positive_part, cap_budget}
 use Rattle.sched_base.specs.declared.Moment.{Moment}
-use Rattle.sched_base.specs.declared.UnitId.{UnitId}
 use Rattle.sched_model.specs.declared.event.Event.{Event}
 use Rattle.sched_model.specs.declared.event.Event.TheVariants as event
 use Rattle.sched_model.specs.declared.event.Entry.{Entry}
@@ -14,17 +13,13 @@ use Rattle.sched_model.specs.declared.state.Credit2Domain.{Credit2Domain}
 use Rattle.sched_model.specs.Credit2.{running_budget}
 use Rattle.sched_model.specs.Opening.{opening, machine_core_count}
 use Rattle.sched_model.specs.Runs.{Reached, IsNext, after_entry}
+pub use Rattle.record_laws.specs.Decisions.{number_in}
 use Rattle.term_laws.specs.Term.{core_in, late_now, late_of, moves}
 use Rattle.term_laws.specs.CapTerm.{cap_set, refills, ends_term, cap_after, credit2_in}
 
 -- the domain's cap, or 0 where it is in no Credit2 pool
 abbrev pub cap_at : State → ℕ → ℕ
 cap_at s d = elim (credit2_in s d) [ None ↦ 0 | Some x ↦ x.cap ]
-
--- the unit's number, where it is one of the domain
-abbrev pub number_in : ℕ → Option UnitId → Option ℕ
-number_in d None = None
-number_in d (Some u) = (if u.dom.0 == d then Some u.n else None)
 
 -- which of the domain's units the core has; when the core is due
 abbrev pub on_core : State → ℕ → ℕ → Option ℕ

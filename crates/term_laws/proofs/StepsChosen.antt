@@ -1,7 +1,7 @@
 -- What a decision does to the record of one domain: its unit that the core had gives back what it holds, and the one that the core takes has a part of the budget.
 use Rattle.sched_laws.proofs.Lists.{slice_get-change_item_other}
 use Rattle.std.proofs.Common.{◌≡◌, ◌≢◌, ◌<◌, ◌≤◌, ◌+◌, ◌-◌, ℕ, zero, suc, Bool, true, List, refl, arith, ap, subst, sym, ◌∙◌, cond, inl, inr}
-use Rattle.std.specs.Prelude.{Option, Some, None, slice_get, map, length, ◌==◌, ◌||◌, ℤ, pos, negsuc, ◌+ℤ◌, ◌-ℤ◌, ◌≤ℤ◌, int_lt}
+use Rattle.std.specs.Prelude.{Option, Some, None, slice_get, length, ◌==◌, ◌||◌, ℤ, pos, negsuc, ◌+ℤ◌, ◌-ℤ◌, ◌≤ℤ◌, int_lt}
 use Rattle.std.proofs.lemmas.Int.{ints, clamps}
 use Rattle.sched_base.specs.Credit2Numbers.{positive_part, raised_credit, taken_budget, budget_quota, cap_budget}
 use Rattle.sched_model.specs.declared.state.Credit2Unit.{Credit2Unit}
@@ -9,36 +9,11 @@ use Rattle.sched_model.specs.declared.state.Credit2Domain.{Credit2Domain}
 use Rattle.sched_model.specs.Places.{change_item}
 use Rattle.sched_model.specs.EligibleUnits.{has_cap_budget}
 use Rattle.sched_model.specs.Credit2.{burned_unit, burned_domain, domain_after_return, domain_after_take}
+pub use Rattle.record_laws.specs.Decisions.{own_charged, was_reset, has_taken, now_from, chosen_domain}
 use Rattle.sched_laws.proofs.EachPlace.{by_cond}
 use Rattle.state_ranges.proofs.Budgets.{taken_low}
 use Rattle.sched_laws.proofs.Sound.{read_change_item}
 use Rattle.term_laws.proofs.StepsDomain.{item_at, ArePast, past_item, burned_now, held_after, is_capped, Kept, kept_same, kept_trans, kept_map, kept_burned}
-
--- the core's own unit is charged and gives back
-abbrev pub own_charged : ℕ → ℕ → Option ℕ → Credit2Domain → Credit2Domain
-own_charged most t None x = x
-own_charged most t (Some i) x =
-    let burned : Credit2Domain = record x { units = change_item i (burned_unit most t x) x.units } in
-    cond (burned.cap == 0) burned (domain_after_return i burned)
-
--- the resets
-abbrev pub was_reset : ℕ → ℕ → ℕ → Credit2Domain → Credit2Domain
-was_reset most t zero x = x
-was_reset most t (suc k) x = (let burned : Credit2Domain = burned_domain most t x in record burned { units = map (λ (y : Credit2Unit). record y { credit = raised_credit y.credit (suc k) }) burned.units })
-
--- the chosen unit takes a part
-abbrev pub has_taken : Option ℕ → Credit2Domain → Credit2Domain
-has_taken None x = x
-has_taken (Some j) x = domain_after_take j x
-
--- a unit runs from a moment on, or no more
-abbrev pub now_from : Option ℕ → Option ℕ → Credit2Domain → Credit2Domain
-now_from from None x = x
-now_from from (Some i) x = record x { units = change_item i (λ (y : Credit2Unit). record y { burned = from }) x.units }
-
--- all of it
-abbrev pub chosen_domain : ℕ → ℕ → ℕ → ℕ → Option ℕ → Option ℕ → Credit2Domain → Credit2Domain
-chosen_domain most most2 t k had has x = now_from (Some t) has (now_from None had (has_taken has (was_reset most2 t k (own_charged most t had x))))
 
 -- what is taken
 abbrev pub part_of : Credit2Domain → ℤ

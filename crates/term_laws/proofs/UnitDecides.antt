@@ -1,5 +1,5 @@
 -- A core decides: what becomes of an RTDS unit.
-use Rattle.std.proofs.Common.{◌≡◌, ◌≢◌, ◌+◌, ℕ, Bool, true, false, List, refl, arith, ap, subst, sym, ◌∙◌, cond}
+use Rattle.std.proofs.Common.{◌≡◌, ◌≢◌, ◌+◌, ℕ, Bool, true, false, List, refl, arith, ap, subst, sym, ◌∙◌}
 use Rattle.std.specs.Prelude.{Option, Some, None, option_map}
 use Rattle.std.proofs.Math.Decide.{ℕ_discrete}
 use Rattle.sched_base.specs.Numbers.{core, moment}
@@ -17,14 +17,14 @@ use Rattle.sched_model.specs.declared.state.Records.{Records}
 use Rattle.sched_model.specs.declared.state.Records.TheVariants.{Credit2Pool, RtdsPool, ArincPool, NullPool}
 use Rattle.sched_model.specs.declared.state.RtdsUnit.{RtdsUnit}
 use Rattle.sched_model.specs.CheckedMachine.{IsChecked}
-use Rattle.sched_model.specs.Places.{at_place, test_at, is_unit, same_unit}
+use Rattle.sched_model.specs.Places.{at_place, test_at, is_unit}
 use Rattle.sched_model.specs.EligibleUnits.{Decision, rtds_unit_at}
 use Rattle.sched_model.specs.Policy.{decision_of, decision_by, records_kind, unit_rtds_record}
 use Rattle.sched_model.specs.Pool.{core_ask, after_decide, decided_core}
-use Rattle.sched_model.specs.Rtds.{change_unit, unit_burned_to, own_burned_domains, off_domains, unit_left_budget, rtds_choice, rtds_decision_for}
+use Rattle.sched_model.specs.Rtds.{own_burned_domains, unit_left_budget, rtds_choice, rtds_decision_for}
 use Rattle.sched_model.specs.Machine.{after, event_of}
 use Rattle.sched_laws.proofs.Choices.{same_unit_same}
-use Rattle.sched_laws.proofs.RtdsUnits.{rtds_unit-same, rtds_unit-none, rtds_unit-other}
+use Rattle.record_laws.proofs.RtdsSeen.{burned_at, unit_decided}
 use Rattle.term_laws.specs.RtdsTerm.{rtds_in}
 use Rattle.term_laws.proofs.UnitFollowed.{Same, same_refl, same_settled, charged}
 use Rattle.term_laws.proofs.Same.{cur_in}
@@ -37,62 +37,26 @@ use Rattle.term_laws.proofs.Same.{due_in}
 use Rattle.term_laws.proofs.StepsState.{Stands, HomeOf, on_is}
 use Rattle.term_laws.proofs.StepsDeciding.{the_decision, next_pool, cur_there, core_there, due_decided}
 use Rattle.term_laws.proofs.StepsDecide.{at_next, at_other, is_core, not_core, on_next, no_core}
-use Rattle.term_laws.proofs.UnitTracks.{is_number, yes_number, HasIt, charged_if, off_if, on_if, after_decision, as_decided, UnitTracks}
+use Rattle.term_laws.proofs.UnitTracks.{is_number, yes_number, HasIt, charged_if, after_decision, as_decided, UnitTracks}
 use Rattle.term_laws.proofs.UnitSame.{number_unit, no_rtds, rtds_is, has_number, due_here, has_still}
 
 map_self : (o : Option RtdsUnit) → option_map (λ (x : RtdsUnit). x) o ≡ o
 map_self None = refl
 map_self (Some x) = refl
 
-map_thrice : (f g h : RtdsUnit → RtdsUnit) (o : Option RtdsUnit) → option_map h (option_map g (option_map f o)) ≡ option_map (λ (x : RtdsUnit). h (g (f x))) o
-map_thrice f g h None = refl
-map_thrice f g h (Some x) = refl
-
 module _ (u : UnitId) where
-  -- the unit's record, where the record of some unit is changed
-  changed : (w : UnitId) (f : RtdsUnit → RtdsUnit) (domains : List (Option (List RtdsUnit))) (o : Option RtdsUnit) → rtds_unit_at domains u ≡ o → rtds_unit_at (change_unit w f domains) u ≡ option_map (λ (x : RtdsUnit). cond (same_unit w u) (f x) x) o
-  changed w f domains o at =
-      elim (same_unit w u) as (λ b. same_unit w u ≡ b → rtds_unit_at (change_unit w f domains) u ≡ option_map (λ (x : RtdsUnit). cond b (f x) x) o) [
-        | true ↦ λ is. subst (λ (v : UnitId). rtds_unit_at (change_unit v f domains) u ≡ option_map f o) (sym (same_unit_same w u is)) (own o at)
-        | false ↦ λ is. rtds_unit-other w u f domains is ∙ at ∙ sym (map_self o)
-      ] refl
-    where
-      own : (o2 : Option RtdsUnit) → rtds_unit_at domains u ≡ o2 → rtds_unit_at (change_unit u f domains) u ≡ option_map f o2
-      own None is = rtds_unit-none u f domains is
-      own (Some x) is = rtds_unit-same u f domains x is
-
-  burned_at : (cur : Option UnitId) (t : ℕ) (domains : List (Option (List RtdsUnit))) (o : Option RtdsUnit) → rtds_unit_at domains u ≡ o → rtds_unit_at (own_burned_domains cur t domains) u ≡ option_map (charged_if (is_unit cur u) t) o
-  burned_at None t domains o at = at ∙ sym (map_self o)
-  burned_at (Some w) t domains o at = changed w (unit_burned_to t) domains o at
-
-  off_at : (cur : Option UnitId) (domains : List (Option (List RtdsUnit))) (o : Option RtdsUnit) → rtds_unit_at domains u ≡ o → rtds_unit_at (off_domains cur domains) u ≡ option_map (off_if (is_unit cur u)) o
-  off_at None domains o at = at ∙ sym (map_self o)
-  off_at (Some w) domains o at = changed w (λ x. record x { burned = None }) domains o at
-
   -- what a decision does to the unit's record, and when the core is due that has the unit then
   pub record UnitDecides (t : ℕ) (had : Bool) (o : Option RtdsUnit) (d : Decision) : Type 0 where
     pub next : unit_rtds_record d.records u ≡ option_map (after_decision t had (is_unit d.unit u)) o
     pub due : (x : RtdsUnit) → o ≡ Some x → is_unit d.unit u ≡ true → d.due ≡ Some (moment (t + (charged_if had t x).left))
 
   rtds_decides : (ask : Ask) (domains : List (Option (List RtdsUnit))) (c : Option UnitId) → UnitDecides ask.at.0 (is_unit ask.cur u) (rtds_unit_at domains u) (rtds_decision_for ask (own_burned_domains ask.cur ask.at.0 domains) c)
-  rtds_decides ask domains None = record {
-    next = (
-        let o : Option RtdsUnit = rtds_unit_at domains u in
-        off_at ask.cur (own_burned_domains ask.cur ask.at.0 domains) (option_map (charged_if (is_unit ask.cur u) ask.at.0) o) (burned_at ask.cur ask.at.0 domains o refl)
-        ∙ sym (map_self (option_map (off_if (is_unit ask.cur u)) (option_map (charged_if (is_unit ask.cur u) ask.at.0) o)))
-        ∙ map_thrice (charged_if (is_unit ask.cur u) ask.at.0) (off_if (is_unit ask.cur u)) (on_if false ask.at.0) o);
-    due = λ x at is. absurd (cc);
-  }
+  rtds_decides ask domains None = record { next = unit_decided ask domains None u; due = λ x at is. absurd (cc) }
   rtds_decides ask domains (Some w) = record {
-    next = (
-        let o : Option RtdsUnit = rtds_unit_at domains u in
-        let burned : List (Option (List RtdsUnit)) = own_burned_domains ask.cur ask.at.0 domains in
-        let o2 : Option RtdsUnit = option_map (off_if (is_unit ask.cur u)) (option_map (charged_if (is_unit ask.cur u) ask.at.0) o) in
-        changed w (λ x. record x { burned = Some ask.at.0 }) (off_domains ask.cur burned) o2 (off_at ask.cur burned (option_map (charged_if (is_unit ask.cur u) ask.at.0) o) (burned_at ask.cur ask.at.0 domains o refl))
-        ∙ map_thrice (charged_if (is_unit ask.cur u) ask.at.0) (off_if (is_unit ask.cur u)) (on_if (same_unit w u) ask.at.0) o);
+    next = unit_decided ask domains (Some w) u;
     due = λ x at is. (
         let burned : List (Option (List RtdsUnit)) = own_burned_domains ask.cur ask.at.0 domains in
-        let left : unit_left_budget burned u ≡ (charged_if (is_unit ask.cur u) ask.at.0 x).left = ap (λ (o : Option RtdsUnit). elim o as (λ _. ℕ) [ None ↦ 0 | Some z ↦ z.left ]) (burned_at ask.cur ask.at.0 domains (Some x) at) in
+        let left : unit_left_budget burned u ≡ (charged_if (is_unit ask.cur u) ask.at.0 x).left = ap (λ (o : Option RtdsUnit). elim o as (λ _. ℕ) [ None ↦ 0 | Some z ↦ z.left ]) (burned_at u ask.cur ask.at.0 domains ∙ ap (option_map (charged_if (is_unit ask.cur u) ask.at.0)) at) in
         subst (λ (v : UnitId). Some (moment (ask.at.0 + unit_left_budget burned v)) ≡ Some (moment (ask.at.0 + (charged_if (is_unit ask.cur u) ask.at.0 x).left))) (sym (same_unit_same w u is))
         (ap (λ (n : ℕ). Some (moment (ask.at.0 + n))) left));
   }

@@ -1,5 +1,5 @@
 -- What each entry of a run does to an RTDS unit: to its record, and to the due of the core that it is on.
-use Rattle.std.proofs.Common.{◌≡◌, ◌≢◌, ◌≤◌, ◌+◌, ◌-◌, ℕ, Bool, true, false, refl, arith, ap, subst, sym, ◌∙◌, inl, inr, cond, nat_lt}
+use Rattle.std.proofs.Common.{◌≡◌, ◌≢◌, ◌≤◌, ◌+◌, ◌-◌, ℕ, Bool, true, false, refl, arith, ap, subst, sym, ◌∙◌, inl, inr, nat_lt}
 use Rattle.std.specs.Prelude.{Option, Some, None, option_map, ◌==◌}
 use Rattle.std.proofs.lemmas.Bool.{eq-eqb, ne_eqb}
 use Rattle.sched_base.specs.Numbers.{moment, span}
@@ -14,6 +14,7 @@ use Rattle.sched_model.specs.declared.state.RtdsUnit.{RtdsUnit}
 use Rattle.sched_model.specs.Places.{same_unit}
 use Rattle.sched_model.specs.Rtds.{unit_after_span, unit_burned_to, unit_after_replenish}
 use Rattle.sched_laws.proofs.EachPlace.{by_cond}
+pub use Rattle.record_laws.specs.Decisions.{charged_if, off_if, on_if, after_decision}
 use Rattle.term_laws.specs.Term.{late_of, moves}
 use Rattle.term_laws.specs.RtdsTerm.{rtds_in}
 use Rattle.term_laws.proofs.UnitFollowed.{charged, charged_back}
@@ -35,22 +36,6 @@ not_number n (Some k) other = ne_eqb k n (λ e. other (ap (λ (x : ℕ). Some x)
 -- the core has the unit
 abbrev pub HasIt : UnitId → State → ℕ → Type 0
 HasIt u s r = on_core s u.dom.0 r ≡ Some u.n
-
--- the record of the unit, charged up to t where the core had it
-abbrev pub charged_if : Bool → ℕ → RtdsUnit → RtdsUnit
-charged_if had t x = cond had (unit_burned_to t x) x
-
--- it runs no more where the core had it
-abbrev pub off_if : Bool → RtdsUnit → RtdsUnit
-off_if had x = cond had (record x { burned = None }) x
-
--- it runs from t where the core has it now
-abbrev pub on_if : Bool → ℕ → RtdsUnit → RtdsUnit
-on_if has t x = cond has (record x { burned = Some t }) x
-
--- a record after a decision at t
-abbrev pub after_decision : ℕ → Bool → Bool → RtdsUnit → RtdsUnit
-after_decision t had has x = on_if has t (off_if had (charged_if had t x))
 
 -- what a decision keeps of a record that it has charged
 pub record AsDecided (x y : RtdsUnit) : Type 0 where

@@ -1,6 +1,6 @@
 -- The records of a scheduler keep their parameters through its decisions, its replenishments and its refills.
-use Rattle.std.proofs.Common.{◌≡◌, ℕ, zero, suc, List, refl, subst, sym, ◌∙◌, cond, length}
-use Rattle.std.specs.Prelude.{Option, Some, None, slice_get, ◌==◌}
+use Rattle.std.proofs.Common.{◌≡◌, ℕ, List, refl, subst, sym, ◌∙◌, length}
+use Rattle.std.specs.Prelude.{Option, Some, None}
 use Rattle.std.proofs.lemmas.List.{length-map}
 use Rattle.sched_base.specs.declared.UnitId.{UnitId}
 use Rattle.sched_model.specs.declared.ask.Ask.{Ask}
@@ -16,13 +16,16 @@ use Rattle.sched_model.specs.declared.state.Records.TheVariants.{Credit2Pool, Rt
 use Rattle.sched_model.specs.declared.state.RtdsUnit.{RtdsUnit}
 use Rattle.sched_model.specs.declared.state.Scheduler.{Scheduler}
 use Rattle.sched_model.specs.Credit2 as credit2
-use Rattle.sched_model.specs.Places.{change_item}
+use Rattle.sched_model.specs.Places.{change_each, change_item}
 use Rattle.sched_model.specs.Policy as policy
 use Rattle.sched_model.specs.Policy.{decision_by}
 use Rattle.sched_model.specs.Rtds as rtds
-use Rattle.sched_laws.proofs.EachPlace.{by_option, by_cond}
+use Rattle.sched_laws.proofs.EachPlace.{by_option}
 use Rattle.sched_laws.proofs.Lists.{length_change_item, AllByRecursion-change_item}
 use Rattle.sched_laws.proofs.Records.{decided_is}
+use Rattle.record_laws.specs.Decisions.{decided_domain}
+use Rattle.record_laws.proofs.Charges.{Leaves, leaves, leaves_taken}
+use Rattle.record_laws.proofs.Credit2Seen.{decided_domains, decided_limit, decided_records, most_stays, records_decided, taken_by_is, taken_limit, taken_records}
 use Rattle.undisturbed_laws.specs.Undisturbed.{Credit2DomainStays, Credit2Stays, KeepsDomains, RtdsDomainStays, RtdsUnitStays, RecordsStay}
 use Rattle.undisturbed_laws.proofs.Places.{keeps_change_at, keeps_change_each}
 
@@ -46,38 +49,23 @@ module _ (m : Machine) (i limit : ℕ) where
   c_unit : (u : UnitId) (f : Credit2Domain → Credit2Unit → Credit2Unit) (records : Credit2Records) → C records → C (credit2.change_unit u f records)
   c_unit u f records = c_domain u.dom.0 (λ d. record d { units = change_item u.n (f d) d.units }) records (λ d. (refl, refl, length_change_item u.n (f d) d.units))
 
-  given_back : (n : ℕ) (d : Credit2Domain) → SameTerms d (credit2.domain_after_return n d)
-  given_back n d = by_option (SameTerms d) (slice_get d.units n) d _ (λ is. (refl, refl, refl)) (λ u is. (refl, refl, length_change_item n _ d.units))
-
-  pub c_own : (cur : Option UnitId) (t : ℕ) (records : Credit2Records) → C records → C (credit2.own_burned_records cur t records)
-  c_own None t records here = here
-  c_own (Some u) t records here =
-      let burned : Credit2Records = credit2.change_unit u (credit2.burned_unit (credit2.most_weight records) t) records in
-      c_domain u.dom.0 (λ d. cond (d.cap == 0) d (credit2.domain_after_return u.n d)) burned
-      (λ d. by_cond (SameTerms d) (d.cap == 0) d (credit2.domain_after_return u.n d) (λ is. (refl, refl, refl)) (λ is. given_back u.n d))
-      (c_unit u (credit2.burned_unit (credit2.most_weight records) t) records here)
-
-  pub c_reset : (t k : ℕ) (records : Credit2Records) → C records → C (credit2.reset_records t k records)
-  c_reset t zero records here = here
-  c_reset t (suc k) records here = record {
-    limit = here.limit;
-    domains = keeps_change_each m i (Credit2DomainStays m.config.granularity) _ (credit2.burn_all t records).domains (λ n config x. terms_stay m.config.granularity config x _ (refl, refl, length-map x.units _))
-        (keeps_change_each m i (Credit2DomainStays m.config.granularity) _ records.domains (λ n config x. terms_stay m.config.granularity config x _ (refl, refl, length-map x.units _)) here.domains);
+  -- each domain was changed, and keeps its terms
+  c_each : (records next : Credit2Records) (f : ℕ → Credit2Domain → Credit2Domain) → next.domains ≡ change_each 0 f records.domains → next.limit ≡ records.limit → ((d : ℕ) (x : Credit2Domain) → Leaves x (f d x)) → C records → C next
+  c_each records next f is same leaves here = record {
+    limit = same ∙ here.limit;
+    domains = subst (KeepsDomains m i (Credit2DomainStays m.config.granularity)) (sym is) (keeps_change_each m i (Credit2DomainStays m.config.granularity) f records.domains (λ n config x. (let l = leaves n x in terms_stay m.config.granularity config x (f n x) (l.weight, l.cap, l.count))) here.domains);
   }
 
-  pub c_take : (u : UnitId) (records : Credit2Records) → C records → C (credit2.change_domain u.dom.0 (credit2.domain_after_take u.n) records)
-  c_take u records = c_domain u.dom.0 (credit2.domain_after_take u.n) records (λ d. by_cond (SameTerms d) (d.cap == 0) d _ (λ is. (refl, refl, refl)) (λ is. (refl, refl, length_change_item u.n _ d.units)))
+  -- a decision, and what its slice is computed from
+  pub c_taken : (ask : Ask) (u : UnitId) (records : Credit2Records) → C records → C (taken_records ask records u)
+  c_taken ask u records =
+      let k : ℕ = credit2.reset_count ask.at.0 u (credit2.own_burned_records ask.cur ask.at.0 records) in
+      c_each records (taken_records ask records u) _ (taken_by_is ask.at.0 ask.cur records k u) (taken_limit ask records u) (λ d x. leaves_taken _ _ ask.at.0 k _ _ x (most_stays ask.cur ask.at.0 records))
 
-  c_off : (cur : Option UnitId) (records : Credit2Records) → C records → C (credit2.off_records cur records)
-  c_off None records here = here
-  c_off (Some u) records here = c_unit u (λ d x. record x { burned = None }) records here
-
-  c_decide : (ask : Ask) (scheduler : Scheduler) (records : Credit2Records) (chosen : Option UnitId) → C records → RecordsStay m i (pool_params.Credit2 limit) (credit2.credit2_decision_for ask scheduler records chosen).records
-  c_decide ask scheduler records None here = c_off ask.cur records here
-  c_decide ask scheduler records (Some u) here =
-      let whole : Credit2Records = credit2.reset_records ask.at.0 (credit2.reset_count ask.at.0 u records) records in
-      let taken : Credit2Records = credit2.change_domain u.dom.0 (credit2.domain_after_take u.n) whole in
-      c_unit u (λ d x. record x { burned = Some ask.at.0 }) (credit2.off_records ask.cur taken) (c_off ask.cur taken (c_take u whole (c_reset ask.at.0 (credit2.reset_count ask.at.0 u records) records here)))
+  c_decide : (ask : Ask) (scheduler : Scheduler) (records : Credit2Records) (chosen : Option UnitId) → C records → RecordsStay m i (pool_params.Credit2 limit) (credit2.credit2_decision_for ask scheduler (credit2.own_burned_records ask.cur ask.at.0 records) chosen).records
+  c_decide ask scheduler records chosen here =
+      subst (RecordsStay m i (pool_params.Credit2 limit)) (sym (records_decided ask records scheduler chosen))
+      (c_each records (decided_records ask records chosen) (decided_domain ask records chosen) (decided_domains ask records chosen) (decided_limit ask records chosen) (leaves ask records chosen) here)
 
   c_refilled : (t d : ℕ) (records : Credit2Records) → C records → C (credit2.refilled_pool t d records)
   c_refilled t d records = c_domain d (credit2.domain_after_refill (credit2.most_weight records) t) records (λ x. (refl, refl, length-map x.units (credit2.burned_unit (credit2.most_weight records) t x)))
@@ -109,7 +97,7 @@ module _ (m : Machine) (i : ℕ) where
   pub stays_decision : (params : PoolParams) (records : Records) (ask : Ask) (scheduler : Scheduler) → scheduler.records ≡ records → RecordsStay m i params records → RecordsStay m i params (decision_by records ask scheduler).records
   stays_decision (pool_params.Credit2 limit) (Credit2Pool records) ask scheduler is here =
       let burned : Credit2Records = credit2.own_burned_records ask.cur ask.at.0 records in
-      c_decide m i limit ask scheduler burned (credit2.credit2_choice ask scheduler burned) (c_own m i limit ask.cur ask.at.0 records here)
+      c_decide m i limit ask scheduler records (credit2.credit2_choice ask scheduler burned) here
   stays_decision pool_params.Rtds (RtdsPool domains) ask scheduler is here =
       let burned : List (Option (List RtdsUnit)) = rtds.own_burned_domains ask.cur ask.at.0 domains in
       r_decide ask burned (rtds.rtds_choice ask scheduler burned) (r_own ask.cur ask.at.0 domains here)

@@ -43,10 +43,10 @@ part_has test a (suc b) zero (y ∷ xs) x at passes low high = absurd (omega (ar
 part_has test a (suc b) (suc i) (y ∷ xs) x at passes low high = part_has test a b i xs x at passes (omega (arith, low)) (omega (arith, high))
 
 -- where a vCPU of a unit is
-place_low : (g k n : ℕ) → k / g ≡ n → n * g ≤ k
+pub place_low : (g k n : ℕ) → k / g ≡ n → n * g ≤ k
 place_low g k n is = (let e = div-add-mod' k g in let f : k / g * g ≡ n * g = ap (λ q. q * g) is in omega (arith, e, f))
 
-place_high : (g k n : ℕ) → 0 < g → k / g ≡ n → k < n * g + g
+pub place_high : (g k n : ℕ) → 0 < g → k / g ≡ n → k < n * g + g
 place_high g k n some is = (let e = div-add-mod' k g in let f : k / g * g ≡ n * g = ap (λ q. q * g) is in let low : k % g < g = rest g k some in omega (arith, e, f, low))
   where
     rest : (g k : ℕ) → 0 < g → k % g < g

@@ -1,19 +1,21 @@
 -- The best of some units: a scan that keeps the better of two units ends at one of them, and none of them is better.
-use Rattle.std.proofs.Common.{◌≡◌, Bool, true, false, List, [], ◌∷◌, cond, refl, subst, sym, ◌∙◌, ◌⊎◌, inl, inr}
-use Rattle.std.specs.Prelude.{Option, Some, None}
+use Rattle.std.proofs.Common.{◌≡◌, Bool, true, false, List, [], ◌∷◌, cond, refl, ap, subst, sym, ◌∙◌, ◌⊎◌, inl, inr}
+use Rattle.std.specs.Prelude.{Option, Some, None, ◌||◌}
 use Rattle.std.proofs.lemmas.Bool.{or_cases}
 use Rattle.sched_base.specs.declared.UnitId.{UnitId}
 use Rattle.sched_model.specs.Places.{has_listed_unit, same_unit}
-use Rattle.sched_base.proofs.Bools.{or_more}
+use Rattle.sched_base.proofs.Bools.{or_more, false_before}
 use Rattle.sched_laws.proofs.Choices.{same_unit_same}
 use Rattle.sched_laws.proofs.Counts.{same_unit_refl}
-use Rattle.moment_laws.proofs.Tests.{or_later}
 
--- no unit is better than itself; who is better than a better one is better, and so is who is better than one that is not worse
+or_later : {b : Bool} (a : Bool) → b ≡ true → (a || b) ≡ true
+or_later true e = refl
+or_later false e = e
+
+-- no unit is better than itself, and who is better than a better one is better
 pub record IsOrder (better : UnitId → UnitId → Bool) : Type 0 where
   pub irrefl : (u : UnitId) → better u u ≡ false
   pub trans : (a b e : UnitId) → better a b ≡ true → better b e ≡ true → better a e ≡ true
-  pub least : (a b e : UnitId) → better a b ≡ true → better e b ≡ false → better e a ≡ false
 
 -- a scan that begins with the best one so far, and keeps the better one of two
 pub record IsScan (better : UnitId → UnitId → Bool) (pick : Option UnitId → List UnitId → Option UnitId) : Type 0 where
@@ -28,9 +30,12 @@ pub record IsBest (better : UnitId → UnitId → Bool) (best : Option UnitId) (
   pub over : (b : UnitId) → best ≡ Some b → (w ≡ b) ⊎ (better w b ≡ true)
 
 module _ {better : UnitId → UnitId → Bool} {pick : Option UnitId → List UnitId → Option UnitId} (order : IsOrder better) (scan : IsScan better pick) where
+  least : (a b e : UnitId) → better a b ≡ true → better e b ≡ false → better e a ≡ false
+  least a b e above not = false_before (better e a) (better e b) (λ ahead. order.trans e a b ahead above) not
+
   not_better : (w b : UnitId) → (w ≡ b) ⊎ (better w b ≡ true) → better b w ≡ false
   not_better w b (inl e) = subst (λ x. better b x ≡ false) (sym e) (order.irrefl b)
-  not_better w b (inr above) = order.least w b b above (order.irrefl b)
+  not_better w b (inr above) = least w b b above (order.irrefl b)
 
   -- a unit and those behind it
   with_first : (u : UnitId) (xs : List UnitId) (w : UnitId) → better u w ≡ false → ((e : UnitId) → has_listed_unit xs e ≡ true → better e w ≡ false) → (e : UnitId) → has_listed_unit (u ∷ xs) e ≡ true → better e w ≡ false
@@ -52,7 +57,7 @@ module _ {better : UnitId → UnitId → Bool} {pick : Option UnitId → List Un
       let r = with_b h in
       record {
         source = elim r.source [ inl e ↦ inl e | inr has ↦ inr (or_later (same_unit w u) has) ];
-        none_better = with_first u xs w (elim (r.over b refl) [ inl e ↦ subst (λ x. better u x ≡ false) (sym e) not | inr above ↦ order.least w b u above not ]) r.none_better;
+        none_better = with_first u xs w (elim (r.over b refl) [ inl e ↦ subst (λ x. better u x ≡ false) (sym e) not | inr above ↦ least w b u above not ]) r.none_better;
         over = r.over;
       }
 
@@ -74,3 +79,6 @@ module _ {better : UnitId → UnitId → Bool} {pick : Option UnitId → List Un
   none_best best [] is = (sym (scan.ends best) ∙ is, refl)
   none_best None (u ∷ xs) is = absurd (some_best u xs (sym (scan.starts u xs) ∙ is))
   none_best (Some b) (u ∷ xs) is = absurd (some_best b (u ∷ xs) is)
+
+  pub none_listed : (best : Option UnitId) (w : UnitId) (xs : List UnitId) → has_listed_unit xs w ≡ true → pick best xs ≡ None → ⊥
+  none_listed best w xs has is = (let e : has_listed_unit xs w ≡ false = ap (λ (ys : List UnitId). has_listed_unit ys w) (none_best best xs is).1 in absurd (cc))
