@@ -331,14 +331,17 @@ static bool block_guests(void)
     return any;
 }
 
-/* Runs the timers that have come, each on its processor. Whether there were any. */
+/* Runs the timers that have come, each on its processor, with a look after each that brought something about. Whether there were any. */
 bool run_timers(void)
 {
     bool any = false;
     int processor;
+    unsigned long before = timer_events;
     while ( (processor = run_timer(stalled_until)) >= 0 )
     {
-        look(pool_of(processor));
+        if ( timer_events != before )
+            look(pool_of(processor));
+        before = timer_events;
         any = true;
     }
     return any;
