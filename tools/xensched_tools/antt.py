@@ -3,7 +3,9 @@
 It reads text. A word is taken for a name wherever it can be one, but for a variable, a field and what stands behind a dot.
 """
 import functools
+import pathlib
 import re
+import shutil
 
 USE = re.compile(r"^(?:unfoldable )?(pub )?use ([\w.]+?)(?:\.\{([^}]*)\}| as (\S+))?\s*$")
 HEAD = re.compile(r"^(\s*)((?:(?:abbrev|unfoldable|opaque|pub|record|data) )+)(\S+)")
@@ -296,3 +298,10 @@ def names_in(text, file, is_record):
             found.add((stem, None))
     found.update((name, None) for name, parts in file.operators if all(it in text for it in parts))
     return found
+
+
+def kit_folder():
+    """The folder with the sources of the toolchain's crates, or none."""
+    place = shutil.which("rt")
+    folder = pathlib.Path(place).resolve().parent.parent / "rattle" if place else None
+    return folder if folder and folder.is_dir() else None

@@ -36,10 +36,6 @@ asked_in until job by = ap (λ b. cond b (job.left + job.budget * ((until - job.
 pub asked_out : (until : ℕ) (job : Job) → until < job.deadline → asked_by until job ≡ 0
 asked_out until job later = ap (λ b. cond b (job.left + job.budget * ((until - job.deadline) / job.period)) 0) (gt_is job.deadline until later)
 
--- with less left it asks for less
-with_left : ℕ → Job → Job
-with_left left job = record job { left = left }
-
 asked_less : (until : ℕ) (job : Job) (l1 l2 : ℕ) → l1 ≤ l2 → asked_by until (record job { left = l1 }) ≤ asked_by until (record job { left = l2 })
 asked_less until job l1 l2 less =
     elim (dec_le job.deadline until) [

@@ -37,7 +37,7 @@ use Rattle.sched_laws.proofs.Lists.{test_at-some}
 use Rattle.moment_laws.proofs.AllowedAlone.{allowed_alone}
 use Rattle.service_laws.specs.OnTime.{CoresAreOnTime, IsOnTime}
 use Rattle.service_laws.specs.Service.{HasNoLaterUnit, MostUrgentRun, is_usable}
-use Rattle.service_laws.proofs.Quiet.{parts_of}
+use Rattle.sched_laws.proofs.Waiting.{parts_of}
 use Rattle.undisturbed_laws.specs.Undisturbed.{CoreStays}
 use Rattle.reservation_laws.proofs.Ticks.{IsCalm}
 use Rattle.reservation_laws.proofs.Tracks.{Watch}

@@ -33,6 +33,7 @@ pub mod Records
 pub mod HomeCores
 pub mod NullWalk
 pub mod NullLaw
+pub mod Quiet
 pub mod Reached
 pub mod Granularity
 pub mod RtdsUnits

@@ -2,8 +2,7 @@
 use Rattle.sched_base.specs.Numbers.{core as core_number}
 use Rattle.std.proofs.Common.{◌≡◌, ◌≤◌, ℕ, zero, suc, Bool, true, false, not, List, [], ◌∷◌, ◌++◌, refl, arith, subst, sym, ◌∙◌, ap, cond, ◌⊎◌, inl, inr}
 use Rattle.std.specs.Prelude.{Option, Some, None, is_some, unwrap_or, filter, ◌&&◌, ◌+◌}
-use Rattle.std.specs.List.{list_any, list_all}
-use Rattle.std.proofs.Math.Decide.{dec_le}
+use Rattle.std.specs.List.{list_any}
 use Rattle.std.proofs.lemmas.Bool.{cases_Bool, or_cases, not-true}
 use Rattle.sched_base.specs.declared.UnitId.{UnitId}
 use Rattle.sched_model.specs.declared.event.Event.{Event}
@@ -17,7 +16,7 @@ use Rattle.sched_model.specs.declared.state.Records.{Records}
 use Rattle.sched_model.specs.declared.state.Records.TheVariants.{NullPool}
 use Rattle.sched_model.specs.declared.state.Resource.{Resource}
 use Rattle.sched_model.specs.Places.{at_place, clear_at, numbered_items, is_unit}
-use Rattle.sched_model.specs.State.{may_unit_run, is_not_stalled, has_core_bit}
+use Rattle.sched_model.specs.State.{may_unit_run, has_core_bit}
 use Rattle.sched_model.specs.Opening.{absent_pool}
 use Rattle.sched_model.specs.declared.ask.Ask.{Ask}
 use Rattle.sched_model.specs.EligibleUnits.{Decision, is_unit_allowed, is_unit_eligible, is_unit_placed, has_given_core, is_core_given, may_have_core}
@@ -26,21 +25,17 @@ use Rattle.sched_model.specs.NullScheduler as null
 use Rattle.sched_model.specs.Pool.{pool_core_set, core_ask, decision_at}
 use Rattle.sched_model.specs.Actions.{home_pool_of_core}
 use Rattle.sched_model.specs.Machine.{event_of, home_pool}
-use Rattle.sched_model.specs.Runs.{IsRun, IsNextEvent, event_action, run_start}
+use Rattle.sched_model.specs.Runs.{IsRun, IsNextEvent, run_start}
 use Rattle.sched_model.specs.CheckedMachine.{IsChecked}
 use Rattle.sched_laws.specs.StateLaws.{state_after}
-use Rattle.sched_laws.specs.NullLaws.{Keeps, IsGiven, NoUnitHasTwoCores, chosen_by, DecidesIn, StayEndsWithCause, GivenUnitsGoNowhereElse, RunsUnlessHindered, GivenUnitsRun}
-use Rattle.sched_laws.proofs.Lists.{none_passes, some_is, is_some_at, test_at-some}
+use Rattle.sched_laws.specs.NullLaws.{Keeps, NoUnitHasTwoCores, chosen_by, DecidesIn, StayEndsWithCause, GivenUnitsGoNowhereElse}
+use Rattle.sched_laws.proofs.Lists.{is_some_at, test_at-some}
 use Rattle.sched_laws.proofs.Choices.{is_unit_same}
-use Rattle.sched_laws.proofs.Counts.{total_some, times_has, same_unit_refl}
-use Rattle.sched_laws.specs.Counts.{times, one_at}
-use Rattle.sched_laws.proofs.OnePlace.{one_at_some}
-use Rattle.sched_laws.specs.PoolFacts.{core_places}
+use Rattle.sched_laws.proofs.Counts.{same_unit_refl}
 use Rattle.sched_laws.proofs.PoolsLaw.{IsKnown, known_in_runs}
 use Rattle.sched_laws.proofs.SiblingsLaw.{some_processor}
 use Rattle.sched_laws.proofs.StillWaits.{core_home, split_run}
-use Rattle.sched_laws.proofs.Ready.{ready_in_runs}
-use Rattle.sched_laws.proofs.Waiting.{quiet_event, saves_none, nobody_waits}
+use Rattle.sched_laws.proofs.Waiting.{nothing_comes}
 use Rattle.sched_laws.proofs.HomeCores.{home_has}
 use Rattle.sched_laws.proofs.NullKept.{KeptFits, goes_on}
 use Rattle.sched_laws.proofs.NullWalk.{IsKeptPool, null_is_kept}
@@ -51,16 +46,16 @@ pub kept_in_runs : (m : Machine) → IsChecked m → (entries : List Entry) → 
 kept_in_runs m checked entries run = known_in_runs m (IsKeptPool m.config.granularity) (null_is_kept m.config.granularity (some_processor m.config.granularity checked.config.granularity)) checked entries run
 
 -- what a given core has
-given_at : (scheduler : Scheduler) (kept : List (Option UnitId)) (home r : ℕ) (u : UnitId) → is_unit_placed scheduler kept home r u ≡ true → at_place kept r ≡ Some u
+pub given_at : (scheduler : Scheduler) (kept : List (Option UnitId)) (home r : ℕ) (u : UnitId) → is_unit_placed scheduler kept home r u ≡ true → at_place kept r ≡ Some u
 given_at scheduler kept home r u placed = is_unit_same (at_place kept r) u (and_left (is_unit (at_place kept r) u) (has_core_bit home r) (and_left (is_unit (at_place kept r) u && has_core_bit home r) (is_unit_allowed scheduler home r u) placed))
 
-given_home : (scheduler : Scheduler) (kept : List (Option UnitId)) (home r : ℕ) (u : UnitId) → is_unit_placed scheduler kept home r u ≡ true → has_core_bit home r ≡ true
+pub given_home : (scheduler : Scheduler) (kept : List (Option UnitId)) (home r : ℕ) (u : UnitId) → is_unit_placed scheduler kept home r u ≡ true → has_core_bit home r ≡ true
 given_home scheduler kept home r u placed = and_right (is_unit (at_place kept r) u) (has_core_bit home r) (and_left (is_unit (at_place kept r) u && has_core_bit home r) (is_unit_allowed scheduler home r u) placed)
 
-given_allowed : (scheduler : Scheduler) (kept : List (Option UnitId)) (home r : ℕ) (u : UnitId) → is_unit_placed scheduler kept home r u ≡ true → is_unit_allowed scheduler home r u ≡ true
+pub given_allowed : (scheduler : Scheduler) (kept : List (Option UnitId)) (home r : ℕ) (u : UnitId) → is_unit_placed scheduler kept home r u ≡ true → is_unit_allowed scheduler home r u ≡ true
 given_allowed scheduler kept home r u placed = and_right (is_unit (at_place kept r) u && has_core_bit home r) (is_unit_allowed scheduler home r u) placed
 
-fits_of : (g : ℕ) (pool : Pool) (kept : List (Option UnitId)) → IsKeptPool g pool → Keeps pool kept → KeptFits kept pool.resources
+pub fits_of : (g : ℕ) (pool : Pool) (kept : List (Option UnitId)) → IsKeptPool g pool → Keeps pool kept → KeptFits kept pool.resources
 fits_of g pool kept known keeps = known.fits kept (rw keeps refl)
 
 same_kept : (a b : List (Option UnitId)) → NullPool a ≡ NullPool b → a ≡ b
@@ -187,84 +182,3 @@ own_core m checked entries next run pool q r c u on given is =
           let other : is_unit_placed pool.scheduler on.kept (pool_core_set pool) q u ≡ false = subst (λ k. is_unit_placed pool.scheduler on.kept (pool_core_set pool) k u ≡ false) e (none_numbered (λ (x : ℕ × UnitId). is_unit_placed pool.scheduler on.kept (pool_core_set pool) x.0 u) 0 on.kept q u nowhere at_q) in
           clash (is_unit_placed pool.scheduler on.kept (pool_core_set pool) q u) (subst (λ (k : List (Option UnitId)). is_unit_placed pool.scheduler k (pool_core_set pool) q u ≡ true) same given.placed) other)
     ]
-
--- a runnable unit that was given the core, where the core has no unit
-module _ (m : Machine) (checked : IsChecked m) (before : List Entry) (last : Entry) (run : IsRun m (before ++ last ∷ [])) (ends : event_action last.event ≡ None)
-    (i r : ℕ) (pool : Pool) (c : Resource) (u : UnitId) (at : at_place (state_after m before).pools i ≡ Some pool) (has : at_place pool.resources r ≡ Some c) (given : IsGiven pool r u)
-    (runs : may_unit_run m.config.granularity pool u ≡ true) (stays : c.leaving ≡ false) (up : list_all (is_not_stalled (state_after m before).now) c.processors ≡ true) (none : c.cur ≡ None) where
-  state : State
-  state = state_after m before
-
-  earlier : IsRun m before
-  earlier = (split_run m (run_start m) before (last ∷ []) run).0
-
-  here : IsKeptPool m.config.granularity pool
-  here = (kept_in_runs m checked before earlier).pools i pool at
-
-  fit : KeptFits given.kept pool.resources
-  fit = fits_of m.config.granularity pool given.kept here given.keeps
-
-  at_kept : at_place given.kept r ≡ Some u
-  at_kept = given_at pool.scheduler given.kept (pool_core_set pool) r u given.placed
-
-  none_eligible : list_any (is_unit_eligible pool.scheduler (pool_core_set pool) r (state_after m before).now) pool.scheduler.queue ≡ false
-  none_eligible = (let calm = nobody_waits m checked before last run ends i pool at r c has in not-true _ (rw (none, stays, up) at calm))
-
-  eligible : is_unit_eligible pool.scheduler (pool_core_set pool) r (state_after m before).now u ≡ true
-  eligible =
-      let allowed = given_allowed pool.scheduler given.kept (pool_core_set pool) r u given.placed in
-      let passed : may_have_core pool.scheduler.records pool.scheduler (pool_core_set pool) r (state_after m before).now u ≡ true = (let keeps = given.keeps in let placed = given.placed in rw (keeps, may_have_core, placed) refl) in
-      rw (is_unit_eligible, allowed) passed
-
-  not_queued : 1 ≤ times u pool.scheduler.queue → ⊥
-  not_queued waits =
-      clash (is_unit_eligible pool.scheduler (pool_core_set pool) r (state_after m before).now u) eligible
-      (times_has (λ w. is_unit_eligible pool.scheduler (pool_core_set pool) r (state_after m before).now w ≡ false) u pool.scheduler.queue (none_passes _ pool.scheduler.queue none_eligible) waits)
-
-  saves_no_unit : is_some c.saving ≡ true → ⊥
-  saves_no_unit =
-      saves_none m (state_after m before) checked (ready_in_runs m checked before earlier) (λ j p at_j. ((kept_in_runs m checked before earlier).pools j p at_j).known.sound)
-      (quiet_event m (state_after m before) last.event (event_action last.event) ends (split_run m (run_start m) before (last ∷ []) run).1.0.event) i r pool c at has up
-
-  same_core : (q : ℕ) (e : Resource) → q ≡ r → at_place pool.resources q ≡ Some e → e ≡ c
-  same_core q e is at_q = (let b : at_place pool.resources r ≡ Some e = subst (λ k. at_place pool.resources k ≡ Some e) is at_q in let d = has in cc)
-
-  on_no_core : (q : ℕ) (e : Resource) → at_place pool.resources q ≡ Some e → 1 ≤ core_places u e → ⊥
-  on_no_core q e at_q on =
-      elim (dec_le 1 (one_at u e.cur)) [
-        | yes is_cur ↦ (
-            let own = one_at_some u e.cur is_cur in
-            let e_is = same_core q e (fit.once q r u (fit.cur q e at_q u own) at_kept) at_q in
-            absurd (let f : None ≡ Some u = sym none ∙ subst (λ (x : Resource). x.cur ≡ Some u) e_is own in cc))
-        | no not_cur ↦ (
-            let saves = one_at_some u e.saving (omega (arith, on, not_cur)) in
-            let e_is = same_core q e (sym (fit.saving q e at_q u saves r at_kept)) at_q in
-            saves_no_unit (is_some_at c.saving u (subst (λ (x : Resource). x.saving ≡ Some u) e_is saves)))
-      ]
-
-  has_no_place : ⊥
-  has_no_place =
-      elim (here.known.one.runs u runs) as (λ _. ⊥) [
-        | inl placed ↦ elim (dec_le 1 (times u pool.scheduler.queue)) as (λ _. ⊥) [
-          | yes waits ↦ not_queued waits
-          | no not_waiting ↦ (let q = total_some (core_places u) pool.resources (omega (arith, placed, not_waiting)) in on_no_core q.0 q.1 q.2 q.3)
-        ]
-        | inr nobody ↦ nobody
-      ]
-
-pub running : (m : Machine) → IsChecked m → (before : List Entry) (last : Entry) → IsRun m (before ++ last ∷ []) → event_action last.event ≡ None → GivenUnitsRun m.config.granularity (state_after m before)
-running m checked before last run ends i pool at r u given runs =
-    let found = some_is (at_place pool.resources r) (sym (home_has pool.resources r) ∙ given_home pool.scheduler given.kept (pool_core_set pool) r u given.placed) in
-    (found.0, found.1, λ stays up. by_cur found.0 found.1 stays up)
-  where
-    same_unit_is : (a w : UnitId) (kept : List (Option UnitId)) → at_place kept r ≡ Some a → at_place kept r ≡ Some w → Some a ≡ Some w
-    same_unit_is a w kept x y = sym x ∙ y
-
-    by_cur : (c : Resource) → at_place pool.resources r ≡ Some c → RunsUnlessHindered (state_after m before).now u c
-    by_cur c has stays up =
-        let known = (kept_in_runs m checked before (split_run m (run_start m) before (last ∷ []) run).0).pools i pool at in
-        let fits = fits_of m.config.granularity pool given.kept known given.keeps in
-        elim c.cur as (λ o. c.cur ≡ o → o ≡ Some u) [
-          | None ↦ λ none. absurd (has_no_place m checked before last run ends i r pool c u at has given runs stays up none)
-          | Some w ↦ λ own. same_unit_is w u given.kept (fits.cur r c has w own) (given_at pool.scheduler given.kept (pool_core_set pool) r u given.placed)
-        ] refl

@@ -169,7 +169,7 @@ ready_after m s action on ready =
       free = free.1;
     }
 
-ready_later : (m : Machine) (s : State) (next : ℕ) → s.now ≤ next → IsReady m s → IsReady m (record s { now = next })
+pub ready_later : (m : Machine) (s : State) (next : ℕ) → s.now ≤ next → IsReady m s → IsReady m (record s { now = next })
 ready_later m s next past ready = record {
   apart = record { cores = ready.apart.cores; domains = ready.apart.domains; free = ready.apart.free };
   free = ready.free;

@@ -5,9 +5,8 @@ use Rattle.std.specs.Prelude.{Option, Some, None, is_some, is_none, slice_get, l
 use Rattle.std.specs.List.{list_any, list_all, AllByRecursion}
 use Rattle.std.proofs.lemmas.Nat.{div-mul-add, mod-mul-add, div-add-mod'}
 use Rattle.std.proofs.Math.Decide.{dec_le}
-use Rattle.std.proofs.lemmas.Bool.{cases_Bool, not-true, and_from}
+use Rattle.std.proofs.lemmas.Bool.{cases_Bool, and_from}
 use Rattle.sched_model.specs.declared.event.Event.{Event}
-use Rattle.sched_model.specs.declared.event.Entry.{Entry}
 use Rattle.sched_model.specs.declared.state.Processor.{Processor}
 use Rattle.sched_model.specs.declared.state.Resource.{Resource}
 use Rattle.sched_model.specs.Places.{at_place, test_at, numbers_from}
@@ -21,18 +20,14 @@ use Rattle.sched_model.specs.Pool.{enabled_in, pool_core_set, is_held_back, is_g
 use Rattle.sched_model.specs.declared.action.Action.TheVariants.{Stall, Xl, Moved, DomMoved, Wake, Block, Slice, Repl, Refill, Arrive, Decide, Leave, Save}
 use Rattle.sched_model.specs.Actions.{home_pool_of_core, candidates, vcpus_from, units_from}
 use Rattle.sched_model.specs.Machine.{is_action_enabled, first_enabled_action}
-use Rattle.sched_model.specs.Runs.{event_action, IsNextEvent, IsRun, run_start}
+use Rattle.sched_model.specs.Runs.{IsNextEvent}
 use Rattle.sched_model.specs.CheckedMachine.{IsChecked}
-use Rattle.sched_laws.specs.StateLaws.{state_after}
-use Rattle.sched_laws.specs.RunLaws.{NobodyWaits}
 use Rattle.sched_laws.proofs.Lists.{test_at-some, is_some_at}
-use Rattle.sched_laws.proofs.Sound.{cores_are_sound}
 use Rattle.sched_laws.specs.PoolFacts.{AreSound, CoreIsSound}
 use Rattle.sched_laws.proofs.SiblingsLaw.{some_processor}
-use Rattle.sched_laws.proofs.PoolsLaw.{known_in_runs}
-use Rattle.sched_laws.proofs.StillWaits.{core_home, split_run}
+use Rattle.sched_laws.proofs.StillWaits.{core_home}
 use Rattle.sched_laws.proofs.Calm.{calm}
-use Rattle.sched_laws.proofs.Ready.{IsReady, ready_in_runs}
+use Rattle.sched_laws.proofs.Ready.{IsReady}
 use Rattle.sched_base.proofs.Bools.{and_left, and_right, clash}
 use Rattle.sched_base.proofs.Lists.{none_from_find}
 use Rattle.sched_laws.proofs.EachPlace.{place_below}
@@ -108,7 +103,7 @@ to_leave m = to_decide m ++ map (λ n. Leave (processor n)) (numbers_from 0 m.co
 abbrev to_save : Machine → List Action
 to_save m = to_leave m ++ map (λ n. Save (core n)) (numbers_from 0 (machine_core_count m.config))
 
-module _ (m : Machine) (s : State) (checked : IsChecked m) (ready : IsReady m s) (sound : (i : ℕ) (pool : Pool) → at_place s.pools i ≡ Some pool → AreSound m.config.granularity pool) (quiet : first_enabled_action m s s.now ≡ None)
+module _ (m : Machine) (s : State) (checked : IsChecked m) (ready : IsReady m s) (sound : (i : ℕ) (pool : Pool) → at_place s.pools i ≡ Some pool → AreSound m.config.granularity pool) (quiet : AllByRecursion (λ action. is_action_enabled m s s.now action ≡ false) (candidates m.config))
     (i r : ℕ) (pool : Pool) (c : Resource) (at : at_place s.pools i ≡ Some pool) (has : at_place pool.resources r ≡ Some c) (up : list_all (is_not_stalled s.now) c.processors ≡ true) where
   g_some : 0 < m.config.granularity
   g_some = some_processor m.config.granularity checked.config.granularity
@@ -129,7 +124,7 @@ module _ (m : Machine) (s : State) (checked : IsChecked m) (ready : IsReady m s)
   Off action = is_action_enabled m s s.now action ≡ false
 
   all_off : AllByRecursion Off (to_save m)
-  all_off = after_two Off Stall Xl (to_save m) (none_from_find (is_action_enabled m s s.now) (candidates m.config) quiet)
+  all_off = after_two Off Stall Xl (to_save m) quiet
 
   leave_off : AllByRecursion Off (to_leave m)
   leave_off = (parts_of Off (to_leave m) (map (λ n. Save (core n)) (numbers_from 0 (machine_core_count m.config))) all_off).0
@@ -224,7 +219,7 @@ module _ (m : Machine) (s : State) (checked : IsChecked m) (ready : IsReady m s)
       clash (enabled_in m.config.granularity s.now pool (Save (core r)))
       (test_at-some pool.resources r (λ x. is_some x.saving && not (list_any is_held_back x.processors) && is_first_processor_up s.now x) c has (and_from (is_some c.saving && not (list_any is_held_back c.processors)) (is_first_processor_up s.now c) (and_from (is_some c.saving) (not (list_any is_held_back c.processors)) some (ap not none)) core_first)) no_save
 
-  not_pending : c.pending ≡ true → ⊥
+  pub not_pending : c.pending ≡ true → ⊥
   not_pending pending =
       elim (cases_Bool (is_gathering c)) [
         | inr closed ↦ (let f = some_passes is_held_back c.processors (known_core.decided closed) in leave_on f.0 f.1 f.2 f.3 f.4 closed)
@@ -246,6 +241,16 @@ module _ (m : Machine) (s : State) (checked : IsChecked m) (ready : IsReady m s)
       some_not_none None is = absurd (cc)
       some_not_none (Some x) is = refl
 
+  pub is_open : is_gathering c ≡ false → ⊥
+  is_open closed = (let f = some_passes is_held_back c.processors (known_core.decided closed) in leave_on f.0 f.1 f.2 f.3 f.4 closed)
+
+  pub holds_none : list_any is_held_back c.processors ≡ true → ⊥
+  holds_none any =
+      elim (cases_Bool (is_gathering c)) [
+        | inl open_c ↦ not_pending (known_core.gathers open_c any).0
+        | inr closed ↦ is_open closed
+      ]
+
   pub saves_none : is_some c.saving ≡ true → ⊥
   saves_none saves =
       elim (cases_Bool (list_any is_held_back c.processors)) [
@@ -256,12 +261,12 @@ module _ (m : Machine) (s : State) (checked : IsChecked m) (ready : IsReady m s)
         ]
       ]
 
-  not_due : has_moment_come s.now c.due ≡ true → c.pending ≡ false → ⊥
+  pub not_due : has_moment_come s.now c.due ≡ true → c.pending ≡ false → ⊥
   not_due come decided =
       clash (enabled_in m.config.granularity s.now pool (Slice (core r)))
       (test_at-some pool.resources r (λ x. has_moment_come s.now x.due && not x.pending && is_first_processor_up s.now x) c has (and_from (has_moment_come s.now c.due && not c.pending) (is_first_processor_up s.now c) (and_from (has_moment_come s.now c.due) (not c.pending) come (ap not decided)) core_first)) no_slice
 
-  is_calm : c.leaving ≡ false → calm s.now (pool_core_set pool) pool.scheduler r c ≡ true
+  pub is_calm : c.leaving ≡ false → calm s.now (pool_core_set pool) pool.scheduler r c ≡ true
   is_calm stays =
       let decided : c.pending ≡ false = (elim (cases_Bool c.pending) [ inl p ↦ absurd (not_pending p) | inr p ↦ p ]) in
       let low : has_moment_come s.now c.due ≡ false = (elim (cases_Bool (has_moment_come s.now c.due)) [ inl p ↦ absurd (not_due p decided) | inr p ↦ p ]) in
@@ -271,16 +276,6 @@ pub quiet_event : (m : Machine) (s : State) (e : Event) (action : Option Action)
 quiet_event m s e None is next = next.0
 quiet_event m s e (Some action) is next = absurd (cc)
 
-pub nobody_waits : (m : Machine) → IsChecked m → (before : List Entry) (last : Entry) → IsRun m (before ++ last ∷ []) → event_action last.event ≡ None → NobodyWaits (state_after m before)
-nobody_waits m checked before last run is i pool at r c has =
-    let parts = split_run m (run_start m) before (last ∷ []) run in
-    let s : State = state_after m before in
-    let quiet : first_enabled_action m s s.now ≡ None = quiet_event m s last.event (event_action last.event) is parts.1.0.event in
-    let ready : IsReady m s = ready_in_runs m checked before parts.0 in
-    let known = known_in_runs m (AreSound m.config.granularity) (cores_are_sound m.config.granularity (some_processor m.config.granularity checked.config.granularity)) checked before parts.0 in
-    implied (not c.leaving && list_all (is_not_stalled s.now) c.processors) (calm s.now (pool_core_set pool) pool.scheduler r c)
-    (λ may. is_calm m s checked ready (λ j p at_j. known.pools j p at_j) quiet i r pool c at has (and_right (not c.leaving) (list_all (is_not_stalled s.now) c.processors) may) (not-true c.leaving (and_left (not c.leaving) (list_all (is_not_stalled s.now) c.processors) may)))
-  where
-    implied : (a b : Bool) → (a ≡ true → b ≡ true) → (not a || b) ≡ true
-    implied true b to = to refl
-    implied false b to = refl
+-- where nothing comes first, nothing may come
+pub nothing_comes : (m : Machine) (s : State) → first_enabled_action m s s.now ≡ None → AllByRecursion (λ action. is_action_enabled m s s.now action ≡ false) (candidates m.config)
+nothing_comes m s none = none_from_find (is_action_enabled m s s.now) (candidates m.config) none

@@ -311,9 +311,6 @@ module _ (m : Machine) (checked : IsChecked m) (i : ℕ) (p : PoolConfig) (is : 
   pub fresh_credit2 : (limit : ℕ) → p.params ≡ pool_params.Credit2 limit → (d : ℕ) (c : DomConfig) → HasHome m i d c → (x : Credit2Domain) × (domain_credit2_record (pool_at_opening m.config i p).scheduler.records d ≡ Some x) × Credit2DomainStays m.config.granularity c x × (x ≡ fresh_credit2_domain x.weight x.cap (configured_units m.config.granularity c) 0)
   fresh_credit2 = own_credit2
 
-  pub fresh_rtds : p.params ≡ pool_params.Rtds → (d : ℕ) (c : DomConfig) → HasHome m i d c → (x : List RtdsUnit) × (rtds_at (pool_at_opening m.config i p).scheduler.records d ≡ Some x) × RtdsDomainStays m.config.granularity c x × IsFreshRtds c (configured_units m.config.granularity c) x
-  fresh_rtds = own_rtds
-
   others_credit2 : (d : ℕ) (x : Credit2Domain) → credit2_seen d whole ≡ Some x → IsAtHome m i d
   others_credit2 d x at = elim (at_home_or d (credit2_seen d) (λ e joining q ne. credit2_unseen d e joining q ne)) [
     | inl home ↦ home
