@@ -30,6 +30,11 @@ class Lemma:
         self.kind = next((it for it in ("abbrev", "record", "data", "syntax", "inductive") if it in words[:3] and it != name), "lemma")
 
     @property
+    def is_inner(self):
+        """Whether it stands in a module of its file."""
+        return self.lines[0].startswith(" ")
+
+    @property
     def text(self):
         return "\n".join(self.lines)
 

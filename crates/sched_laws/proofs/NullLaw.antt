@@ -1,6 +1,6 @@
 -- The law of null pools, from what is kept.
 use Rattle.sched_base.specs.Numbers.{core as core_number}
-use Rattle.std.proofs.Common.{◌≡◌, ◌≤◌, ℕ, zero, suc, Bool, true, false, not, List, [], ◌∷◌, ◌++◌, refl, arith, subst, sym, ◌∙◌, ap, cond, ◌⊎◌, inl, inr}
+use Rattle.std.proofs.Common.{◌≡◌, ℕ, zero, suc, Bool, true, false, not, List, [], ◌∷◌, ◌++◌, refl, arith, subst, sym, ◌∙◌, ap, cond, ◌⊎◌, inl, inr}
 use Rattle.std.specs.Prelude.{Option, Some, None, is_some, unwrap_or, filter, ◌&&◌, ◌+◌}
 use Rattle.std.specs.List.{list_any}
 use Rattle.std.proofs.lemmas.Bool.{cases_Bool, or_cases, not-true}
@@ -35,7 +35,6 @@ use Rattle.sched_laws.proofs.Counts.{same_unit_refl}
 use Rattle.sched_laws.proofs.PoolsLaw.{IsKnown, known_in_runs}
 use Rattle.sched_laws.proofs.SiblingsLaw.{some_processor}
 use Rattle.sched_laws.proofs.StillWaits.{core_home, split_run}
-use Rattle.sched_laws.proofs.Waiting.{nothing_comes}
 use Rattle.sched_laws.proofs.HomeCores.{home_has}
 use Rattle.sched_laws.proofs.NullKept.{KeptFits, goes_on}
 use Rattle.sched_laws.proofs.NullWalk.{IsKeptPool, null_is_kept}
