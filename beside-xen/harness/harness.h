@@ -83,6 +83,7 @@ unsigned long chance(void);
 
 /* timers.c */
 extern bool is_timer_running;           /* what happens now, a timer brought about */
+extern unsigned long timer_events;      /* timers that brought something about */
 long chance_of_lateness(void);
 long next_timer(const long *stalled_until);
 int run_timer(const long *stalled_until);

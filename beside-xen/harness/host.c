@@ -40,10 +40,13 @@ static FILE *behind;
 static char *kept;
 static size_t kept_size;
 
+unsigned long entry_count;
+
 void host_entry(long moment, const char *format, ...)
 {
     FILE *out = behind ? behind : stdout;
     va_list values;
+    entry_count++;
     va_start(values, format);
     fprintf(out, "%ld ", moment);
     vfprintf(out, format, values);

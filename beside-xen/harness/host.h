@@ -3,6 +3,7 @@
 void *host_memory(unsigned long size);              /* filled with zeros */
 void host_release(void *memory);
 void host_print(const char *format, ...) __attribute__((__format__(__printf__, 1, 2)));
+extern unsigned long entry_count;         /* entries told so far */
 void host_entry(long moment, const char *format, ...) __attribute__((__format__(__printf__, 2, 3)));
 void host_keep_back(void);                          /* entries from now on stand behind one that is not known yet */
 void host_go_ahead(void);                           /* it comes now */

@@ -141,15 +141,15 @@ static bool is_to_arrive(unsigned int processor)
 static bool step(unsigned int processor)
 {
     bool was_waiting = is_waiting[processor];
-    unsigned long before = record_count;
+    unsigned long records = record_count, entries = entry_count;
     if ( !may_decide(processor) )
         return false;
     if ( plan.whole && !plan.by_rank && is_to_arrive(processor) )
         look(pool_of(processor));       /* it arrives, which is an event of its own */
     let_go_on(processor);
     look(pool_of(processor));
-    /* one that waits again may have been through a whole switch, of which Xen keeps records; in a pass over all of them another one goes on then */
-    return !(was_waiting && is_waiting[processor]) || (plan.is_shuffled && record_count != before);
+    /* one that waits again may have been through a whole switch, and told so; or, as Xen's records say, it has come a part of the way */
+    return !(was_waiting && is_waiting[processor]) || entry_count != entries || (plan.is_shuffled && record_count != records);
 }
 
 /* What a change of Xen's code may bring: a processor that is not late begins where the one that was asked is. */
@@ -331,14 +331,17 @@ static bool block_guests(void)
     return any;
 }
 
-/* Runs the timers that have come, each on its processor. Whether there were any. */
+/* Runs the timers that have come, each on its processor, with a look after each that brought something about. Whether there were any. */
 bool run_timers(void)
 {
     bool any = false;
     int processor;
+    unsigned long before = timer_events;
     while ( (processor = run_timer(stalled_until)) >= 0 )
     {
-        look(pool_of(processor));
+        if ( timer_events != before )
+            look(pool_of(processor));
+        before = timer_events;
         any = true;
     }
     return any;

@@ -66,12 +66,21 @@ static void kill_own(struct timer *timer)
 }
 
 /* ---- What a timer brings about ---- */
+unsigned long timer_events;             /* timers that brought something about */
+
+/* Whether the core of the processor is to decide already, so that its time to ask again brings nothing about. */
+static bool is_asked_already(unsigned int processor)
+{
+    return get_sched_res(processor)->curr->rendezvous_in_cnt || is_asked(processor / core_size * core_size);
+}
+
 static void call_timer(const struct timer *timer, void (*function)(void *), void *data)
 {
     unsigned int processor = timer->cpu;
-    if ( plan.whole && timer == &get_sched_res(processor)->s_timer && !get_sched_res(processor)->curr->rendezvous_in_cnt &&
-         !is_asked(processor / core_size * core_size) )
+    bool is_slice = timer == &get_sched_res(processor)->s_timer, is_nothing = is_slice && is_asked_already(processor);
+    if ( plan.whole && is_slice && !is_nothing )
         tell("slice c%u", processor / core_size);
+    timer_events += !is_nothing;
     is_timer_running = true;
     function(data);
     is_timer_running = false;

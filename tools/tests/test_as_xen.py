@@ -17,7 +17,7 @@ from xensched_tools.machine import machine_of, read_machine
 from xensched_tools.words import Refused
 
 FOLDER = pathlib.Path(os.environ.get("BESIDE_XEN_FOLDER") or as_xen.Host().folder)
-MACHINE = TOP / "tools" / "tests" / "data" / "trace" / "machine.toml"
+MACHINE = TOP / "examples" / "trace" / "machine.toml"
 FAULTS = TOP / "beside-xen" / "faults"
 SOURCE = as_xen.fetch.unpacked(FOLDER, as_xen.fetch.TRIED)
 HAS_XEN = SOURCE is not None and as_xen.fetch.version_of(SOURCE) == "4.17.5" and shutil.which("gcc") is not None

@@ -1,4 +1,4 @@
-"""tools/from-trace: a trace that Xen's own scheduler code wrote (data/trace, made by the harness of beside-xen) against the log of the same run, and spoiled ones."""
+"""tools/from-trace: a trace that Xen's own scheduler code wrote (examples/trace, made by the harness of beside-xen) against the log of the same run, and spoiled ones."""
 import collections
 import json
 import pathlib
@@ -14,7 +14,7 @@ from xensched_tools.measures import Study
 from xensched_tools.trace_files import IDLE, LOST, RUNNING, STATES, WINDOW_HEAD, Change, Trace, read_trace
 from xensched_tools.words import Refused
 
-DATA = TOP / "tools" / "tests" / "data" / "trace"
+DATA = TOP / "examples" / "trace"
 HZ = 1024 * 10**9           # of these files, by which a nanosecond has 1024 cycles
 US, MS = 1000, 1_000_000
 FULL = ["--hz", "1024G", "--machine", DATA / "machine.toml"]

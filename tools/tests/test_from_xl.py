@@ -15,7 +15,7 @@ from xensched_tools.machine import Command, machine_of, read_machine
 from xensched_tools.words import Refused
 
 DATA = TOP / "tools" / "tests" / "data"
-HOST, HOST32 = DATA / "host", DATA / "host32"
+HOST, HOST32 = DATA / "host", TOP / "examples" / "host32"
 HOSTS = int(os.environ.get("XL_HOSTS", "300"))
 LOADS32 = ["web01=3ms/2ms", "db.prod.example/0=1ms/4ms"]
 BUSY32 = ["*=20%", "batch=160%"]

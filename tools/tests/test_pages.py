@@ -40,6 +40,10 @@ def copy_to(top):
             shutil.copy(crate / "README.md", top / "crates" / crate.name)
 
 
+def edits_of(crate):
+    return [it.stem for it in (TOP / "crates" / crate / "must-fail").glob("*.edit")]
+
+
 def said(top, tool="check_pages", *words):
     """What the copy's script says, line by line, and its status."""
     done = subprocess.run([sys.executable, str(top / "tools" / tool), *words], capture_output=True, text=True)
@@ -71,6 +75,8 @@ class Pages(unittest.TestCase):
         self.add("README.md", "```", "pub fn law_headline()", "    ensures whole { (m : Machine) → IsWholeRun m }", "```")
         self.add("README.md", "```", "file: src/rtds.rt", "old: deadline", "new: no deadline", "```")
         self.add("docs/XL.md", "`no_such_word` in a page of docs/.")
+        self.add("docs/XL.md", "It is the clause `no_such_clause`; `crates/runq/must-fail/` has `nothing_is_written`.")
+        self.change("docs/PROMISES.md", "| `none_kept` |", "| `nothing_kept` |")
         self.change("crates/runq/README.md", "## Proved", "`Gone.antt` has it, and so do `specs/Gone.antt` and `Kept.antt`.\n\n## Proved")
         self.change("crates/runq/README.md", "## Depends on", "The contracts: `Runq::insert`, `judge`.\n\n## Depends on")
         self.change("crates/README.md", "xensched_top", "xensched_bottom")
@@ -87,7 +93,9 @@ class Pages(unittest.TestCase):
                 "9,999 stored calls: ", "73 crates: ", "999 mutants: ", "99 worked examples: ", "999 laws: ", "99 stored runs: ", "9,999 definitions: ",
                 "no source has the contract pub fn law_headline() ensures ..", "no mutant is as it stands here: file: src/rtds.rt ..",
             ),
-            "docs/XL.md": ("no source has the name no_such_word",),
+            "docs/XL.md": ("no source has the name no_such_word", "no source has the name no_such_clause", "no function has a clause no_such_clause",
+                           "crates/runq/must-fail has no edit nothing_is_written", *(f"the edit {it} of crates/runq/must-fail is missing" for it in edits_of("runq"))),
+            "docs/PROMISES.md": ("the top call has no clause nothing_kept", "the clause none_kept of the top call is missing"),
             "crates/runq/README.md": ("there is no file Gone.antt", "there is no file specs/Gone.antt", "there is no file Kept.antt", "runq has no judge"),
             "crates/README.md": ("no source has the name xensched_bottom",),
             "crates/due_heap/README.md": ("has no head Tested only",),

@@ -107,7 +107,7 @@ class Parts(unittest.TestCase):
 
     def test_the_parts_of_a_host_add_up(self):
         with tempfile.TemporaryDirectory() as folder:
-            call("tools/from-trace", "tools/tests/data/trace/trace.txt", "--out", folder, "--to", "40ms")
+            call("tools/from-trace", "examples/trace/trace.txt", "--out", folder, "--to", "40ms")
             files = [pathlib.Path(folder) / name for name in ("host.toml", "work.txt")]
             lines = (pathlib.Path(folder) / "schedule.txt").read_text().splitlines()
             for cuts in ([10 * MS, 20 * MS], [1, 39 * MS + 5]):

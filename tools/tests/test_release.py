@@ -16,7 +16,7 @@ class Release(unittest.TestCase):
         folder = tempfile.TemporaryDirectory()
         self.addCleanup(folder.cleanup)
         self.top = pathlib.Path(folder.name) / "repository"
-        for name, text in (("crates.txt", "xensched:\n"), ("crates/xensched/src/main.rt", "fn main() {}\n"), (".gitignore", "out/\n__pycache__/\n")):
+        for name, text in (("crates.txt", "xensched:\n"), ("crates/xensched/src/main.rt", "fn main() {}\n"), (".gitignore", "out/\n__pycache__/\n"), ("VERSION", "1.2.0\n")):
             (self.top / name).parent.mkdir(parents=True, exist_ok=True)
             (self.top / name).write_text(text)
         (self.top / "tools").mkdir()
@@ -71,6 +71,7 @@ class Release(unittest.TestCase):
 
     def test_refusals(self):
         self.refused("no version", "1.2")
+        self.refused("the file VERSION says 1.2.0", "1.3.0")
         (self.top / "crates" / "xensched" / "src" / "main.rt").write_text("\n")
         self.refused("not committed", "1.2.0")
 

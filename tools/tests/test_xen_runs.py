@@ -1,4 +1,4 @@
-"""A schedule of Xen's own scheduler code before the checker: data/trace/whole.txt, which the table `checks` of beside-xen/run made of machine.toml."""
+"""A schedule of Xen's own scheduler code before the checker: examples/trace/whole.txt, which the table `checks` of beside-xen/run made of machine.toml."""
 import pathlib
 import subprocess
 import tempfile
@@ -6,7 +6,7 @@ import unittest
 
 from support import PROGRAM, TOP, study_of
 
-DATA = TOP / "tools" / "tests" / "data" / "trace"
+DATA = TOP / "examples" / "trace"
 
 
 @unittest.skipUnless(PROGRAM.exists(), "the program is not built")

@@ -97,7 +97,7 @@ def run(machine, work_path=None, prepare=lambda study: None):
 def program_here():
     """The program where it is built or named, None where it is not: nothing is built for a question that can be answered without it."""
     named = os.environ.get("XENSCHED_PROGRAM")
-    known = [pathlib.Path(named)] if named else [TOP / "crates" / "xensched" / "out" / name for name in ("xensched", "trial/xensched")]
+    known = [pathlib.Path(named)] if named else [TOP / name for name in ("crates/xensched/out/xensched", "crates/xensched/out/trial/xensched", "program/xensched")]
     return next((path.resolve() for path in known if path.is_file() and os.access(path, os.X_OK)), None)
 
 

@@ -64,9 +64,6 @@ gone-only k s new only is =
 pub stays-on : (a b c : Sitting) → SeatStays a b → SeatStays b c → SeatStays a c
 stays-on a b c p q = record { table = q.table ∙ p.table; input = q.input ∙ p.input; limit = q.limit ∙ p.limit; shares = q.shares ∙ p.shares }
 
-pub stays-same : (a : Sitting) → SeatStays a a
-stays-same a = record { table = refl; input = refl; limit = refl; shares = refl }
-
 -- a seat that is of the hall stays so
 pub of-hall : (hall : LockTable) (a b : Sitting) → IsSeatOf hall a → SeatStays a b → IsSeatOf hall b
 of-hall hall a b of stays = record { table = stays.table ∙ of.table; input = stays.input ∙ of.input; limit = stays.limit ∙ of.limit }

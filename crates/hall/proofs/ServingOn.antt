@@ -36,9 +36,6 @@ module _ (hall : LockTable) (k : ℕ) (low : k < 16) (t : Moment) (slot : Option
   abbrev took : HasTakenBook hall b mid s
   took = on.took
 
-  abbrev IsHere : Actor → Type 0
-  IsHere actor = ForSome slot (λ seen. has_actor seen.granularity seen.pool actor ≡ true)
-
   here : (seen : PoolSeen) × (slot ≡ Some seen)
   here = some_is slot (some-on hall k low t slot b mid s arrived holder is_holder checked on)
 

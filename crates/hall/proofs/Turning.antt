@@ -1,5 +1,5 @@
 -- A turn of the whole machine, from what its steps tell.
-use Rattle.std.proofs.Common.{◌≡◌, ◌∙◌, zero, suc, ℕ, true, List, [], ◌∷◌, ◌++◌, length, replicate, IfErr, IsErr, IsErrAnd, Ok, Err, Result, true≢false, refl, sym, ap, subst, arith, ◌-◌}
+use Rattle.std.proofs.Common.{◌≡◌, ◌∙◌, zero, suc, ℕ, true, List, [], ◌∷◌, ◌++◌, length, replicate, refl, sym, ap, subst, arith, ◌-◌}
 use Rattle.std.specs.Prelude.{Option, Some, None, option_map}
 use Rattle.std.proofs.lemmas.List.{length_push}
 use Rattle.sched_base.specs.Numbers.{moment}
@@ -27,7 +27,6 @@ use Rattle.lock_moves.specs.Plays.{Current}
 use Rattle.lock_moves.specs.Sets.{LockTable}
 use Rattle.lock_moves.specs.SeatSight.{Sitting}
 use Rattle.hall.specs.declared.all.AllParts.{AllParts}
-use Rattle.hall.specs.declared.turns.Full.{Full}
 use Rattle.hall.specs.declared.turns.Turn.{Turn}
 use Rattle.hall.specs.declared.turns.Turn.TheVariants as turn
 use Rattle.hall.specs.SeatKnowledge.{KnowsAll}
@@ -157,11 +156,6 @@ is-turn (turn.Over place) decides old new told other same = (told, same)
 -- and so does that of an event, with the arrival that is kept after it
 pub is-step : (place : ℕ) (e : Event) (decides : ℕ) (old new : Seated) → TurnIn (turn.Stepped place e) decides old.sitting.view new.sitting.view → ((before : List Entry) → IsCountBefore old.sitting.view.input.config.granularity before e decides → KeepsArrival before e old new) → IsTurn (turn.Stepped place e) old new
 is-step place e decides old new told kept = (told.0, told.1, kept told.0 told.2)
-
--- an error that is passed on says what the callee's says
-pub err-says : (P : Full → Type 0) (r : Result Turn Full) (full : Full) → IsErr r → IsErrAnd r (λ e. e ≡ full) → P full → IfErr r P
-err-says P (Ok v) full stops same says = absurd (true≢false (sym stops))
-err-says P (Err e) full stops same says = subst P (sym same) says
 
 -- a turn leaves the seat's hall and its parts
 pub stays-turned : (t : Turn) (decides : ℕ) (b : Chronicle) (old new : Sitting) → Turns t decides b old new → SeatStays old new

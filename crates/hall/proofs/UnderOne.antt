@@ -52,7 +52,7 @@ use Rattle.hall.specs.Seats.{IsCountBefore}
 use Rattle.hall.specs.BookTurns.{HoldsOnly, IsNamed, SettlesEvent, SettlesFull, SettlesNothing, state_in, FindsFull}
 use Rattle.hall.specs.Steps.{HasBook, HasEntered, KeepsLocks, KeepsOthers, KeepsSight}
 use Rattle.hall.proofs.Calls.{goes-where, adds-event, settles-event, settles-full}
-use Rattle.hall.proofs.Locking.{keeps_same, no_place, no_tool}
+use Rattle.hall.proofs.Locking.{no_place, no_tool}
 use Rattle.hall.proofs.Parting.{now-held, part-held, stands-held, run-held}
 use Rattle.hall.proofs.Processors.{arrival-small}
 use Rattle.composition_laws.proofs.Moving.{high_name}
@@ -146,9 +146,6 @@ only-gone k s1 s2 s3 s4 only locks others is =
     (λ high. dite (ℕ_discrete j 17)
     (λ book. ap (λ (n : ℕ). find_lock n s3.view.held) book ∙ others.book)
     (λ more. others.others j (omega (arith, high, more)) (locks j more ∙ only j other)))))
-
-pub same-sight : (s0 s1 : Sitting) → s1 ≡ s0 → KeepsSight s0 s1
-same-sight s0 s1 same = subst (KeepsSight s0) (sym same) (keeps_same s0)
 
 -- a lock was found and taken by a seat that held none
 module _ (k : ℕ) (part : StatePart) (refused : List ℕ) (t : ℕ) (s0 s1 : Sitting) (taken : HasTaken k part (after_search refused t s0.view) s0 s1) where

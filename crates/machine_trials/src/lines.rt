@@ -14,7 +14,7 @@ use crate::numbering::{Actors, actors_of};
 use crate::serving::{Way, go_to_the_end};
 use crate::side_by_side::run_side_by_side;
 use crate::stop::{Stop, printed};
-use crate::workers::{passes_of_one_round, run_by_workers, run_crossing};
+use crate::workers::{passes_of_one_round, run_by_workers, run_crossing, run_holding};
 use hall::{Hall, HallSeat};
 use journal_core::Book;
 use pcpu_threads::run_ordered;
@@ -209,6 +209,7 @@ enum Runner {
     Threads(Way),
     Free,
     Crossing,
+    Holding,
 }
 
 impl Runner {
@@ -217,6 +218,7 @@ impl Runner {
         match name {
             "free" => Some(Runner::Free),
             "crossing" => Some(Runner::Crossing),
+            "holding" => Some(Runner::Holding),
             _ => None,
         }
     }
@@ -225,7 +227,7 @@ impl Runner {
     fn told(self) -> &'static str {
         match self {
             Runner::Threads(_) | Runner::Free => "are whole runs",
-            Runner::Crossing => "were crossed",
+            Runner::Crossing | Runner::Holding => "were crossed",
         }
     }
 }
@@ -249,6 +251,7 @@ fn run_once<R: Threads + Wait + Sync>(
             Err(NoMemory) => Err(Stop::NoMemory),
         },
         Runner::Crossing => run_crossing(rt, alloc, hall, seat, actors),
+        Runner::Holding => run_holding(rt, alloc, hall, seat, actors),
     }
 }
 

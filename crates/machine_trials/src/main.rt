@@ -22,7 +22,8 @@
 //!
 //! `free DOMAINS WORK EVENTS TIMES` goes to the end of the run so many times with a worker for each processor, and prints how many of the histories the
 //! checker takes as whole runs. `crossing DOMAINS WORK EVENTS TIMES` has a gate at which the processors 0 and 1 wait for each other, and prints
-//! how often both came. `round DOMAINS WORK EVENTS` has the workers act once each, in one thread, and prints how often they passed the gate.
+//! how often both came. `holding DOMAINS WORK EVENTS TIMES` has the workers do one round in two threads, at a gate that holds processor 0 in its first pass
+//! until an entry of processor 1 is in the book, and prints how often both came. `round DOMAINS WORK EVENTS` has the workers act once each, in one thread, and prints how often they passed the gate.
 #![tactic(auto)]
 
 mod answers;

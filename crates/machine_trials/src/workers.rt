@@ -1,12 +1,12 @@
 //! Runs in which each processor is simulated by a worker of its own.
 
-ghost use Rattle.std.specs.Prelude.{◌≡◌, ◌≤◌};
+ghost use Rattle.std.specs.Prelude.{◌≡◌, ◌<◌, ◌≤◌};
 ghost use Rattle.hall.specs.Seats.{IsOf};
 ghost use Rattle.pcpu_threads.specs.Workers.{AreWorkers};
 ghost use Rattle.machine_trials.specs.TrialSeats.{AreActors};
 
 use crate::counting::CountingGate;
-use crate::crossing::CrossingGate;
+use crate::crossing::{CrossingGate, HoldingGate};
 use crate::numbering::Actors;
 use crate::stop::Stop;
 use hall::{Hall, HallSeat};
@@ -65,6 +65,65 @@ pub fn run_crossing<R: Threads + Wait + Sync>(
     }
 }
 
+/// Has the workers do their part of a round once, in at most so many threads, and then goes on to the end of the run by the one seat. It answers the book.
+fn run_after_round<R: Threads + Wait + Sync, G: Gate + Sync>(
+    rt: &R,
+    alloc: Global,
+    hall: Hall,
+    seat: HallSeat,
+    actors: Actors,
+    threads: usize,
+    gate: &G,
+) -> Result<Book, NoMemory>
+    requires of { IsOf hall seat }
+    requires all { seat.sitting.view.shares ≡ 1024 }
+    requires actors { AreActors hall.opened.input.config actors }
+    requires few { (1 ≤ actors.processors) × (actors.processors ≤ 64) }
+    requires threads { 0 < threads }
+{
+    let mut seat = seat;
+    match split_workers(alloc, &hall, &mut seat, actors.processors) {
+        Ok(mut workers) => {
+            work_all(
+                rt,
+                &hall,
+                workers.as_mut_slice(),
+                actors.domains,
+                threads,
+                gate,
+            );
+            join_all(&hall, &mut seat, workers);
+            let (book, _) = close_down(rt, hall, seat);
+            Ok(book)
+        }
+        Err(e) => {
+            drop(hall.end(seat));
+            Err(e)
+        }
+    }
+}
+
+/// Has the workers do their part of a round in two threads, at a gate that holds processor 0 until an entry of processor 1 is in the book. It answers the
+/// book of the whole run, and whether both came.
+pub fn run_holding<R: Threads + Wait + Sync>(
+    rt: &R,
+    alloc: Global,
+    hall: Hall,
+    seat: HallSeat,
+    actors: Actors,
+) -> Result<(Book, bool), Stop>
+    requires of { IsOf hall seat }
+    requires all { seat.sitting.view.shares ≡ 1024 }
+    requires actors { AreActors hall.opened.input.config actors }
+    requires few { (1 ≤ actors.processors) × (actors.processors ≤ 64) }
+{
+    let gate = HoldingGate::new();
+    match run_after_round(rt, alloc, hall, seat, actors, 2, &gate) {
+        Ok(book) => Ok((book, gate.was_crossed())),
+        Err(NoMemory) => Err(Stop::NoMemory),
+    }
+}
+
 /// Has the workers act once each, one after the other in one thread, and then goes on to the end of the run by the one seat. It answers how often the gate
 /// was passed by the workers.
 pub fn passes_of_one_round<R: Threads + Wait + Sync>(
@@ -80,18 +139,6 @@ pub fn passes_of_one_round<R: Threads + Wait + Sync>(
     requires few { (1 ≤ actors.processors) × (actors.processors ≤ 64) }
 {
     let gate = CountingGate::new();
-    let mut seat = seat;
-    match split_workers(alloc, &hall, &mut seat, actors.processors) {
-        Ok(mut workers) => {
-            work_all(rt, &hall, workers.as_mut_slice(), actors.domains, 1, &gate);
-            join_all(&hall, &mut seat, workers);
-            let (book, _) = close_down(rt, hall, seat);
-            drop(book);
-            Ok(gate.passes())
-        }
-        Err(e) => {
-            drop(hall.end(seat));
-            Err(e)
-        }
-    }
+    drop(run_after_round(rt, alloc, hall, seat, actors, 1, &gate)?);
+    Ok(gate.passes())
 }

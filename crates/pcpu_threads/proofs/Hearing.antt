@@ -1,10 +1,10 @@
 -- What a listener hears: one reading behind another, and the end of a run that was heard.
 use mathlib.Core.List.{IsPrefix}
-use Rattle.std.proofs.Common.{◌≡◌, ◌∙◌, ◌+◌, ◌≤◌, ◌++◌, [], ℕ, List, length, take, drop, refl, sym, ap, subst, arith}
+use Rattle.std.proofs.Common.{◌≡◌, ◌∙◌, ◌+◌, ◌≤◌, ◌++◌, [], ℕ, List, length, take, drop, sym, ap, subst, arith}
 use Rattle.std.proofs.Math.Seq.{take-add, take-append_seam}
 use Rattle.std.proofs.lemmas.List.{length-append, length-take, length-take-le, take-append-drop, take-append-le}
 use Rattle.std.specs.Prelude.{vec_capacity}
-use Rattle.lock_moves.proofs.Prefix.{prefix_length, prefix_refl, prefix_trans}
+use Rattle.lock_moves.proofs.Prefix.{prefix_length}
 use Rattle.lock_moves.specs.Sets.{LockTable}
 use Rattle.sched_model.specs.declared.event.Entry.{Entry}
 use Rattle.hall.specs.Seats.{IsOf, Seated, Stays, shares_in}
@@ -21,21 +21,6 @@ take-begins : (n : ℕ) (xs ys : List Entry) → IsPrefix xs ys → n ≤ length
 take-begins n xs ys begins low = ap (take n) (sym begins.1) ∙ take-append-le n xs begins.0 low
 
 module _ {L K : Type 0} (heard : L → K → List Entry → L → K → Type 0) (hall : LockTable) where
-  -- nothing is read yet
-  pub hears-nothing : (s : Scribe) (listener : L) (outlet : K) → IsScribe hall s → HearsOn heard hall 0 0 s listener outlet s listener outlet
-  hears-nothing s listener outlet is = record { scribe_is = is; shares = refl; begins = prefix_refl (front_of s.seat); more = omega arith; inside = omega arith; told = λ first out was. was }
-
-  -- one reading behind another
-  pub hears-more : (from mid to : ℕ) (a b c : Scribe) (la lb lc : L) (oa ob oc : K) → HearsOn heard hall from mid a la oa b lb ob → HearsOn heard hall mid to b lb ob c lc oc → HearsOn heard hall from to a la oa c lc oc
-  hears-more from mid to a b c la lb lc oa ob oc one other = record {
-    scribe_is = other.scribe_is;
-    shares = other.shares ∙ one.shares;
-    begins = prefix_trans (front_of a.seat) (front_of b.seat) (front_of c.seat) one.begins other.begins;
-    more = (let x = one.more in let y = other.more in omega (arith, x, y));
-    inside = other.inside;
-    told = λ first out was. other.told first out (one.told first out was);
-  }
-
   -- the scribe has read what stands behind so many entries, and the listener was told it
   module _ (from : ℕ) (a b c : Scribe) (items : List Entry) (la lb : L) (oa ob : K) (is : IsScribe hall a) (stays : Stays a.seat b.seat) (begins : IsPrefix (front_of a.seat) (front_of b.seat)) (low : from ≤ length (front_of a.seat))
       (found : items ≡ take 2048 (drop from (front_of b.seat))) (seat : c.seat ≡ b.seat) where
@@ -50,9 +35,6 @@ module _ {L K : Type 0} (heard : L → K → List Entry → L → K → Type 0) 
 
     within : from ≤ length front
     within = (let more = prefix_length (front_of a.seat) front begins in omega (arith, more, low))
-
-    pub few-read : length items ≤ 2048
-    few-read = (let most = length-take 2048 rest in omega (arith, most, count))
 
     read : take (from + length items) front ≡ take from (front_of a.seat) ++ items
     read = take-add from (length items) front

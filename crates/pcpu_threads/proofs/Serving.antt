@@ -2,10 +2,9 @@
 use mathlib.Core.Logic.{dite}
 use native.Mathlib.Decide.{ℕ_discrete}
 use Rattle.std.proofs.Common.{◌≡◌, ◌∙◌, ◌+◌, ◌-◌, ◌%◌, ◌*◌, ◌<◌, ℕ, suc, true, List, [], ◌∷◌, length, get_or, set, refl, sym, ap, subst, arith}
-use Rattle.std.proofs.lemmas.List.{get_or_default, length-set, get_or-set_same, get_or-set_other}
+use Rattle.std.proofs.lemmas.List.{get_or_default, get_or-set_same, get_or-set_other}
 use Rattle.std.specs.Prelude.{Result, Ok, Err, IfOk, IfErr}
 use Rattle.std.specs.List.{All}
-use Rattle.std.specs.Fork.{IsChunk}
 use Rattle.sched_model.specs.declared.action.Actor.{Actor}
 use Rattle.sched_model.specs.declared.action.Actor.TheVariants.{Dom, Proc, Tool}
 use Rattle.sched_model.specs.declared.config.Config.{Config}
@@ -20,9 +19,9 @@ use Rattle.hall.specs.Turns.{is_actor}
 use Rattle.hall.proofs.Processors.{is_low}
 use Rattle.hall.specs.Seats.{Seated, Stays, shares_in}
 use Rattle.hall.proofs.Calls.{kept-stays}
-use Rattle.pcpu_threads.specs.Crews.{ActsForWorkers, HasWorker, IsAmong, IsHand, IsRow, IsWide}
+use Rattle.pcpu_threads.specs.Crews.{ActsForWorkers, HasWorker, IsAmong, IsHand, IsRow}
 use Rattle.pcpu_threads.specs.Workers.{Works, shares_of}
-use Rattle.pcpu_threads.proofs.Counting.{of-stays, shares-cons}
+use Rattle.pcpu_threads.proofs.Counting.{shares-cons}
 use Rattle.std.proofs.lemmas.Bool.{ltb-true}
 use Rattle.std.proofs.Math.Nat.{mod-lt, mul-mod_left}
 use Rattle.pcpu_threads.proofs.Working.{acts-said, works-for, works-same, works_refl, works_trans}
@@ -58,29 +57,15 @@ module _ (n : ℕ) (some : 0 < n) where
       works-for (HasWorker n) full.doer (with-worker full.mid.sitting.view.input.config n full.doer same some full.is full.some) full.mid new
       (acts-said full.doer full.mid new full.stays (Err f) tt full.full_is))
 
-pub hand-stays : (hall : LockTable) (old new : Seated) → IsHand hall old → Stays old new → IsHand hall new
-hand-stays hall old new hand stays = record { of = of-stays hall old new hand.of stays; one = stays.shares ∙ hand.one }
-
 -- one seat of the row has gone on
 module _ (hall : LockTable) (domains : ℕ) (seats : List Seated) (w : ℕ) (new : Seated) (low : w < length seats) (row : IsRow hall domains seats) (stays : (d : Seated) → Stays (get_or seats w d) new) where
   set-here : (k : ℕ) (d : Seated) → k ≡ w → get_or (set seats w new) k d ≡ new
   set-here k d same = ap (λ (j : ℕ). get_or (set seats w new) j d) same ∙ get_or-set_same seats w new d low
 
-  pub row-set : IsRow hall domains (set seats w new)
-  row-set = record {
-    hands = λ k d inside. dite (ℕ_discrete k w)
-        (λ same. subst (IsHand hall) (sym (set-here k d same)) (hand-stays hall (get_or seats w d) new (row.hands w d low) (stays d)))
-        (λ other. subst (IsHand hall) (sym (get_or-set_other seats w k new d other)) (row.hands k d (let len = length-set seats w new in omega (arith, inside, len))));
-    wide = subst (IsWide hall domains) (sym (length-set seats w new)) row.wide;
-  }
-
   pub acts-set : ((d : Seated) → Works (HasWorker (length seats - 1)) (get_or seats w d) new) → ActsForWorkers seats (set seats w new)
   acts-set works k d inside = dite (ℕ_discrete k w)
       (λ same. subst (Works (HasWorker (length seats - 1)) (get_or seats k d)) (sym (set-here k d same)) (subst (λ (j : ℕ). Works (HasWorker (length seats - 1)) (get_or seats j d) new) (sym same) (works d)))
       (λ other. subst (Works (HasWorker (length seats - 1)) (get_or seats k d)) (sym (get_or-set_other seats w k new d other)) (works_refl (HasWorker (length seats - 1)) (get_or seats k d)))
-
-pub acts_refl : (seats : List Seated) → ActsForWorkers seats seats
-acts_refl seats w d low = works_refl (HasWorker (length seats - 1)) (get_or seats w d)
 
 pub rows-long : (hall : LockTable) (domains : ℕ) (a b : List Seated) → IsRow hall domains a → IsRow hall domains b → length a ≡ length b
 rows-long hall domains a b one other = one.wide.count ∙ sym other.wide.count
@@ -114,13 +99,6 @@ acts-served hall domains seats w any new actor r row low stays is of served full
     let mine : n ≡ (get_or seats w any).sitting.view.input.config.processors = wide ∙ sym (ap (λ (m : Machine). m.config.processors) (row.hands w any inside).of.input) in
     acts-set hall domains seats w new inside row (λ d. subst (λ (s : Seated). Stays s new) (here d) stays)
     (λ d. subst (λ (s : Seated). Works (HasWorker n) s new) (here d) (hold-works n some actor r (get_or seats w any) new mine (with-worker hall.opened.input.config n actor wide some is of) served full))
-
--- a chunk of the rows is a row
-pub row-chunk : (hall : LockTable) (domains wide : ℕ) (seats : List Seated) (start : ℕ) (row : List Seated) → IsWide hall domains wide → length seats % wide ≡ 0 → All (IsHand hall) seats → IsChunk seats wide start row → IsRow hall domains row
-row-chunk hall domains wide seats start row is rows hands chunk = record {
-  hands = λ k d low. subst (IsHand hall) (sym (chunk.elements k d low)) (hands (start + k) d (let bound = chunk.in_bounds in omega (arith, low, bound)));
-  wide = subst (IsWide hall domains) (sym (chunk.full_size rows)) is;
-}
 
 -- seats with one part each have as many parts as they are
 pub hands-shares : (hall : LockTable) (seats : List Seated) → All (IsHand hall) seats → shares_of seats ≡ length seats

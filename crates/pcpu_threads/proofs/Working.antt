@@ -158,12 +158,6 @@ full-rests actor old new stays f told = record { between = new.sitting.view.fron
 
 -- the same where the processor rested, or waited for its siblings
 module _ (hall : LockTable) (p : ProcId) (old mid new : Seated) (w : ActsAs (Proc p) old mid) where
-  pub rests-or-waits-since : IsPrefix mid.sitting.view.front new.sitting.view.front → Rested (Proc p) mid new ⊎ HasWaited hall p mid new → Rested (Proc p) old new ⊎ HasWaited hall p old new
-  rests-or-waits-since begins either = elim either [
-    | inl r ↦ inl (rested-since old mid new w.stays w.begins begins (Proc p) r)
-    | inr h ↦ inr (record { before = h.before; after = h.after; acts = works_trans (λ a. a ≡ Proc p) old mid h.before w h.acts; still = h.still; goes_on = h.goes_on })
-  ]
-
 pub rests-or-waits-on : (hall : LockTable) (p : ProcId) (old mid new : Seated) → Stays old mid → IsPrefix old.sitting.view.front mid.sitting.view.front → IsPrefix mid.sitting.view.front new.sitting.view.front
     → Rested (Proc p) old mid ⊎ HasWaited hall p old mid → Rested (Proc p) old new ⊎ HasWaited hall p old new
 rests-or-waits-on hall p old mid new stays first second either = elim either [

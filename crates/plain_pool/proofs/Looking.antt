@@ -6,7 +6,7 @@ use Rattle.std.proofs.lemmas.Bool.{false_from_ne_true}
 use Rattle.std.proofs.lemmas.Bool.Decides.{nat_tests}
 use Rattle.std.proofs.lemmas.Int.{ints}
 use Rattle.sched_base.specs.declared.UnitId.{UnitId}
-use Rattle.sched_base.proofs.Bools.{and_false, and_true, clash, or_more}
+use Rattle.sched_base.proofs.Bools.{and_false, and_true, clash}
 use Rattle.sched_laws.proofs.Choices.{same_unit_same}
 use Rattle.sched_laws.proofs.Counts.{same_unit_refl}
 use Rattle.sched_model.specs.declared.state.Records.{Records}
@@ -235,7 +235,3 @@ module _ (scheduler : Scheduler) (since t core home : ℕ) where
       more_right (not (is_unit_allowed scheduler home core cur)) _
       (best_waits scheduler.records scheduler scheduler.queue t core home b (λ u. is_unit_eligible scheduler home core t u && is_unit_better scheduler.records cur since t u) best
       (all_true _ _ _ allowed (best_may scheduler.records scheduler scheduler.queue t core home b best) better))
-
-  -- where its own unit may not be there, the core is to decide anew
-  pub for_other : (own : UnitId) → is_unit_allowed scheduler home core own ≡ false → has_better_waiting (Some own) since t core home scheduler ≡ true
-  for_other own other = or_more (not (is_unit_allowed scheduler home core own)) _ (ap not other)

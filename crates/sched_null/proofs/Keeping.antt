@@ -2,14 +2,13 @@
 use Rattle.std.proofs.Common.{◌≡◌, ◌≢◌, ◌<◌, ◌≤◌, ℕ, zero, suc, Bool, true, false, List, [], ◌∷◌, refl, arith, subst, sym, ◌∙◌, ap, cond, inl, inr, length}
 use Rattle.std.specs.Prelude.{Option, Some, None, replicate, slice_set}
 use Rattle.std.proofs.lemmas.List.{length-replicate}
-use Rattle.sched_base.proofs.Bools.{clash}
 use Rattle.sched_base.specs.Numbers.{core as core_name}
 use Rattle.sched_base.specs.declared.ResId.{ResId}
 use Rattle.sched_base.specs.declared.UnitId.{UnitId}
-use Rattle.sched_model.specs.Places.{at_place, clear_at, is_unit, same_unit}
+use Rattle.sched_model.specs.Places.{at_place, clear_at, same_unit}
 use Rattle.sched_model.specs.NullScheduler.{kept_without, kept_for}
 use Rattle.sched_laws.proofs.Choices.{same_unit_same}
-use Rattle.sched_laws.proofs.Counts.{is_that_unit, same_unit_refl}
+use Rattle.sched_laws.proofs.Counts.{same_unit_refl}
 use Rattle.sched_laws.proofs.EachPlace.{at_place-put_at, at_place-put_at_other, at_place-replicate, read_put_at, read_clear_at, length_set}
 use Rattle.sched_laws.proofs.NullKept.{read_released, length_released}
 use Rattle.unit_places.specs.Places.{has_unit_place, unit_index}
@@ -117,17 +116,6 @@ kept_keep c u kept lasts is =
         let room = is.room in
         let low = low_index u mine in
         subst (λ (x : UnitId). at_place (lasts_after u c lasts) (unit_index x) ≡ Some (core_name c.0)) e (last_here u c lasts mine (omega (arith, room, low)))
-
--- a unit that has no last core, or whose last core is kept for another one, has none
-pub none_last : (u : UnitId) (kept : Units) (lasts : Lasts) → IsKept kept lasts → has_unit_place u ≡ true → at_place lasts (unit_index u) ≡ None → (r : ℕ) → at_place kept r ≢ Some u
-none_last u kept lasts is has none r at = (let there = is.last r u at has in let e : None ≡ Some (core_name r) = sym none ∙ there in cc)
-
-pub other_last : (u : UnitId) (c : ResId) (kept : Units) (lasts : Lasts) → IsKept kept lasts → has_unit_place u ≡ true → at_place lasts (unit_index u) ≡ Some c → is_unit (at_place kept c.0) u ≡ false → (r : ℕ) → at_place kept r ≢ Some u
-other_last u c kept lasts is has last not_there r at =
-    let e : Some c ≡ Some (core_name r) = sym last ∙ is.last r u at has in
-    let same : c ≡ core_name r = cc in
-    let here : at_place kept c.0 ≡ Some u = subst (λ (x : ResId). at_place kept x.0 ≡ Some u) (sym same) at in
-    clash (is_unit (at_place kept c.0) u) (is_that_unit (at_place kept c.0) u here) not_there
 
 released_none : (u : UnitId) (kept : List (Option UnitId)) → ((q : ℕ) → at_place kept q ≡ Some u → ⊥) → kept_without (same_unit u) kept ≡ kept
 released_none u [] none = refl

@@ -1,12 +1,12 @@
 -- The nodes' memory in walks: a node that a `&` lends is read, and one is taken out of the row and put back.
-use Rattle.unit_ring.proofs.Walked.{◌≡◌, ℕ, ◌+◌, ◌*◌, ◌<◌, List, [], ◌∷◌, length, Bool, true, false, refl, ap, ent, sep, Lft, Share, Fml, fat, flft, full_share, Ura, Val, vint, vstruct, vcons, vnil, ptr_val, w32, ◌^◌, Logic, sem, ‵, ◌⊛◌, ◌$◌, ◌∵◌, !, qed, by, done, move, drop, use0, use1, use2, split, rewrite, some, pick, Seq, Step, step, Item, Goal, Soaks, shows, Is, Ptr, block_ptr, cell_at, part_at, hidden_shr, Shut, ShrLaws, nothing_shr_laws, beside_shr_laws, lent_at_shr_laws, looks, shuts, peeks, only, ◌+ₚ◌}
+use Rattle.unit_ring.proofs.Walked.{◌≡◌, ℕ, ◌+◌, ◌*◌, ◌<◌, List, [], ◌∷◌, length, Bool, true, false, refl, ap, ent, sep, Lft, Share, Fml, fat, flft, full_share, Ura, Val, vint, vstruct, vcons, vnil, ptr_val, w32, ◌^◌, Logic, sem, ‵, ◌⊛◌, ◌$◌, ◌∵◌, !, qed, by, done, move, drop, use0, use1, use2, split, rewrite, some, pick, Seq, Step, step, Item, Goal, Soaks, shows, Is, block_ptr, cell_at, part_at, hidden_shr, Shut, looks, shuts, peeks, only, ◌+ₚ◌}
 use Rattle.core.proofs.mem.Param.{El}
 use Rattle.core.proofs.slots.Places.{besides, item_out, item_in}
 use lib.ListN.{get_or, set}
 use denote.Memory.{lone}
 use denote.Shadow.{makes_shadow}
 use borrow.Table.OneValue.{part_in, part_out}
-use Rattle.core.specs.Mem.Slots.Ownership.{bytes_of, slots, slot_lent, slots_lent}
+use Rattle.core.specs.Mem.Slots.Ownership.{slots}
 use Rattle.unit_ring.specs.declared.nodes.NodeRecord.{NodeRecord}
 use Rattle.unit_ring.specs.contracts.nodes.NodeRecord.{the_row as Node}
 use Rattle.unit_ring.proofs.nodes.NodeRecord.TheLaws.{the_row_laws, the_row_copy, the_row_plain, lowers, lowered}
@@ -23,17 +23,6 @@ use base.Logic.{emp}
 -- the type of a node, as the row's lemmas take it
 abbrev pub E : El
 E = record { row = Node; laws = the_row_laws }
-
--- what a `&` to the row lends can be had twice
-slot_laws : (f : Bool) (p : Ptr) (x : NodeRecord) → ShrLaws (slot_lent Node f p x)
-slot_laws true p x = lent_at_shr_laws Node the_row_laws.shr_laws p x
-slot_laws false p x = nothing_shr_laws
-
-pub slots_laws : (p : Ptr) (xs : List NodeRecord) (fs : List Bool) → ShrLaws (slots_lent Node p xs fs)
-slots_laws p [] fs = nothing_shr_laws
-slots_laws p (x ∷ xs) [] = nothing_shr_laws
-slots_laws p (x ∷ xs) (f ∷ fs) =
-    beside_shr_laws (slot_lent Node f p x) (slots_lent Node (p +ₚ bytes_of Node) xs fs) (slot_laws f p x) (slots_laws (p +ₚ bytes_of Node) xs fs)
 
 module _ {M : Type 1} {𝓤 : Ura M} {𝓛 : Logic 𝓤} {K : Type 0} {Γ : List (Item 𝓤)} {G : Goal 𝓤 𝓛.H} where
   -- a node behind a `&` is looked at: [its cell; what it owns; the way back]

@@ -1,4 +1,4 @@
-//! A run in threads, whose schedule `check` judges.
+//! A run whose schedule `check` judges.
 
 use crate::memory::failing_store;
 use sched_base::NoMemory;
@@ -17,13 +17,21 @@ const LONG: usize = 16_777_216;
 /// The room of a verdict.
 const SHORT: usize = 1_024;
 
+/// The word of an ordered run.
+const ORDERED: &str = "--ordered";
+
 /// The name of the schedule in the store.
 const SCHEDULE: &str = "schedule";
 
-/// The words of the check: the last two words of the run are its files.
+/// The words of the check: the last two words of the run are its files, and an ordered run is judged as one.
 fn words_of_check(alloc: Global, words: &[String]) -> Result<Vec<String>, NoMemory> {
     let mut check = Vec::new(alloc);
     check.push(String::from_str(alloc, "check")?)?;
+    for word in words.iter() {
+        if word.as_str() == ORDERED {
+            check.push(String::from_str(alloc, ORDERED)?)?;
+        }
+    }
     for word in words.iter().skip(words.len().saturating_sub(2)) {
         check.push(String::from_str(alloc, word.as_str())?)?;
     }

@@ -6,7 +6,7 @@
 //! store and a sink that never fail, or `no-memory`, for a store that has no memory for any file. These calls have the files in
 //! memory, and what they put there is printed. Or `free` stands there, before the words of a `run`: what a run in threads puts is
 //! not the same each time, so in its place is printed what `check` says of it, `yes` without the number of entries, and the status of
-//! that check. Or `seen` stands there, before the words of a `watch` of a machine whose entries in each moment are the same in every run: of each look is
+//! that check; an ordered run is judged as an ordered one. Or `seen` stands there, before the words of a `watch` of a machine whose entries in each moment are the same in every run: of each look is
 //! printed between which numbers of entries it is to be, where it is; the ordered run tells them.
 #![tactic(auto)]
 
