@@ -10,3 +10,4 @@ mod opening;
 pub mod ordered;
 
 pub use engine::Engine;
+pub use ordered::Step;

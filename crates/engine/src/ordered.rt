@@ -4,15 +4,36 @@ use crate::engine::Engine;
 use sched_model::action::Action;
 use sched_model::event::{Entry, Event};
 
+/// An entry, and whether it is the last.
+#[derive(Drop)]
+pub struct Step {
+    pub entry: Entry,
+    pub last: bool,
+}
+
 impl Engine {
     ghost use Rattle.std.specs.Prelude.{◌≡◌, None, Some};
     ghost use Rattle.sched_model.specs.Machine.{first_enabled_action};
     ghost use Rattle.machine_parts.specs.Parts.{event_pool};
     ghost use Rattle.engine.specs.OrderedRun.{next_entry, next_state, is_last};
 
-    /// Goes on by the entry that the ordered run has next: the first event that may come, else the next moment, else the end. The entry is
-    /// written in its place. Whether it is the last.
-    pub fn go_on(&mut self, out: &mut Entry) -> bool
+    /// Goes on by the entry that the ordered run has next: the first event that may come, else the next moment, else the end.
+    pub fn go_on(&mut self) -> Step
+        ensures entry { result.entry ≡ next_entry self.old.machine self.old.state }
+        ensures last { result.last ≡ is_last self.old.machine self.old.state }
+        ensures after { self.new ≡ record self.old
+            { state = next_state self.old.machine self.old.state } }
+    {
+        let mut entry = Entry {
+            at: self.now(),
+            event: Event::Finish,
+        };
+        let last = self.go_on_into(&mut entry);
+        Step { entry, last }
+    }
+
+    /// The same, and the entry is written in its place: whether it is the last.
+    pub fn go_on_into(&mut self, out: &mut Entry) -> bool
         ensures entry { out.new ≡ next_entry self.old.machine self.old.state }
         ensures last { result ≡ is_last self.old.machine self.old.state }
         ensures after { self.new ≡ record self.old

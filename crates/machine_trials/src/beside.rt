@@ -6,10 +6,10 @@ use crate::answers::put_line;
 use crate::files::machine_of;
 use crate::stop::{Stop, printed};
 use engine::Engine;
-use sched_base::{Moment, NoMemory};
+use sched_base::NoMemory;
 use sched_check::checker::Checker;
 use sched_io::Store;
-use sched_model::event::{Entry, Event};
+use sched_model::event::Entry;
 use sched_model::machine::Machine;
 use std::alloc::Global;
 
@@ -19,11 +19,7 @@ const MOST_ENTRIES: u32 = 1000;
 /// The engine's next entry, where the checker takes it: where the plain machine is at the same moment, has the same first action and does the same event, or
 /// ends the moment with the same next one.
 fn next_entry(engine: &mut Engine, checker: &mut Checker) -> Result<Entry, Stop> {
-    let mut entry = Entry {
-        at: Moment(0),
-        event: Event::Finish,
-    };
-    engine.go_on(&mut entry);
+    let entry = engine.go_on().entry;
     match checker.step(&entry) {
         Ok(()) => Ok(entry),
         Err(_) => Err(Stop::Differ),

@@ -78,7 +78,7 @@ impl Entries for OrderedEntries {
             return false;
         }
         self.left -= 1;
-        self.over = self.engine.go_on(out);
+        self.over = self.engine.go_on_into(out);
         true
     }
 
