@@ -4,6 +4,7 @@ pub mod Ranks
 pub mod Views
 pub mod Walking
 pub mod Back
+pub mod Behind
 pub mod Numbering
 pub mod Steps
 pub mod Changes

@@ -41,7 +41,7 @@ pub record At (xs : List Item) (k : ℕ) (n : Node) : Type 0 where
   pub next : next_in x.node xs ≡ first_in rest
   pub unit : unit_in x.node xs ≡ x.unit
 
-drop-more : (k : ℕ) (xs : List Item) (y : Item) → drop (k + 1) (y ∷ xs) ≡ drop k xs
+pub drop-more : (k : ℕ) (xs : List Item) (y : Item) → drop (k + 1) (y ∷ xs) ≡ drop k xs
 drop-more k xs y = let more : k + 1 ≡ suc k = omega arith in ap (λ (j : ℕ). drop j (y ∷ xs)) more
 
 none_first : (n : Node) → None ≡ Some n → ⊥

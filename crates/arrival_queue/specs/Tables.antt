@@ -1,9 +1,9 @@
 -- How a queue keeps its units: a ring, and tables by place of unit and by number of node.
-use Rattle.std.specs.Prelude.{ℕ, ◌+◌, ◌-◌, ◌<◌, ◌≡◌, ◌==◌, ◌&&◌, ◌||◌, Bool, true, false, not, if◌then◌else◌, List, [], ◌∷◌, ◌++◌, Option, Some, None, length, map, count_by, nat_lt, slice_index, slice_index_or, pos}
+use Rattle.std.specs.Prelude.{ℕ, ◌+◌, ◌-◌, ◌<◌, ◌≤◌, ◌≡◌, ◌==◌, ◌&&◌, ◌||◌, Bool, true, false, not, if◌then◌else◌, List, [], ◌∷◌, ◌++◌, Option, Some, None, drop, length, map, count_by, nat_lt, slice_index, slice_index_or, pos}
 use Rattle.sched_base.specs.declared.UnitId.{UnitId}
 use Rattle.unit_places.specs.Places.{number_of, has_unit_place, unit_index}
 use Rattle.unit_ring.specs.declared.Node.{Node}
-use Rattle.unit_ring.specs.Lists.{Item, Lists, has_node, room_of, after_take, after_append, put_before}
+use Rattle.unit_ring.specs.Lists.{Item, Lists, first_in, has_node, room_of, after_take, after_append, put_before}
 use Rattle.arrival_queue.specs.declared.key.Key.{Key}
 use Rattle.arrival_queue.specs.Queues.{Queued, Queues, queued_unit, is_lesser_key, put_first}
 
@@ -103,3 +103,9 @@ ring_with (Some at) new ring = after_take (put_before ring at.0 new)
 abbrev pub first_unit : (UnitId → Bool) → List Item → Option UnitId
 first_unit p [] = None
 first_unit p (x ∷ xs) = (if p x.unit then Some x.unit else first_unit p xs)
+
+-- a walk along the items stands at one of them, or at their end
+pub record IsStop (xs : List Item) (at : Option Node) : Type 0 where
+  pub place : ℕ
+  pub low : place ≤ length xs
+  pub is : at ≡ first_in (drop place xs)

@@ -40,7 +40,7 @@ impl Model for ArrivalQueue {
 }
 
 impl ArrivalQueue {
-    ghost use Rattle.std.specs.Prelude.{◌≡◌, ◌+◌, ◌<◌, ◌≤◌, ◌&&◌, true, false, length, map, IfOk};
+    ghost use Rattle.std.specs.Prelude.{◌≡◌, ◌+◌, ◌<◌, ◌≤◌, ◌&&◌, true, false, length, map, IfOk, Some};
     ghost use Rattle.arrival_queue.specs.Queues.{holds, after_insert, after_append, after_remove, after_move, list_without, empty_queues};
     ghost use Rattle.arrival_queue.specs.Order.{IsOrdered};
     ghost use Rattle.std.specs.Bool.{OnTrue, OnFalse};
@@ -140,6 +140,28 @@ impl ArrivalQueue {
         ensures cost { steps.new ≤ steps.old + length self.now.sorted + 1 }
     {
         walks::first_where(&self.tables.ring, allowed, steps)
+    }
+
+    /// The first of them whose domain is in the set, but for the unit that is it. It is looked for behind that one, in at most n + 1 steps,
+    /// n their number.
+    pub fn first_behind_counted<L: Ledger>(
+        &self,
+        u: UnitId,
+        allowed: Allowed,
+        steps: &mut Steps<L>,
+    ) -> Option<UnitId>
+        requires { first_that (λ w. has_core_bit allowed.0 w.dom.0) self.now.sorted ≡ Some u }
+        ensures first { result ≡ first_that (λ w. has_core_bit allowed.0 w.dom.0)
+            (list_without u self.now.sorted) }
+        ensures cost { steps.new ≤ steps.old + length self.now.sorted + 1 }
+    {
+        match find(&self.tables, u) {
+            None => None,
+            Some(n) => {
+                let from = self.tables.ring.next(n, steps);
+                walks::first_from(&self.tables.ring, from, allowed, steps)
+            }
+        }
     }
 
     /// The first of them whose domain is in the set, where there is one, and whose cores let it run on a core of a pool.

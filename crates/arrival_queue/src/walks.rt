@@ -1,13 +1,14 @@
 //! Searches along list 0 of a ring.
 
-ghost use Rattle.std.specs.Prelude.{◌≡◌, ◌+◌, ◌≤◌, ◌&&◌, length};
+ghost use Rattle.std.specs.Prelude.{ℕ, ◌≡◌, ◌+◌, ◌≤◌, ◌&&◌, drop, length};
+ghost use Rattle.unit_ring.specs.Lists.{first_in};
 ghost use Rattle.arrival_queue.specs.Filters.{has_core_bit, in_domains, may_run};
-ghost use Rattle.arrival_queue.specs.Tables.{Apart, all_items, first_unit};
+ghost use Rattle.arrival_queue.specs.Tables.{Apart, IsStop, all_items, first_unit};
 
 use sched_base::{Cores, DomId, ResId, Steps, UnitId, has_core, is_allowed};
 use std::sync::ledger::Ledger;
 use unit_places::Masks;
-use unit_ring::Ring;
+use unit_ring::{Node, Ring};
 
 /// A set of domains, with bit d for domain d.
 #[derive(Clone, Copy)]
@@ -38,6 +39,30 @@ pub fn first_where<L: Ledger>(ring: &Ring, allowed: Allowed, steps: &mut Steps<L
     ensures cost { steps.new ≤ steps.old + length ring.now.first + 1 }
 {
     let mut at = ring.first(0, steps);
+    while let Some(n) = at {
+        let u = ring.unit(n);
+        if has_domain(allowed, u.dom) {
+            return Some(u);
+        }
+        at = ring.next(n, steps);
+    }
+    None
+}
+
+/// The first unit whose domain is in the set, from a node of list 0 on, or from its end, in at most n steps, n the length of list 0.
+pub fn first_from<L: Ledger>(
+    ring: &Ring,
+    from: Option<Node>,
+    allowed: Allowed,
+    steps: &mut Steps<L>,
+) -> Option<UnitId>
+    requires apart { Apart (all_items ring.now) }
+    requires stop { IsStop ring.now.first from }
+    ensures unit { (k : ℕ) → from ≡ first_in (drop k ring.now.first) → result
+        ≡ first_unit (λ u. has_core_bit allowed.0 u.dom.0) (drop k ring.now.first) }
+    ensures cost { steps.new ≤ steps.old + length ring.now.first }
+{
+    let mut at = from;
     while let Some(n) = at {
         let u = ring.unit(n);
         if has_domain(allowed, u.dom) {
