@@ -1,5 +1,5 @@
 -- What each step of a decision keeps of one domain, its decision keeps; and what every decision leaves.
-use Rattle.std.proofs.Common.{◌≡◌, ◌<◌, ℕ, zero, suc, List, refl, arith, ap, sym, ◌∙◌, subst, length}
+use Rattle.std.proofs.Common.{◌≡◌, ◌<◌, ℕ, zero, suc, List, refl, arith, sym, ◌∙◌, subst, length}
 use Rattle.std.specs.Prelude.{Option, Some, None, slice_get, map, ◌==◌}
 use Rattle.std.proofs.lemmas.List.{length-map}
 use Rattle.sched_base.specs.Credit2Numbers.{raised_credit}
@@ -10,12 +10,12 @@ use Rattle.sched_model.specs.declared.state.Credit2Domain.{Credit2Domain}
 use Rattle.sched_model.specs.declared.state.Credit2Records.{Credit2Records}
 use Rattle.sched_model.specs.Places.{change_item}
 use Rattle.sched_model.specs.EligibleUnits.{has_cap_budget}
-use Rattle.sched_model.specs.Credit2.{reset_records, change_domain, off_records, running_records, most_weight, burned_unit, burned_domain, domain_after_return, domain_after_take, own_burned_records, reset_count}
+use Rattle.sched_model.specs.Credit2.{off_records, most_weight, burned_unit, burned_domain, domain_after_return, domain_after_take, own_burned_records, reset_count}
 use Rattle.sched_laws.specs.EachPlace.{EachAt}
 use Rattle.sched_laws.proofs.EachPlace.{EachAt-change_each, by_cond, by_option}
 use Rattle.sched_laws.proofs.Lists.{length_change_item}
 use Rattle.record_laws.specs.Decisions.{number_in, own_charged, was_reset, has_taken, now_from, taken_domain, chosen_domain, resets_for, decided_domain}
-use Rattle.record_laws.proofs.Credit2Seen.{burn_is, reset_is, take_is, off_is, running_is, most_stays, taken_by, taken_by_is, ran_by, ran_by_is, idle_is, taken_records, decided_records, decided_domains, most_each}
+use Rattle.record_laws.proofs.Credit2Seen.{burn_is, most_stays, ran_by, ran_by_is, idle_is, decided_records, decided_domains, most_each}
 
 -- the domain's unit i runs from a moment on, or no more
 abbrev pub unit_from : Option ℕ → ℕ → Credit2Domain → Credit2Domain
@@ -81,10 +81,9 @@ module _ (t : ℕ) (cur : Option UnitId) (own : Credit2Records) (P : ℕ → Cre
   abbrev stays : most_weight (own_burned_records cur t own) ≡ greatest
   stays = most_stays cur t own
 
-  pub kept_by_take_of : (k : ℕ) (u : UnitId) → Kept k (Some u) → EachAt P (taken_by t cur own k u).domains
-  kept_by_take_of k u kept =
-      subst (EachAt P) (sym (taken_by_is t cur own k u))
-      (EachAt-change_each P _ own.domains each (λ d x at p. domain_taken greatest (most_weight (own_burned_records cur t own)) t k (number_in d cur) (number_in d (Some u)) (P d) stays (kept d) x p))
+  -- the charge of the core's own unit alone
+  pub kept_by_burn : Kept 0 None → EachAt P (own_burned_records cur t own).domains
+  kept_by_burn kept = subst (EachAt P) (sym (burn_is t cur own)) (EachAt-change_each P _ own.domains each (λ d x at p. own_kept greatest greatest t 0 (number_in d cur) None (P d) refl (kept d) x p (number_in d cur) refl))
 
   pub kept_by_run : (k : ℕ) (u : UnitId) → Kept k (Some u) → EachAt P (ran_by t cur own k u).domains
   kept_by_run k u kept =
@@ -104,9 +103,6 @@ module _ (ask : Ask) (own : Credit2Records) (P : ℕ → Credit2Domain → Type 
   pub kept_by_decisions : (chosen : Option UnitId) → ((d : ℕ) → KeptByCharges (most_weight own) ask.at.0 (resets_for ask.at.0 burned chosen) (number_in d ask.cur) (number_in d chosen) (P d)) → EachAt P own.domains → EachAt P (decided_records ask own chosen).domains
   kept_by_decisions None kept each = kept_by_idle ask.at.0 ask.cur own P each kept
   kept_by_decisions (Some u) kept each = kept_by_run ask.at.0 ask.cur own P each (reset_count ask.at.0 u burned) u kept
-
-  pub kept_by_takes : (u : UnitId) → ((d : ℕ) → KeptByCharges (most_weight own) ask.at.0 (reset_count ask.at.0 u burned) (number_in d ask.cur) (number_in d (Some u)) (P d)) → EachAt P own.domains → EachAt P (taken_records ask own u).domains
-  kept_by_takes u kept each = kept_by_take_of ask.at.0 ask.cur own P each (reset_count ask.at.0 u burned) u kept
 
 -- what no step touches
 pub record Leaves (x y : Credit2Domain) : Type 0 where
@@ -147,20 +143,3 @@ most_decided ask own chosen = most_each own (decided_records ask own chosen) (de
 pub reset_budget : (most t k : ℕ) (x : Credit2Domain) → has_cap_budget (was_reset most t k x) ≡ has_cap_budget x
 reset_budget most t zero x = refl
 reset_budget most t (suc k) x = refl
-
--- what is kept of each domain by one step, for code that does them one by one
-module _ (t k : ℕ) (cur chosen : Option UnitId) (own : Credit2Records) (P : ℕ → Credit2Domain → Type 0) (kept : (d : ℕ) → KeptByCharges (most_weight own) t k (number_in d cur) (number_in d chosen) (P d)) (each : EachAt P own.domains) where
-  pub kept_by_burn : EachAt P (own_burned_records cur t own).domains
-  kept_by_burn = subst (EachAt P) (sym (burn_is t cur own)) (EachAt-change_each P _ own.domains each (λ d x at p. own_kept (most_weight own) (most_weight own) t k (number_in d cur) (number_in d chosen) (P d) refl (kept d) x p (number_in d cur) refl))
-
-  pub kept_by_reset : EachAt P (reset_records t k own).domains
-  kept_by_reset = subst (EachAt P) (sym (reset_is t k own)) (EachAt-change_each P _ own.domains each (λ d x at p. reset_kept (most_weight own) (most_weight own) t k (number_in d cur) (number_in d chosen) (P d) refl (kept d) x p k refl x p))
-
-  pub kept_by_take : (u : UnitId) → chosen ≡ Some u → EachAt P (change_domain u.dom.0 (domain_after_take u.n) own).domains
-  kept_by_take u is = subst (EachAt P) (sym (take_is t u own)) (EachAt-change_each P _ own.domains each (λ d x at p. take_kept (most_weight own) (most_weight own) t k (number_in d cur) (number_in d chosen) (P d) refl (kept d) x p (number_in d (Some u)) (ap (number_in d) is) x p))
-
-  pub kept_by_stop : EachAt P (off_records cur own).domains
-  kept_by_stop = subst (EachAt P) (sym (off_is t cur own)) (EachAt-change_each P _ own.domains each (λ d x at p. off_kept (most_weight own) (most_weight own) t k (number_in d cur) (number_in d chosen) (P d) refl (kept d) x p (number_in d cur) refl x p))
-
-  pub kept_by_start : (u : UnitId) → chosen ≡ Some u → EachAt P (running_records (Some t) u own).domains
-  kept_by_start u is = subst (EachAt P) (sym (running_is t (Some t) u own)) (EachAt-change_each P _ own.domains each (λ d x at p. on_kept (most_weight own) (most_weight own) t k (number_in d cur) (number_in d chosen) (P d) refl (kept d) x p (number_in d (Some u)) (ap (number_in d) is) x p))

@@ -6,6 +6,7 @@ use Rattle.std.proofs.lemmas.Bool.{cases_Bool, eq-eqb}
 use Rattle.std.proofs.lemmas.List.Elements.{recursion_from_All}
 use Rattle.std.proofs.lemmas.Nat.{mul-le, div-mul-add}
 use Rattle.std.proofs.Math.Nat.{div-mul-le_self}
+use Rattle.std.proofs.lemmas.Option.{slice_get_within}
 use Rattle.sched_base.specs.Numbers.{moment, span, core as core_number}
 use Rattle.sched_base.specs.declared.Moment.{Moment}
 use Rattle.sched_base.specs.declared.Span.{Span}
@@ -97,11 +98,6 @@ first_vcpu n g count some low =
     let b : suc n * g ≤ (count + g - 1) / g * g = mul-le (suc n) g ((count + g - 1) / g) g (omega (arith, low)) (omega arith) in
     let c : suc n * g ≡ n * g + g = grind arith in
     omega (arith, a, b, c, some)
-
-found_below : {X : Type 0} (xs : List X) (n : ℕ) (x : X) → slice_get xs n ≡ Some x → n < length xs
-found_below [] n x at = absurd (cc)
-found_below (y ∷ xs) zero x at = omega arith
-found_below (y ∷ xs) (suc n) x at = (let l = found_below xs n x at in omega (arith, l))
 
 -- where a record is found
 units_at : (domains : List (Option (List RtdsUnit))) (u : UnitId) (o : Option (List RtdsUnit)) (x : RtdsUnit) → at_place domains u.dom.0 ≡ o → elim o as (λ _. Option RtdsUnit) [ None ↦ None | Some units ↦ slice_get units u.n ] ≡ Some x
@@ -242,7 +238,7 @@ module _ (m : Machine) (checked : IsChecked m) (undisturbed : IsUndisturbed m) (
       let there_units = found.1 in
       let same : own.item ≡ found.0 = cc in
       let count : length found.0 ≡ configured_units m.config.granularity c = subst (λ (units : List RtdsUnit). length units ≡ configured_units m.config.granularity c) same own.meets.count in
-      let low : u.n < configured_units m.config.granularity c = (let l = found_below found.0 u.n x found.2 in omega (arith, l, count)) in
+      let low : u.n < configured_units m.config.granularity c = (let l = slice_get_within found.0 u.n x found.2 in omega (arith, l, count)) in
       let inside : u.n * m.config.granularity < length c.guests = first_vcpu u.n m.config.granularity (length c.guests) g_some low in
       let domain = stays.domains.own u.dom.0 c home.1 in
       record {

@@ -39,6 +39,13 @@ use Rattle.share_laws.proofs.Numbers.{fair, more_time, paid_less, slice_more}
 use Rattle.share_laws.proofs.Records.{Sees, sees_charged, sees_credit, sees_uncharged}
 use Rattle.share_laws.proofs.Refills.{NoRefills, none_then, weight_most}
 
+-- how many of some numbers pass a test that says the same of each
+pub constant_count : (test : ℕ → Bool) (b : Bool) (from n : ℕ) → ((k : ℕ) → test k ≡ b) → count_from test from n ≡ cond b n 0
+constant_count test true from zero same = refl
+constant_count test false from zero same = refl
+constant_count test true from (suc n) same = (let e = constant_count test true (suc from) n same in let f : ◌≡◌ {A = ℕ} (cond (test from) 1 0) 1 = ap (λ b. cond b 1 0) (same from) in omega (arith, e, f))
+constant_count test false from (suc n) same = (let e = constant_count test false (suc from) n same in let f : ◌≡◌ {A = ℕ} (cond (test from) 1 0) 0 = ap (λ b. cond b 1 0) (same from) in omega (arith, e, f))
+
 -- the unit runs since the last decision, or not at all
 abbrev pub since_last : Bool → ℕ → Option ℕ
 since_last runs last = cond runs (Some last) None
@@ -312,15 +319,9 @@ module _ (i r rate most : ℕ) (u v : UnitId) (wu wv : ℕ) where
           none_more now false n = omega arith
 
   -- nanoseconds pass
-  counted : (test : ℕ → Bool) (b : Bool) (from n : ℕ) → ((k : ℕ) → test k ≡ b) → count_from test from n ≡ cond b n 0
-  counted test true from zero same = refl
-  counted test false from zero same = refl
-  counted test true from (suc n) same = (let e = counted test true (suc from) n same in let f : ◌≡◌ {A = ℕ} (cond (test from) 1 0) 1 = ap (λ b. cond b 1 0) (same from) in omega (arith, e, f))
-  counted test false from (suc n) same = (let e = counted test false (suc from) n same in let f : ◌≡◌ {A = ℕ} (cond (test from) 1 0) 0 = ap (λ b. cond b 1 0) (same from) in omega (arith, e, f))
-
   passed : (nu nv : ℕ) (s : State) (here : Fair nu nv s) (w : UnitId) (next : ℕ) → time_until (has_unit i r w) s (Some next) ≡ cond (is_unit here.core.cur w) (next - s.now) 0
   passed nu nv s here w next =
-      counted (λ k. has_unit i r w (at_moment k s)) (is_unit here.core.cur w) s.now (next - s.now)
+      constant_count (λ k. has_unit i r w (at_moment k s)) (is_unit here.core.cur w) s.now (next - s.now)
       (λ k. ap (λ (o : Option Pool). elim o as (λ _. Bool) [ None ↦ false | Some pool ↦ elim (at_place pool.resources r) as (λ _. Bool) [ None ↦ false | Some c ↦ is_unit c.cur w ] ]) here.at
       ∙ ap (λ (o : Option Resource). elim o as (λ _. Bool) [ None ↦ false | Some c ↦ is_unit c.cur w ]) here.has)
 

@@ -1,6 +1,6 @@
 -- The law, from what is kept of each state.
-use Rattle.std.proofs.Common.{◌≡◌, ◌≤◌, ◌+◌, ◌*◌, ◌++◌, ℕ, false, List, refl, arith, subst, sym, ap, ◌∙◌, inl, inr}
-use Rattle.std.specs.Prelude.{Option, Some, None, is_some, ◌&&◌, nat_lt, ◌-◌}
+use Rattle.std.proofs.Common.{◌≡◌, ◌≤◌, ◌+◌, ◌*◌, ◌++◌, ℕ, false, List, arith, subst, sym, ap, ◌∙◌, inl, inr}
+use Rattle.std.specs.Prelude.{is_some, ◌&&◌, nat_lt, ◌-◌}
 use Rattle.sched_base.specs.declared.UnitId.{UnitId}
 use Rattle.sched_base.proofs.Bools.{and_false}
 use Rattle.sched_model.specs.declared.event.Entry.{Entry}
@@ -18,6 +18,7 @@ use Rattle.term_laws.proofs.ReachedStates.{IsReached, reached_opening}
 use Rattle.service_laws.specs.Service.{has_unit, time_of}
 use Rattle.service_laws.proofs.Passing.{NextMomentLaw}
 use Rattle.undisturbed_laws.specs.Undisturbed.{NeverSleeps}
+use Rattle.record_laws.proofs.Credit2Seen.{own_limit}
 use Rattle.share_laws.specs.Shares.{HasWeight, IsNearShare, IsPlainCredit2, IsWithinShare, SleepsAreSeen, longest_slice}
 use Rattle.share_laws.proofs.Ordered.{ordered_kept}
 use Rattle.share_laws.proofs.PacedRuns.{always_keeps_nobody, opened}
@@ -26,10 +27,6 @@ use Rattle.share_laws.proofs.Runs.{KeepsNobody, KeptAlong, OnTimeLaw, kept_each,
 use Rattle.share_laws.proofs.Start.{first_books, opens_fair, some_weight}
 
 -- without a rate limit nobody is kept
-limit_charged : (cur : Option UnitId) (t : ℕ) (records : Credit2Records) → (own_burned_records cur t records).limit ≡ records.limit
-limit_charged None t records = refl
-limit_charged (Some u) t records = refl
-
 never_limited : (limit past : ℕ) → limit ≡ 0 → nat_lt past (limit * 1000) ≡ false
 never_limited limit past none = (let e : limit * 1000 ≡ 0 = omega (arith, none) in grind (arith, e))
 
@@ -38,7 +35,7 @@ unlimited m checked i r rate plain none s reached pool at c has on books is =
     let b = first_books m checked i r rate plain pool (pool_stays m checked i r rate plain s reached pool at) in
     let same : b.0 ≡ books = records_same b.0 books (sym b.1 ∙ is) in
     let limit : books.limit ≡ 0 = ap (λ (x : Credit2Records). x.limit) (sym same) ∙ b.2.limit ∙ none in
-    ap (λ k. is_some (credit2_candidate (core_ask m.config.granularity s.now pool r c) pool.scheduler (own_burned_records c.cur s.now books)) && k) (never_limited _ (s.now - c.since.0) (limit_charged c.cur s.now books ∙ limit)) ∙ and_false _
+    ap (λ k. is_some (credit2_candidate (core_ask m.config.granularity s.now pool r c) pool.scheduler (own_burned_records c.cur s.now books)) && k) (never_limited _ (s.now - c.since.0) (own_limit s.now c.cur books ∙ limit)) ∙ and_false _
   where
     records_same : (a b : Credit2Records) → Credit2Pool a ≡ Credit2Pool b → a ≡ b
     records_same a b same = cc

@@ -32,18 +32,13 @@ use Rattle.sched_laws.proofs.Reached.{home_of_its_domain}
 use Rattle.term_laws.proofs.ReachedStates.{IsReached, reached_next}
 use Rattle.service_laws.proofs.Passing.{NextMomentLaw}
 use Rattle.undisturbed_laws.specs.Undisturbed.{DomainStays}
+use Rattle.sched_base.proofs.Bools.{or_more}
+use Rattle.moment_laws.proofs.Tests.{or_later}
 use Rattle.share_laws.specs.Shares.{IsPlainCredit2}
 use Rattle.share_laws.proofs.Paced.{NoneToWake, SeenFor}
 use Rattle.share_laws.proofs.PacedRuns.{PacedAt, keeps_nobody, step}
+use Rattle.share_laws.proofs.UnitSums.{each_append}
 use Rattle.share_laws.proofs.Runs.{KeptAlong, OnTimeLaw, of_reached, pool_stays}
-
-or_second : (a b : Bool) → b ≡ true → (a || b) ≡ true
-or_second true b is = refl
-or_second false b is = is
-
-or_first : (a b : Bool) → a ≡ true → (a || b) ≡ true
-or_first true b is = refl
-or_first false b is = absurd (cc)
 
 -- something of one of two lists passes
 any_left : {X : Type 0} (test : X → Bool) (xs ys : List X) → list_any test xs ≡ true → list_any test (xs ++ ys) ≡ true
@@ -53,7 +48,7 @@ any_left test (x ∷ xs) ys any =
 
 any_right : {X : Type 0} (test : X → Bool) (xs ys : List X) → list_any test ys ≡ true → list_any test (xs ++ ys) ≡ true
 any_right test [] ys any = any
-any_right test (x ∷ xs) ys any = or_second (test x) (list_any test (xs ++ ys)) (any_right test xs ys any)
+any_right test (x ∷ xs) ys any = or_later (test x) (any_right test xs ys any)
 
 any_map : {X Y : Type 0} (test : Y → Bool) (f : X → Y) (xs : List X) → list_any (λ x. test (f x)) xs ≡ true → list_any test (map f xs) ≡ true
 any_map test f [] any = any
@@ -61,8 +56,8 @@ any_map test f (x ∷ xs) any = elim (test (f x)) as (λ b. (b || list_any (λ y
 
 any_number : {X : Type 0} (test : X → Bool) (f : ℕ → X) (a c k : ℕ) → k < c → test (f (a + k)) ≡ true → list_any test (map f (numbers_from a c)) ≡ true
 any_number test f a zero k low passes = absurd (omega (arith, low))
-any_number test f a (suc c) zero low passes = (let e : a + 0 ≡ a = omega arith in or_first (test (f a)) _ (subst (λ n. test (f n) ≡ true) e passes))
-any_number test f a (suc c) (suc k) low passes = (let e : a + suc k ≡ suc a + k = omega arith in or_second (test (f a)) _ (any_number test f (suc a) c k (omega (arith, low)) (subst (λ n. test (f n) ≡ true) e passes)))
+any_number test f a (suc c) zero low passes = (let e : a + 0 ≡ a = omega arith in or_more (test (f a)) _ (subst (λ n. test (f n) ≡ true) e passes))
+any_number test f a (suc c) (suc k) low passes = (let e : a + suc k ≡ suc a + k = omega arith in or_later (test (f a)) (any_number test f (suc a) c k (omega (arith, low)) (subst (λ n. test (f n) ≡ true) e passes)))
 
 -- a vCPU of the file
 any_vcpu : (test : VcpuId → Bool) (v : VcpuId) (d k : ℕ) (domains : List DomConfig) (c : DomConfig) → test v ≡ true → v.dom.0 ≡ d + k → slice_get domains k ≡ Some c → v.n < length c.guests → list_any test (vcpus_from d domains) ≡ true
@@ -90,10 +85,6 @@ find_has {X} P test (y ∷ xs) x each found =
 each_map : {X Y : Type 0} (P : Y → Type 0) (f : X → Y) (xs : List X) → ((x : X) → P (f x)) → AllByRecursion P (map f xs)
 each_map P f [] each = tt
 each_map P f (x ∷ xs) each = (each x, each_map P f xs each)
-
-each_append : {X : Type 0} (P : X → Type 0) (xs ys : List X) → AllByRecursion P xs → AllByRecursion P ys → AllByRecursion P (xs ++ ys)
-each_append P [] ys a b = b
-each_append P (x ∷ xs) ys a b = (a.0, each_append P xs ys a.1 b)
 
 abbrev NoBlock : Action → Type 0
 NoBlock (Block p) = ⊥
@@ -140,7 +131,7 @@ first_no_block : (m : Machine) (test : Action → Bool) (x : Action) → list_an
 first_no_block m test x any found =
     let wakes : List Action = map Wake (vcpus_from 0 m.config.domains) in
     let moves : List Action = map (λ n. Moved (core_number n)) (numbers_from 0 (machine_core_count m.config)) ++ map (λ n. DomMoved (domain_number n)) (numbers_from 0 (length m.config.domains)) in
-    let a : list_any test (to_wake m) ≡ true = or_second (test Stall) _ (or_second (test Xl) _ (any_right test moves wakes any)) in
+    let a : list_any test (to_wake m) ≡ true = or_later (test Stall) (or_later (test Xl) (any_right test moves wakes any)) in
     let b : list_any test (with_blocks m) ≡ true = any_left test (to_wake m) _ a in
     let c : list_any test (with_slices m) ≡ true = any_left test (with_blocks m) _ b in
     let d : list_any test (with_repls m) ≡ true = any_left test (with_slices m) _ c in

@@ -44,6 +44,7 @@ use Rattle.undisturbed_laws.proofs.Opened.{configured_opening}
 use Rattle.undisturbed_laws.proofs.Runs.{after_pool, enabled_pool, only_pools}
 use Rattle.undisturbed_laws.proofs.Steps.{stays_after}
 use Rattle.undisturbed_laws.proofs.Units.{core_there}
+use Rattle.record_laws.proofs.Credit2Seen.{own_limit}
 use Rattle.share_laws.specs.Shares.{IsPlainCredit2, NobodySleeps}
 use Rattle.share_laws.proofs.Paced.{SeenFor, Gone, IsKnown, Paced, gone_stops}
 use Rattle.share_laws.proofs.PacedSteps.{paced_after, paced_settled}
@@ -142,10 +143,6 @@ module _ (m : Machine) (checked : IsChecked m) (i r rate : ℕ) (plain : IsPlain
         };
       }
 
-  limit_charged : (cur : Option UnitId) (t : ℕ) (records : Credit2Records) → (own_burned_records cur t records).limit ≡ records.limit
-  limit_charged None t records = refl
-  limit_charged (Some u) t records = refl
-
   -- a core whose unit, if it may go on, ran for the rate limit
   kept_off : (t : ℕ) (pool : Pool) (c : Resource) (books : Credit2Records) → ((w : UnitId) → c.cur ≡ Some w → may_unit_run m.config.granularity pool w ≡ true → is_rate_limited books c.since.0 t ≡ false)
       → (is_some (credit2_candidate (core_ask m.config.granularity t pool r c) pool.scheduler books) && is_rate_limited books c.since.0 t) ≡ false
@@ -175,7 +172,7 @@ module _ (m : Machine) (checked : IsChecked m) (i r rate : ℕ) (plain : IsPlain
       let pends = subst (λ (x : Resource). (w : UnitId) → x.cur ≡ Some w → x.pending ≡ true → (x.since.0 + rate * 1000 ≤ s.now) ⊎ Gone m.config.granularity s.now pool.domains w) same pace.pends in
       let b = first_books m checked i r rate plain pool (pool_stays m checked i r rate plain s reached pool at) in
       let same_books : b.0 ≡ books = records_same b.0 books (sym b.1 ∙ is) in
-      let limit : (own_burned_records c.cur s.now books).limit ≡ rate = limit_charged c.cur s.now books ∙ ap (λ (x : Credit2Records). x.limit) (sym same_books) ∙ b.2.limit in
+      let limit : (own_burned_records c.cur s.now books).limit ≡ rate = own_limit s.now c.cur books ∙ ap (λ (x : Credit2Records). x.limit) (sym same_books) ∙ b.2.limit in
       kept_off s.now pool c (own_burned_records c.cur s.now books) (λ w cur runs. elim (pends w cur pending) [
         | inl late ↦ free c.since.0 s.now (own_burned_records c.cur s.now books).limit rate limit late
         | inr gone ↦ absurd (gone_stops m.config.granularity s.now pool w gone runs)

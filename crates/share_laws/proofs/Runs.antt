@@ -14,7 +14,6 @@ use Rattle.sched_model.specs.declared.action.Action.{Action}
 use Rattle.sched_model.specs.declared.action.Action.TheVariants.{Decide, Refill}
 use Rattle.sched_model.specs.declared.event.Entry.{Entry}
 use Rattle.sched_model.specs.declared.event.Event.{Event}
-use Rattle.sched_model.specs.declared.event.Event.TheVariants as event
 use Rattle.sched_model.specs.declared.machine.Machine.{Machine}
 use Rattle.sched_model.specs.declared.state.Credit2Records.{Credit2Records}
 use Rattle.sched_model.specs.declared.state.Pool.{Pool}
@@ -49,6 +48,7 @@ use Rattle.service_laws.proofs.Passing.{NextMomentLaw}
 use Rattle.undisturbed_laws.specs.Undisturbed.{IsAsConfigured, NeverSleeps, PoolStays}
 use Rattle.undisturbed_laws.proofs.Runs.{after_pool, configured_in_runs, enabled_pool, only_pools, pool_as_configured}
 use Rattle.undisturbed_laws.proofs.Units.{never_sleeps, only_core}
+use Rattle.service_laws.proofs.SpanSums.{named_none}
 use Rattle.share_laws.specs.Shares.{IsPlainCredit2, HasWeight, longest_slice}
 use Rattle.share_laws.proofs.Decision.{MayBeChosen, is_kept}
 use Rattle.share_laws.proofs.Fair.{Fair, fair_decided, fair_elsewhere, fair_event, fair_later, no_refill}
@@ -60,12 +60,6 @@ OnTimeLaw m = (before : List Entry) (last : Entry) → IsRun m (before ++ last �
 -- what holds of every state that a run leads to, holds of one that is reached
 pub of_reached : (m : Machine) (P : State → Type 0) → ((entries : List Entry) → IsRun m entries → P (state_after m entries)) → (s : State) → IsReached m s → P s
 of_reached m P each s reached = subst P (ap (λ (x : Reached). x.state) reached.leads) (each reached.before reached.run)
-
--- an event of an action names no next moment
-pub names_none : (e : Event) (action : Action) → event_action e ≡ Some action → named_next_moment e ≡ None
-names_none (event.End at) action is = absurd (cc)
-names_none event.Finish action is = absurd (cc)
-names_none e action is = refl
 
 -- no processor of an unstalled core is stalled
 pub unstalled_up : (t : ℕ) (ps : List Processor) → AllByRecursion (λ (p : Processor). p.stall_end.0 ≡ 0) ps → list_all (is_not_stalled t) ps ≡ true
@@ -232,7 +226,7 @@ module _ (m : Machine) (checked : IsChecked m) (i r rate : ℕ) (plain : IsPlain
               → F (nu + time_until (has_unit i r u) from.state (named_next_moment entry.event)) (nv + time_until (has_unit i r v) from.state (named_next_moment entry.event)) (after_event m entry.event o from).state
           by_action None is ev = by_end (named_next_moment entry.event) refl is ev
           by_action (Some action) is ev =
-              subst (λ (end : Option ℕ). F (nu + time_until (has_unit i r u) from.state end) (nv + time_until (has_unit i r v) from.state end) (after m from.state from.state.now action)) (sym (names_none entry.event action is))
+              subst (λ (end : Option ℕ). F (nu + time_until (has_unit i r u) from.state end) (nv + time_until (has_unit i r v) from.state end) (after m from.state from.state.now action)) (sym (named_none entry.event action is))
               (none_more nu nv (after m from.state from.state.now action) (acted nu nv from.state reached kept here action ev.0))
 
       -- the whole run

@@ -41,14 +41,17 @@ use Rattle.moment_laws.proofs.AllowedAlone.{allowed_alone}
 use Rattle.term_laws.proofs.ReachedStates.{IsReached, reached_next, reached_opening}
 use Rattle.service_laws.specs.OnTime.{IsOnTime}
 use Rattle.service_laws.specs.Passing.{IsBeforeNext, at_moment}
-use Rattle.service_laws.specs.Service.{count_from, has_unit, time_of, time_until}
+use Rattle.service_laws.specs.Service.{has_unit, time_of, time_until}
 use Rattle.service_laws.proofs.EndsSums.{next_rises}
 use Rattle.service_laws.proofs.Passing.{NextMomentLaw}
 use Rattle.undisturbed_laws.specs.Undisturbed.{Credit2DomainStays, DomainStays, NeverSleeps}
 use Rattle.undisturbed_laws.proofs.Units.{core_there, never_sleeps}
 use Rattle.share_laws.specs.Shares.{HasShare, HasWeight, IsPlainCredit2, IsWithinShare, longest_slice, pool_units, total_weight}
+use Rattle.moment_laws.proofs.Tests.{or_later}
+use Rattle.service_laws.proofs.SpanSums.{named_none}
+use Rattle.share_laws.proofs.Fair.{constant_count}
 use Rattle.share_laws.proofs.Paced.{unit_low}
-use Rattle.share_laws.proofs.Runs.{OnTimeLaw, configured, core_on_time, names_none, one, pool_stays, single, unstalled_up}
+use Rattle.share_laws.proofs.Runs.{OnTimeLaw, configured, core_on_time, one, pool_stays, single, unstalled_up}
 use Rattle.share_laws.proofs.Start.{first_books}
 use Rattle.share_laws.proofs.UnitSums.{all_weigh, count_of, count_once, same_weight, total_bound, total_none, total_of, total_single, total_sum}
 
@@ -56,23 +59,13 @@ use Rattle.share_laws.proofs.UnitSums.{all_weigh, count_of, count_once, same_wei
 abbrev pub WaitingLaw : Machine → Type 0
 WaitingLaw m = (before : List Entry) (last : Entry) → IsRun m (before ++ last ∷ []) → event_action last.event ≡ None → NobodyWaits (state_after m before)
 
-constant_count : (test : ℕ → Bool) (b : Bool) (from n : ℕ) → ((k : ℕ) → test k ≡ b) → count_from test from n ≡ cond b n 0
-constant_count test true from zero same = refl
-constant_count test false from zero same = refl
-constant_count test true from (suc n) same = (let e = constant_count test true (suc from) n same in let f : ◌≡◌ {A = ℕ} (cond (test from) 1 0) 1 = ap (λ b. cond b 1 0) (same from) in omega (arith, e, f))
-constant_count test false from (suc n) same = (let e = constant_count test false (suc from) n same in let f : ◌≡◌ {A = ℕ} (cond (test from) 1 0) 0 = ap (λ b. cond b 1 0) (same from) in omega (arith, e, f))
-
 -- a unit of the list that passes
 any_of : (test : UnitId → Bool) (units : List UnitId) (v : UnitId) → has_listed_unit units v ≡ true → test v ≡ true → list_any test units ≡ true
 any_of test [] v has passes = absurd (cc)
 any_of test (w ∷ units) v has passes = elim (or_cases (same_unit v w) (has_listed_unit units v) has) [
   | inl same ↦ or_more (test w) (list_any test units) (subst (λ (x : UnitId). test x ≡ true) (same_unit_same v w same) passes)
-  | inr rest ↦ or_second (test w) (list_any test units) (any_of test units v rest passes)
+  | inr rest ↦ or_later (test w) (any_of test units v rest passes)
 ]
-  where
-    or_second : (a b : Bool) → b ≡ true → (a || b) ≡ true
-    or_second true b is = refl
-    or_second false b is = is
 
 module _ (m : Machine) (checked : IsChecked m) (i r rate : ℕ) (plain : IsPlainCredit2 m i r rate) (law : NextMomentLaw m) (on_time : OnTimeLaw m) (waiting : WaitingLaw m) (v : UnitId) (wv : ℕ) (never : NeverSleeps m v) (has_v : HasWeight m i v wv) where
   module _ (from : Reached) (entry : Entry) (next : IsNext m from entry) (reached : IsReached m from.state) (quiet : event_action entry.event ≡ None) (later : ℕ) (is : named_next_moment entry.event ≡ Some later) (rise : from.state.now < later) where
@@ -226,7 +219,7 @@ module _ (m : Machine) (checked : IsChecked m) (i r rate : ℕ) (plain : IsPlain
       by_action : (o : Option Action) → event_action entry.event ≡ o → IsNextEvent m from.state entry.event o → total_of (λ u. time_until (has_unit i r u) from.state (named_next_moment entry.event)) (pool_units m i) + from.state.now ≡ (after_event m entry.event o from).state.now
       by_action None is ev = by_end (named_next_moment entry.event) refl is ev
       by_action (Some action) is ev =
-          subst (λ (end : Option ℕ). total_of (λ u. time_until (has_unit i r u) from.state end) (pool_units m i) + from.state.now ≡ (after m from.state from.state.now action).now) (sym (names_none entry.event action is))
+          subst (λ (end : Option ℕ). total_of (λ u. time_until (has_unit i r u) from.state end) (pool_units m i) + from.state.now ≡ (after m from.state from.state.now action).now) (sym (named_none entry.event action is))
           (nothing ∙ sym (now_after m from.state from.state.now action))
 
   -- each has its share

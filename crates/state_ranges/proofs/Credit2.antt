@@ -14,7 +14,7 @@ use Rattle.sched_model.specs.declared.state.Credit2Domain.{Credit2Domain}
 use Rattle.sched_model.specs.declared.state.Credit2Records.{Credit2Records}
 use Rattle.sched_model.specs.Places.{at_place, change_each, change_item, numbered_items}
 use Rattle.sched_model.specs.CheckedMachine.{IsWithin}
-use Rattle.sched_model.specs.Credit2.{most_weight, burned_unit, burned_domain, change_domain, change_unit, domain_after_return, own_burned_records, domain_after_take, off_records, domain_after_refill, refilled_pool, first_refill_moment, fresh_credit2_domain, domain_with_weight, domain_with_cap, records_with_terms}
+use Rattle.sched_model.specs.Credit2.{most_weight, burned_unit, burned_domain, change_domain, domain_after_return, own_burned_records, domain_after_take, off_records, domain_after_refill, refilled_pool, first_refill_moment, fresh_credit2_domain, domain_with_weight, domain_with_cap, records_with_terms}
 use Rattle.sched_laws.specs.EachPlace.{EachPlace}
 use Rattle.sched_laws.proofs.EachPlace.{EachPlace-change_at, by_option, by_cond, length_set, length_change_each}
 use Rattle.sched_laws.proofs.Lists.{AllByRecursion-change_item}
@@ -146,9 +146,6 @@ module _ (count t : ℕ) where
   c_change_domain : (d : ℕ) (f : Credit2Domain → Credit2Domain) (records : Credit2Records) → ((x : Credit2Domain) → at_place records.domains d ≡ Some x → Credit2DomainFits t x → Credit2DomainFits t (f x)) → C records → C (change_domain d f records)
   c_change_domain d f records keeps fits = record { places = length_set d _ records.domains ∙ fits.places; limit = fits.limit; domains = EachPlace-change_at (Credit2DomainFits t) d f records.domains fits.domains keeps }
 
-  c_change_unit : (u : UnitId) (f : Credit2Domain → Credit2Unit → Credit2Unit) (records : Credit2Records) → ((d : Credit2Domain) (x : Credit2Unit) → UnitFits t d.weight x → UnitFits t d.weight (f d x)) → C records → C (change_unit u f records)
-  c_change_unit u f records keeps fits = c_change_domain u.dom.0 (λ d. record d { units = change_item u.n (f d) d.units }) records (λ d at. domain_unit t u.n (f d) d (keeps d)) fits
-
   -- a decision
   domain_kept : (most k : ℕ) (had has : Option ℕ) → most ≤ 65535 → KeptByCharges most t k had has (Credit2DomainFits t)
   domain_kept most k had has small = record {
@@ -174,7 +171,7 @@ module _ (count t : ℕ) where
     kept k chosen d = domain_kept (most_weight records) k (number_in d cur) (number_in d chosen) (max_weight_small count t records fits)
 
     pub c_burn_cur : C (own_burned_records cur t records)
-    c_burn_cur = c_each records (own_burned_records cur t records) _ (burn_is t cur records) (own_limit t cur records) (kept_by_burn t 0 cur None records (λ d. Credit2DomainFits t) (kept 0 None) fits.domains) fits
+    c_burn_cur = c_each records (own_burned_records cur t records) _ (burn_is t cur records) (own_limit t cur records) (kept_by_burn t cur records (λ d. Credit2DomainFits t) fits.domains (kept 0 None)) fits
 
     pub c_idle : C (off_records cur (own_burned_records cur t records))
     c_idle = c_each records (off_records cur (own_burned_records cur t records)) _ (idle_is t cur records) (idle_limit t cur records) (kept_by_idle t cur records (λ d. Credit2DomainFits t) fits.domains (kept 0 None)) fits

@@ -6,6 +6,7 @@ use Rattle.std.proofs.Math.Decide.{ℕ_discrete, dec_lt}
 use Rattle.std.proofs.Math.Pow.{pow_mono}
 use Rattle.std.proofs.lemmas.List.{length-map, length-replicate}
 use Rattle.std.proofs.lemmas.List.Elements.{recursion_from_All}
+use Rattle.std.proofs.lemmas.Option.{slice_get_within}
 use Rattle.sched_base.specs.Numbers.{moment, domain as domain_number, span}
 use Rattle.sched_base.specs.declared.Cores.{Cores}
 use Rattle.sched_base.specs.declared.Span.{Span}
@@ -188,12 +189,6 @@ no_rtds : (params : PoolParams) (n cores d : ℕ) → rtds_at (empty_records par
 no_rtds pool_params.Rtds n cores d = at_place-replicate n d
 no_rtds params n cores d = refl
 
--- something stands within the list
-get_below : {X : Type 0} (xs : List X) (n : ℕ) (x : X) → slice_get xs n ≡ Some x → n < length xs
-get_below [] n x at = absurd (cc)
-get_below (y ∷ xs) zero x at = omega arith
-get_below (y ∷ xs) (suc n) x at = (let r = get_below xs n x at in omega (arith, r))
-
 -- what stands at a place of a list made from the numbers
 map_at : {X : Type 0} (f : ℕ → Option X) (k n r : ℕ) → r < n → at_place (map f (numbers_from k n)) r ≡ f (k + r)
 map_at f k zero r low = absurd (omega (arith, low))
@@ -283,7 +278,7 @@ module _ (m : Machine) (checked : IsChecked m) (i : ℕ) (p : PoolConfig) (is : 
       let units : ℕ = domain_unit_count m.config.granularity (domain_at_opening c) in
       let r = seen_at m.config.granularity i d (credit2_seen d) (λ e joining q ne. credit2_unseen d e joining q ne) HasHeads heads_kept 0 d m.config.domains empty c (omega arith) home.there home.home (heads_empty p.params count (machine_core_count m.config)) in
       let before : Pool = r.0 in
-      let x = credit2_brought m.config p.kind limit count before.scheduler.records c.params d units (subst (λ params. Heads count params before.scheduler.records) kind r.1) (subst (PoolParamsPass m.config p.kind) kind passed_pool.params) (passed_domain d c home) (get_below m.config.domains d c home.there) in
+      let x = credit2_brought m.config p.kind limit count before.scheduler.records c.params d units (subst (λ params. Heads count params before.scheduler.records) kind r.1) (subst (PoolParamsPass m.config p.kind) kind passed_pool.params) (passed_domain d c home) (slice_get_within m.config.domains d c home.there) in
       (x.0, r.2 ∙ ap (λ (s : Records). domain_credit2_record s d) (configured_records m.config.granularity d c before) ∙ x.1, record { params = x.2; units = x.3 ∙ opened_units m.config.granularity c }, x.4 ∙ ap (λ n. fresh_credit2_domain x.0.weight x.0.cap n 0) (opened_units m.config.granularity c))
 
   own_rtds : p.params ≡ pool_params.Rtds → (d : ℕ) (c : DomConfig) → HasHome m i d c → (x : List RtdsUnit) × (rtds_seen d whole ≡ Some x) × RtdsDomainStays m.config.granularity c x × IsFreshRtds c (configured_units m.config.granularity c) x
@@ -291,7 +286,7 @@ module _ (m : Machine) (checked : IsChecked m) (i : ℕ) (p : PoolConfig) (is : 
       let units : ℕ = domain_unit_count m.config.granularity (domain_at_opening c) in
       let r = seen_at m.config.granularity i d (rtds_seen d) (λ e joining q ne. rtds_unseen d e joining q ne) HasHeads heads_kept 0 d m.config.domains empty c (omega arith) home.there home.home (heads_empty p.params count (machine_core_count m.config)) in
       let before : Pool = r.0 in
-      let x = rtds_brought m.config c p.kind count before.scheduler.records c.params d units refl (subst (λ params. Heads count params before.scheduler.records) kind r.1) (subst (PoolParamsPass m.config p.kind) kind passed_pool.params) (passed_domain d c home) (get_below m.config.domains d c home.there) in
+      let x = rtds_brought m.config c p.kind count before.scheduler.records c.params d units refl (subst (λ params. Heads count params before.scheduler.records) kind r.1) (subst (PoolParamsPass m.config p.kind) kind passed_pool.params) (passed_domain d c home) (slice_get_within m.config.domains d c home.there) in
       (x.0, r.2 ∙ ap (λ (s : Records). rtds_at s d) (configured_records m.config.granularity d c before) ∙ x.1, record { count = x.2 ∙ opened_units m.config.granularity c; units = x.3 }, subst (λ n. IsFreshRtds c n x.0) (opened_units m.config.granularity c) x.4)
 
   -- the domain's home is here, or what is seen of it is what was seen of the empty pool
@@ -357,7 +352,7 @@ module _ (m : Machine) (checked : IsChecked m) (i : ℕ) (p : PoolConfig) (is : 
     own = λ d c home. (
         let r = seen_at m.config.granularity i d (domain_seen d) (λ e joining q ne. domain_unseen d e joining q ne) HasPlaces places_kept 0 d m.config.domains empty c (omega arith) home.there home.home (length-replicate count None) in
         let before : Pool = r.0 in
-        let low : d < count = get_below m.config.domains d c home.there in
+        let low : d < count = slice_get_within m.config.domains d c home.there in
         let places : length before.domains ≡ count = r.1 in
         record {
           item = domain_at_opening c;
