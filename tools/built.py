@@ -158,6 +158,14 @@ def git(*words):
     return done.stdout.strip() if done.returncode == 0 and (TOP / ".git").exists() else None
 
 
+def version():
+    """The version that these sources are to be, or become."""
+    try:
+        return (TOP / "VERSION").read_text().strip()
+    except OSError:
+        return "of no version"
+
+
 def commit():
     """The commit of the sources, and whether they differ from it."""
     head, changed = git("rev-parse", "--short=12", "HEAD"), git("status", "--porcelain", "--", "crates", "crates.txt", "HANDLES")

@@ -66,13 +66,18 @@ def watched_kit(to, kept):
     return to / "bin" / "rt"
 
 
-def build(kit):
-    """Builds the trial of the sources as they are, and puts it where the launcher finds it. Where it cannot be kept, its stamp says so."""
+@contextlib.contextmanager
+def made(change=lambda repository: None):
+    """The sum of the sources and the program that a trial build of them makes, for as long as it is wanted; `change` may edit their copy first. None in place of
+    the program where the toolchain keeps none."""
     with children.room("xensched-trial") as room:
         repository, kept = room / "repository", room / "kept"
         repository.mkdir()
         built.copy(repository)
+        sources = built.sum_of_sources(repository)
+        change(repository)
         words = [watched_kit(room / "kit", kept), "try", "--steps", "1", "--", *SMALL]
+        LOG.parent.mkdir(parents=True, exist_ok=True)
         with open(LOG, "wb") as log:
             process = children.start(words, repository / "crates" / built.CRATE, room, stdout=subprocess.PIPE, stderr=log)
         try:
@@ -81,10 +86,15 @@ def build(kit):
             children.end(process, room)
         if process.returncode or not wrote.startswith(b"format = 1\n"):
             raise NotBuilt(f"the trial build failed; what the toolchain said is in {LOG}, and ends so:\n{built.ending(LOG)}")
-        is_kept = kept.exists()
-        if not is_kept:
-            kept.write_text("#!/bin/sh\n# A trial that could not be kept: the launcher runs `rt try` in its place.\nexit 70\n")
-        built.put_in_place(built.TRIAL, kept, {"kit": kit, "proof": "none", "kept": "yes" if is_kept else "no"}, built.sum_of_sources(repository))
+        yield sources, kept if kept.exists() else None
+
+
+def build(kit):
+    """Builds the trial of the sources as they are, and puts it where the launcher finds it. Where it cannot be kept, its stamp says so."""
+    with made() as (sources, kept), tempfile.NamedTemporaryFile("w") as none:
+        none.write("#!/bin/sh\n# A trial that could not be kept: the launcher runs `rt try` in its place.\nexit 70\n")
+        none.flush()
+        built.put_in_place(built.TRIAL, kept or none.name, {"kit": kit, "proof": "none", "kept": "yes" if kept else "no"}, sources)
 
 
 def stamp_of_these(sources):
