@@ -9,6 +9,7 @@ use Rattle.std.proofs.lemmas.Nat.Bits.{bit_at_ones}
 use Rattle.sched_base.specs.declared.UnitId.{UnitId}
 use Rattle.sched_base.specs.declared.Cores.{Cores}
 use Rattle.sched_base.specs.CoreSets.{has_core_bit}
+use Rattle.sched_base.proofs.Bools.{or_left, or_right}
 use Rattle.sched_model.specs.declared.state.Credit2Domain.{Credit2Domain}
 use Rattle.sched_model.specs.declared.state.Credit2Records.{Credit2Records}
 use Rattle.sched_model.specs.Places.{at_place, change_at, change_each, change_item, numbered_items, same_unit, is_unit}
@@ -17,8 +18,9 @@ use Rattle.sched_model.specs.Credit2.{most_weight, change_domain, has_domain_bud
 use Rattle.sched_laws.proofs.EachPlace.{by_option, by_cond}
 use Rattle.scheduler_records.specs.Bounds.{own_charged, reset_by}
 use Rattle.scheduler_records.proofs.Steps.{reset-each}
+use Rattle.arrival_queue.specs.declared.walks.Allowed.{Allowed}
 use Rattle.arrival_queue.specs.Filters.{first_that, has_core_bit}
-use Rattle.arrival_queue.specs.Queues.{Queued, list_without, is_of, closed_up}
+use Rattle.arrival_queue.specs.Queues.{Queued, has_unit, list_without, is_of, closed_up}
 use Rattle.queue_laws.proofs.Removed.{is_of_same}
 use Rattle.runq.specs.Queue.{Queue}
 use Rattle.credit2_core.specs.declared.state.Credit2State.{Credit2State}
@@ -220,6 +222,18 @@ first_left p u r (e ∷ es) low lows other =
       ] other
     ] refl
 
+-- the numbers of arrivals do not count
+pub first_closed : (p : UnitId → Bool) (r : ℕ) (es : List Queued) → first_that p (map (closed_up r) es) ≡ first_that p es
+first_closed p r [] = refl
+first_closed p r (e ∷ es) = ap (λ (o : Option UnitId). if p e.unit then Some e.unit else o) (first_closed p r es)
+
+-- a list without the unit is as it was without it
+pub without_none : (u : UnitId) (es : List Queued) → has_unit u es ≡ false → list_without u es ≡ es
+without_none u [] none = refl
+without_none u (e ∷ es) none =
+    ap (λ (t : Bool). if t then list_without u es else e ∷ list_without u es) (or_left (is_of u e) (has_unit u es) none)
+    ∙ ap (λ (xs : List Queued). e ∷ xs) (without_none u es (or_right (is_of u e) (has_unit u es) none))
+
 -- the greatest, with one more behind all others
 pub greatest_more : (records : Credit2Records) (p : UnitId → Bool) (u : UnitId) (best : Option UnitId) (units : List UnitId) → richest_unit records best (filter p (units ++ u ∷ [])) ≡ first_with_unit records (p u) (richest_unit records best (filter p units)) u
 greatest_more records p u None [] = elim (p u) as (λ b. richest_unit records None (cond b (u ∷ []) []) ≡ first_with_unit records b None u) [ true ↦ refl | false ↦ refl ]
@@ -252,3 +266,15 @@ pub free_allows : (unpinned : Bool) (affinity : List (Option (List Cores))) (hom
 free_allows unpinned affinity home core u free is joined low =
     ap (λ (cores : ℕ). has_core_bit cores core || bit_and cores home == 0) (free.all is u joined)
     ∙ ap (λ (bit : ℕ). bit == 1 || bit_and (2 ^ 64 - 1) home == 0) (bit_at_ones 64 core low)
+
+-- what is kept, where a unit left that was not the first, or behind which the first was looked for
+pub ready_left : (h next : Credit2State) (ready after : Ready) → next.records ≡ h.records → IsReadyIn h ready → after.domains ≡ ready.domains → after.most ≡ ready.most
+    → after.first ≡ first_that (λ w. has_core_bit ready.domains.0 w.dom.0) next.queue.units → IsReadyIn next after
+ready_left h next ready after records is domains most first =
+    let runs : AreRunnable next.records.domains after.domains.0 =
+    subst (λ (r : Credit2Records). AreRunnable r.domains after.domains.0) (sym records) (subst (λ (d : Allowed). AreRunnable h.records.domains d.0) (sym domains) is.domains) in
+    record {
+      domains = runs;
+      first = first ∙ ap (λ (d : Allowed). first_that (λ w. has_core_bit d.0 w.dom.0) next.queue.units) (sym domains) ∙ first_runnable next.records after.domains.0 next.queue.units runs;
+      most = most ∙ is.most ∙ ap most_weight (sym records);
+    }

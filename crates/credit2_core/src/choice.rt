@@ -1,9 +1,10 @@
 //! Which unit a core is to run. Moments are in nanoseconds.
 
 ghost use Rattle.sched_model.specs.CheckedMachine.{most_span};
-ghost use Rattle.std.specs.Prelude.{◌≡◌, ◌≤◌, ◌<◌, ◌+◌, ℕ, Bool, false, length};
+ghost use Rattle.std.specs.Prelude.{◌≡◌, ◌≤◌, ◌<◌, ◌+◌, ℕ, Bool, false, true, length};
 ghost use Rattle.sched_base.specs.declared.UnitId.{UnitId as Unit};
-ghost use Rattle.arrival_queue.specs.Filters.{first_that};
+ghost use Rattle.arrival_queue.specs.Filters.{first_that, has_core_bit};
+ghost use Rattle.arrival_queue.specs.Queues.{list_without};
 ghost use Rattle.queue_laws.specs.Arrivals.{arrivals};
 ghost use Rattle.sched_model.specs.Places.{without_unit, is_unit};
 ghost use Rattle.sched_model.specs.Policy.{has_better_waiting};
@@ -20,6 +21,7 @@ use crate::state::Credit2State;
 use sched_base::{Cores, Moment, ResId, UnitId};
 use sched_model::ask::Ask;
 use sched_model::state::Credit2Records;
+use sched_model::units::is_there;
 use scheduler_records::credit2_running::{credit_of, reset};
 use scheduler_records::credit2_slice::{domain_has_budget, is_within_limit};
 use scheduler_records::eligible::is_allowed;
@@ -72,10 +74,43 @@ pub fn leave(state: &mut Credit2State, u: UnitId)
     ensures room { IsSameRoom state.old.queue state.new.queue }
     ensures first { (p : Unit → Bool) → is_unit (first_that p state.old.queue.units) u ≡ false →
         first_that p state.new.queue.units ≡ first_that p state.old.queue.units }
+    ensures without { (p : Unit → Bool) → first_that p state.new.queue.units
+        ≡ first_that p (list_without u state.old.queue.units) }
     ensures rest { state.new ≡ record state.old { queue = state.new.queue } }
 {
     state.queue.law_order();
     let _ = state.queue.remove(u);
+}
+
+/// The first unit that waits of a domain that may run, once the unit is gone: where it is that one, the next is looked for behind it.
+fn first_without(state: &Credit2State, ready: &Ready, u: UnitId) -> Option<UnitId>
+    requires { IsReadyIn state.now ready.now }
+    ensures own { is_unit ready.now.first u ≡ true → result
+        ≡ first_that (λ w. has_core_bit ready.now.domains.0 w.dom.0)
+        (list_without u state.now.queue.units) }
+    ensures other { is_unit ready.now.first u ≡ false → result ≡ ready.now.first }
+{
+    if is_there(ready.first, u) {
+        state.queue.first_behind(u, &ready.domains)
+    } else {
+        ready.first
+    }
+}
+
+/// The unit, where it waits, waits no more, and what is kept follows.
+pub fn depart(state: &mut Credit2State, ready: &mut Ready, u: UnitId)
+    requires line { IsLine state.old }
+    requires ready { IsReadyIn state.old ready.old }
+    ensures order { arrivals state.new.queue.units
+        ≡ without_unit u (arrivals state.old.queue.units) }
+    ensures line { IsLine state.new }
+    ensures room { IsSameRoom state.old.queue state.new.queue }
+    ensures ready { IsReadyIn state.new ready.new }
+    ensures rest { state.new ≡ record state.old { queue = state.new.queue } }
+{
+    let first = first_without(state, ready, u);
+    leave(state, u);
+    ready.first = first;
 }
 
 /// The pool after so many resets at t. The keys of the units that wait follow their credits.

@@ -3,7 +3,7 @@
 ghost use Rattle.sched_model.specs.CheckedMachine.{most_span};
 ghost use Rattle.std.specs.Prelude.{◌≡◌, ◌≤◌, ◌<◌, length, Some, None, true, false};
 ghost use Rattle.queue_laws.specs.Arrivals.{arrivals};
-ghost use Rattle.sched_model.specs.Places.{without_unit, has_listed_unit, is_unit};
+ghost use Rattle.sched_model.specs.Places.{without_unit, has_listed_unit};
 ghost use Rattle.sched_model.specs.Policy.{decision_of, after_decision};
 ghost use Rattle.sched_model.specs.Credit2.{own_burned_records, credit2_decision_for, reset_count, running_records, off_records};
 ghost use Rattle.sched_ops.specs.Seen.{Tells, seen_at};
@@ -13,13 +13,12 @@ ghost use Rattle.credit2_core.specs.Credit2State.{IsFree, IsSound, IsLine, IsSam
 ghost use Rattle.credit2_core.specs.Choice.{records_after_run};
 ghost use Rattle.credit2_core.specs.Whole.{IsReadyIn};
 
-use crate::choice::{choice, leave, reset_pool};
+use crate::choice::{choice, depart, reset_pool};
 use crate::run_queue::{Ready, follow};
 use crate::slice::take_slice;
 use crate::state::Credit2State;
 use sched_base::{Moment, UnitId};
 use sched_model::ask::Ask;
-use sched_model::units::is_there;
 use sched_ops::Choice;
 use scheduler_records::credit2_running::{charge, set_running, switch_off};
 use scheduler_records::credit2_slice::resets_for;
@@ -65,12 +64,11 @@ fn start(state: &mut Credit2State, ask: &Ask, u: UnitId)
     set_running(Some(ask.at.0), u, &mut state.records);
 }
 
-/// Whether the first unit of those that wait still is it, once the unit waits no more and so many resets were made.
-fn stands(first: Option<UnitId>, u: UnitId, resets: u64) -> bool
-    ensures none { result ≡ true → resets ≡ 0 }
-    ensures other { result ≡ true → is_unit first u ≡ false }
+/// Whether what is kept stands, after so many resets.
+fn stands(resets: u64) -> bool
+    ensures { result ≡ true → resets ≡ 0 }
 {
-    resets == 0 && !is_there(first, u)
+    resets == 0
 }
 
 /// The core runs the unit: the resets that it calls for are made, and it takes its budget.
@@ -97,10 +95,10 @@ fn run_unit(state: &mut Credit2State, ready: &mut Ready, ask: &Ask, u: UnitId) -
     ensures rest { state.new ≡ record state.old
         { records = state.new.records; queue = state.new.queue; latest = ask.now.at.0 } }
 {
-    leave(state, u);
+    depart(state, ready, u);
     let resets = resets_for(ask.at, u, &state.records);
     reset_pool(state, ask.at, resets);
-    let stands = stands(ready.first, u, resets);
+    let stands = stands(resets);
     let long = take_slice(state, ready, ask, u, stands);
     stop_own(state, ask);
     start(state, ask, u);

@@ -10,13 +10,12 @@ ghost use Rattle.sched_model.specs.Policy.{unit_stored};
 ghost use Rattle.credit2_core.specs.Credit2State.{IsSound, scheduler_in, seen_in};
 ghost use Rattle.credit2_core.specs.Whole.{IsReadyIn};
 
-use crate::choice::leave;
-use crate::run_queue::{Ready, first_ready, first_with, key_of};
+use crate::choice::depart;
+use crate::run_queue::{Ready, first_with, key_of};
 use crate::state::Credit2State;
 use sched_base::UnitId;
 use sched_model::facts::Stored;
 use sched_model::places::item_at;
-use sched_model::units::is_there;
 
 /// The unit waits behind all others. It is the first where it may run and has more credit than the one that was.
 pub fn enqueue(state: &mut Credit2State, ready: &mut Ready, u: UnitId)
@@ -35,7 +34,7 @@ pub fn enqueue(state: &mut Credit2State, ready: &mut Ready, u: UnitId)
     ready.first = first_with(&state.records, *ready, u);
 }
 
-/// The unit waits no more. Where it was the first, the next one is looked for.
+/// The unit waits no more. Where it was the first, the next one is looked for behind it.
 pub fn dequeue(state: &mut Credit2State, ready: &mut Ready, u: UnitId)
     requires sound { IsSound state.old }
     requires ready { IsReadyIn state.old ready.old }
@@ -44,10 +43,7 @@ pub fn dequeue(state: &mut Credit2State, ready: &mut Ready, u: UnitId)
     ensures sound { IsSound state.new }
     ensures ready { IsReadyIn state.new ready.new }
 {
-    leave(state, u);
-    if is_there(ready.first, u) {
-        ready.first = first_ready(state, ready.domains);
-    }
+    depart(state, ready, u);
 }
 
 /// Begins anew with this rate limit, in microseconds, and no reset yet.

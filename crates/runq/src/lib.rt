@@ -3,10 +3,10 @@
 //! The counted calls add their steps on the ring to a counter of the caller's. The others do the same and count nothing.
 #![tactic(auto)]
 
-ghost use Rattle.std.specs.Prelude.{◌≡◌, ◌+◌, ◌<◌, ◌≤◌, ◌&&◌, [], true, false, length, map, IfOk};
+ghost use Rattle.std.specs.Prelude.{◌≡◌, ◌+◌, ◌<◌, ◌≤◌, ◌&&◌, [], true, false, length, map, IfOk, Some};
 ghost use Rattle.std.specs.Bool.{OnTrue, OnFalse};
 ghost use Rattle.unit_places.specs.Places.{has_unit_place};
-ghost use Rattle.arrival_queue.specs.Queues.{has_unit};
+ghost use Rattle.arrival_queue.specs.Queues.{has_unit, list_without};
 ghost use Rattle.arrival_queue.specs.Filters.{first_of, first_that, has_core_bit, may_run};
 ghost use Rattle.runq.specs.Queue.{after_insert, after_remove, after_rekey, single_key};
 
@@ -47,11 +47,11 @@ fn plain(key: i128) -> Key
 }
 
 impl Runq {
-    ghost use Rattle.std.specs.Prelude.{◌≡◌, ◌+◌, ◌<◌, ◌≤◌, ◌&&◌, [], true, false, length, map, IfOk};
+    ghost use Rattle.std.specs.Prelude.{◌≡◌, ◌+◌, ◌<◌, ◌≤◌, ◌&&◌, [], true, false, length, map, IfOk, Some};
     ghost use Rattle.std.specs.Bool.{OnTrue, OnFalse};
     ghost use Rattle.unit_places.specs.Places.{has_unit_place};
     ghost use Rattle.arrival_queue.specs.Order.{IsInOrder, EachRankOnce, EachUnitOnce};
-    ghost use Rattle.arrival_queue.specs.Queues.{has_unit};
+    ghost use Rattle.arrival_queue.specs.Queues.{has_unit, list_without};
     ghost use Rattle.arrival_queue.specs.Filters.{first_of, first_that, has_core_bit, may_run};
     ghost use Rattle.runq.specs.Queue.{after_insert, after_remove, after_rekey, empty_queue};
 
@@ -149,6 +149,15 @@ impl Runq {
         first_where_from::<Brand>(self, *allowed, Blank::new(1))
     }
 
+    /// The first unit whose domain is in the set, but for the unit that is it, behind which it is looked for.
+    pub fn first_behind(&self, u: UnitId, allowed: &Allowed) -> Option<UnitId>
+        requires { first_that (λ w. has_core_bit allowed.now.0 w.dom.0) self.now.units ≡ Some u }
+        ensures { result ≡ first_that (λ w. has_core_bit allowed.now.0 w.dom.0)
+            (list_without u self.now.units) }
+    {
+        first_behind_from::<Brand>(self, u, *allowed, Blank::new(1))
+    }
+
     /// The first unit whose domain is in the set, and whose cores have the core or none of the pool's.
     pub fn first_on(
         &self,
@@ -241,6 +250,24 @@ fn first_where_from<L: Ledger>(queue: &Runq, allowed: Allowed, blank: Blank) -> 
 {
     let mut steps = Steps::<L>::new(blank);
     queue.queue.first_where_counted(allowed, &mut steps)
+}
+
+/// As `first_behind`, with a counter of its own.
+fn first_behind_from<L: Ledger>(
+    queue: &Runq,
+    u: UnitId,
+    allowed: Allowed,
+    blank: Blank,
+) -> Option<UnitId>
+    requires first { first_that (λ w. has_core_bit allowed.0 w.dom.0) queue.now.units ≡ Some u }
+    requires name { blank.name ≡ L.name }
+    requires parts { blank.parts ≡ L.parts }
+    requires one { blank.parts ≡ 1 }
+    ensures { result ≡ first_that (λ w. has_core_bit allowed.0 w.dom.0)
+        (list_without u queue.now.units) }
+{
+    let mut steps = Steps::<L>::new(blank);
+    queue.queue.first_behind_counted(u, allowed, &mut steps)
 }
 
 /// As `first_on`, with a counter of its own.

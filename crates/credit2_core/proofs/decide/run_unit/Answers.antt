@@ -5,7 +5,7 @@ use Rattle.sched_base.specs.declared.UnitId.{UnitId}
 use Rattle.sched_base.specs.declared.Cores.{Cores}
 use Rattle.sched_model.specs.declared.ask.Ask.{Ask}
 use Rattle.sched_model.specs.declared.state.Credit2Records.{Credit2Records}
-use Rattle.sched_model.specs.Places.{has_listed_unit, without_unit, is_unit}
+use Rattle.sched_model.specs.Places.{has_listed_unit, without_unit}
 use Rattle.sched_model.specs.Credit2.{reset_records, change_domain, domain_after_take, reset_count, chosen_slice, best_other_credit}
 use Rattle.scheduler_records.specs.Bounds.{PoolParamsFit}
 use Rattle.scheduler_records.proofs.Steps.{reset_params, taken_params}
@@ -23,21 +23,17 @@ use Rattle.sched_laws.proofs.Counts.{gone_without}
 
 pub take_slice-long-requires-clause-ready : goal.take_slice-long-requires-clause-ready
 take_slice-long-requires-clause-ready c =
-    let h : Credit2State = c.args.state.now in
-    let left : Credit2State = c.leave.new.state in
-    let kept : Ready = c.args.ready.now in
-    let first : left.records ≡ h.records = ap (λ (x : Credit2State). x.records) c.leave.ensures.rest in
-    let begun : c.reset_pool.new.state.records ≡ reset_records c.args.ask.now.at.0 c.resets_for-resets.result h.records = c.reset_pool.ensures.records ∙ ap (reset_records c.args.ask.now.at.0 c.resets_for-resets.result) first in
-    let spared : IsSpared h.records c.reset_pool.new.state.records = subst (IsSpared h.records) (sym begun) (spared_reset c.args.ask.now.at.0 c.resets_for-resets.result h.records) in
+    let left : Credit2State = c.depart.new.state in
+    let kept : Ready = c.depart.new.ready in
+    let begun : c.reset_pool.new.state.records ≡ reset_records c.args.ask.now.at.0 c.resets_for-resets.result left.records = c.reset_pool.ensures.records in
+    let spared : IsSpared left.records c.reset_pool.new.state.records = subst (IsSpared left.records) (sym begun) (spared_reset c.args.ask.now.at.0 c.resets_for-resets.result left.records) in
     let p : UnitId → Bool = λ w. has_core_bit kept.domains.0 w.dom.0 in
-    let was : kept.first ≡ first_that p h.queue.units = c.requires.ready.first ∙ sym (first_runnable h.records kept.domains.0 h.queue.units c.requires.ready.domains) in
     record {
-      domains = λ i other. c.requires.ready.domains.each i ∙ sym (spared.runs i);
+      domains = λ i other. c.depart.ensures.ready.domains.each i ∙ sym (spared.runs i);
       first = λ stand.
-          let none : c.reset_pool.new.state ≡ left = c.reset_pool.ensures.none (c.stands-stands.ensures.none stand) in
-          let other : is_unit (first_that p h.queue.units) c.args.u ≡ false = ap (λ (o : Option UnitId). is_unit o c.args.u) (sym was) ∙ c.stands-stands.ensures.other stand in
-          was ∙ sym (c.leave.ensures.first p other) ∙ ap (λ (x : Credit2State). first_that p x.queue.units) (sym none);
-      most = c.requires.ready.most ∙ sym spared.weight;
+          let none : c.reset_pool.new.state ≡ left = c.reset_pool.ensures.none (c.stands-stands.ensures stand) in
+          c.depart.ensures.ready.first ∙ sym (first_runnable left.records kept.domains.0 left.queue.units c.depart.ensures.ready.domains) ∙ sym (ap (λ (x : Credit2State). first_that p x.queue.units) none);
+      most = c.depart.ensures.ready.most ∙ sym spared.weight;
     }
 
 pub returns-clause-ready : goal.returns-clause-ready
@@ -51,7 +47,7 @@ returns-clause-ready c =
 
 pub take_slice-long-requires-clause-few : goal.take_slice-long-requires-clause-few
 take_slice-long-requires-clause-few c =
-    let first : c.leave.new.state.records ≡ c.args.state.now.records = ap (λ (h : Credit2State). h.records) c.leave.ensures.rest in
+    let first : c.depart.new.state.records ≡ c.args.state.now.records = ap (λ (h : Credit2State). h.records) c.depart.ensures.rest in
     let e = ap (λ (r : Credit2Records). length r.domains) (c.reset_pool.ensures.records ∙ ap (reset_records c.args.ask.now.at.0 c.resets_for-resets.result) first) in
     let l = length_reset c.args.ask.now.at.0 c.resets_for-resets.result c.args.state.now.records in
     let f = c.requires.few in
@@ -59,20 +55,20 @@ take_slice-long-requires-clause-few c =
 
 pub take_slice-long-requires-clause-params : goal.take_slice-long-requires-clause-params
 take_slice-long-requires-clause-params c =
-    let first : c.leave.new.state.records ≡ c.args.state.now.records = ap (λ (h : Credit2State). h.records) c.leave.ensures.rest in
+    let first : c.depart.new.state.records ≡ c.args.state.now.records = ap (λ (h : Credit2State). h.records) c.depart.ensures.rest in
     let e : c.reset_pool.new.state.records ≡ reset_records c.args.ask.now.at.0 c.resets_for-resets.result c.args.state.now.records = c.reset_pool.ensures.records ∙ ap (reset_records c.args.ask.now.at.0 c.resets_for-resets.result) first in
     subst PoolParamsFit (sym e) (reset_params c.args.ask.now.at.0 c.resets_for-resets.result c.args.state.now.records c.requires.fits)
 
 pub take_slice-long-requires-clause-taken : goal.take_slice-long-requires-clause-taken
 take_slice-long-requires-clause-taken c =
-    let first : c.leave.new.state.records ≡ c.args.state.now.records = ap (λ (h : Credit2State). h.records) c.leave.ensures.rest in
+    let first : c.depart.new.state.records ≡ c.args.state.now.records = ap (λ (h : Credit2State). h.records) c.depart.ensures.rest in
     let e : c.reset_pool.new.state.records ≡ reset_records c.args.ask.now.at.0 c.resets_for-resets.result c.args.state.now.records = c.reset_pool.ensures.records ∙ ap (reset_records c.args.ask.now.at.0 c.resets_for-resets.result) first in
     subst (λ (r : Credit2Records). PoolParamsFit (change_domain c.args.u.dom.0 (domain_after_take c.args.u.n) r)) (sym e) (taken_params c.args.ask.now.at.0 c.resets_for-resets.result c.args.u c.args.state.now.records c.requires.fits)
 
 pub start-requires-clause-waits_not : goal.start-requires-clause-waits_not
 start-requires-clause-waits_not c =
     let left : c.stop_own.new.state.queue ≡ c.reset_pool.new.state.queue = ap (λ (h : Credit2State). h.queue) c.stop_own.ensures.rest ∙ ap (λ (h : Credit2State). h.queue) c.take_slice-long.ensures.rest in
-    let order : arrivals c.stop_own.new.state.queue.units ≡ without_unit c.args.u (arrivals c.args.state.now.queue.units) = ap (λ q. arrivals q.units) left ∙ c.reset_pool.ensures.order ∙ c.leave.ensures.order in
+    let order : arrivals c.stop_own.new.state.queue.units ≡ without_unit c.args.u (arrivals c.args.state.now.queue.units) = ap (λ q. arrivals q.units) left ∙ c.reset_pool.ensures.order ∙ c.depart.ensures.order in
     subst (λ (units : List UnitId). has_listed_unit units c.args.u ≡ false) (sym order) (gone_without c.args.u (arrivals c.args.state.now.queue.units))
 
 pub returns-clause-tells : goal.returns-clause-tells
@@ -83,12 +79,12 @@ returns-clause-tells c =
     let q : List UnitId = arrivals h.queue.units in
     let m : ℕ = reset_count ask.at.0 u h.records in
     let taken : Credit2Records = change_domain u.dom.0 (domain_after_take u.n) (reset_records ask.at.0 m h.records) in
-    let first : c.leave.new.state.records ≡ h.records = ap (λ (x : Credit2State). x.records) c.leave.ensures.rest in
+    let first : c.depart.new.state.records ≡ h.records = ap (λ (x : Credit2State). x.records) c.depart.ensures.rest in
     let resets : c.resets_for-resets.result ≡ m = c.resets_for-resets.ensures.exact ∙ ap (reset_count ask.at.0 u) first in
-    let begun : c.reset_pool.new.state.records ≡ reset_records ask.at.0 m h.records = c.reset_pool.ensures.records ∙ ap (λ (k : ℕ). reset_records ask.at.0 k c.leave.new.state.records) resets ∙ ap (reset_records ask.at.0 m) first in
+    let begun : c.reset_pool.new.state.records ≡ reset_records ask.at.0 m h.records = c.reset_pool.ensures.records ∙ ap (λ (k : ℕ). reset_records ask.at.0 k c.depart.new.state.records) resets ∙ ap (reset_records ask.at.0 m) first in
     let records : c.take_slice-long.new.state.records ≡ taken = c.take_slice-long.ensures.records ∙ ap (change_domain u.dom.0 (domain_after_take u.n)) begun in
-    let order : arrivals c.take_slice-long.new.state.queue.units ≡ without_unit u q = ap (λ (x : Credit2State). arrivals x.queue.units) c.take_slice-long.ensures.rest ∙ c.reset_pool.ensures.order ∙ c.leave.ensures.order in
-    let sets : c.take_slice-long.new.state.affinity ≡ h.affinity = ap (λ (x : Credit2State). x.affinity) c.take_slice-long.ensures.rest ∙ ap (λ (x : Credit2State). x.affinity) c.reset_pool.ensures.rest ∙ ap (λ (x : Credit2State). x.affinity) c.leave.ensures.rest in
+    let order : arrivals c.take_slice-long.new.state.queue.units ≡ without_unit u q = ap (λ (x : Credit2State). arrivals x.queue.units) c.take_slice-long.ensures.rest ∙ c.reset_pool.ensures.order ∙ c.depart.ensures.order in
+    let sets : c.take_slice-long.new.state.affinity ≡ h.affinity = ap (λ (x : Credit2State). x.affinity) c.take_slice-long.ensures.rest ∙ ap (λ (x : Credit2State). x.affinity) c.reset_pool.ensures.rest ∙ ap (λ (x : Credit2State). x.affinity) c.depart.ensures.rest in
     let best : List UnitId → List (Option (List Cores)) → Credit2Records → ℤ = λ units affinity r. credit_or_0 r (best_of units affinity ask.home.0 ask.core.0 r) in
     let other : best (arrivals c.take_slice-long.new.state.queue.units) c.take_slice-long.new.state.affinity c.take_slice-long.new.state.records ≡ best_other_credit ask (scheduler_in h) taken u =
     ap (λ (units : List UnitId). best units c.take_slice-long.new.state.affinity c.take_slice-long.new.state.records) order
