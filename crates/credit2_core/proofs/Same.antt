@@ -8,6 +8,7 @@ use Rattle.sched_model.specs.declared.state.Credit2Domain.{Credit2Domain}
 use Rattle.sched_model.specs.declared.state.Credit2Records.{Credit2Records}
 use Rattle.sched_model.specs.Places.{at_place, change_at, change_each}
 use Rattle.sched_model.specs.Credit2.{most_weight, burned_unit, burned_domain, change_domain, own_burned_records, off_records, domain_after_refill, refilled_pool, domain_with_weight, domain_with_cap, records_with_terms}
+use Rattle.record_laws.specs.Decisions.{number_in}
 use Rattle.record_laws.proofs.Credit2Seen.{idle_is, most_stays, ran_by_is}
 use Rattle.record_laws.proofs.Charges.{Leaves, leaves_chosen}
 use Rattle.credit2_core.specs.Choice.{records_after_run}
@@ -65,7 +66,7 @@ alike_each records next f is leaves = record {
 
 -- the core idles, or runs the unit
 pub alike_idle : (cur : Option UnitId) (t : ℕ) (records : Credit2Records) → IsAlike records (off_records cur (own_burned_records cur t records))
-alike_idle cur t records = alike_each records (off_records cur (own_burned_records cur t records)) _ (idle_is t cur records) (λ d x. leaves_chosen _ _ t 0 _ _ x (most_stays cur t records))
+alike_idle cur t records = alike_each records (off_records cur (own_burned_records cur t records)) _ (idle_is t cur records) (λ d x. leaves_chosen (most_weight records) (most_weight (own_burned_records cur t records)) t 0 (number_in d cur) None x (most_stays cur t records))
 
 pub alike_ran : (cur : Option UnitId) (t k : ℕ) (u : UnitId) (records : Credit2Records) → IsAlike records (records_after_run cur t k u (own_burned_records cur t records))
 alike_ran cur t k u records = alike_each records (records_after_run cur t k u (own_burned_records cur t records)) _ (ran_by_is t cur records k u) (λ d x. leaves_chosen _ _ t k _ _ x (most_stays cur t records))

@@ -1,5 +1,5 @@
 -- Lists of floors: what is left where one is set, or several.
-use Rattle.std.proofs.Common.{◌≡◌, ◌≢◌, ◌≤◌, ◌<◌, ◌+◌, ℕ, zero, suc, Bool, true, false, List, [], ◌∷◌, length, refl, sym, ap, subst, arith, cond, min}
+use Rattle.std.proofs.Common.{◌≡◌, ◌≢◌, ◌≤◌, ◌+◌, ℕ, zero, suc, Bool, true, false, List, [], ◌∷◌, length, refl, sym, ap, subst, arith, cond, min}
 use Rattle.std.specs.Prelude.{Option, Some, None, slice_set, replicate}
 use Rattle.sched_model.specs.declared.state.Resource.{Resource}
 use Rattle.sched_model.specs.Places.{at_place}
@@ -35,12 +35,6 @@ set_other (y ∷ xs) zero zero x other = absurd (other refl)
 set_other (y ∷ xs) zero (suc j) x other = refl
 set_other (y ∷ xs) (suc n) zero x other = refl
 set_other (y ∷ xs) (suc n) (suc j) x other = set_other xs n j x (λ e. other (ap suc e))
-
--- of the one that is set
-pub set_inside : (xs : List ℕ) (n x : ℕ) → n < length xs → floor_at (slice_set xs n x) n ≡ x
-set_inside [] n x inside = absurd (omega (arith, inside))
-set_inside (y ∷ xs) zero x inside = refl
-set_inside (y ∷ xs) (suc n) x inside = set_inside xs n x (omega (arith, inside))
 
 -- where nothing is known
 pub none_known : (n j : ℕ) → floor_at (replicate n 0) j ≡ 0

@@ -73,11 +73,6 @@ pools_more g best middle least (first ∷ pools) place some is here rest =
     least_same (IsReadyAmong g (first ∷ pools)) (λ at h. more_ready g at first pools h) (λ at h. which_ready g at first pools h.place h.pool h.there h.ready)
     (least_both (subst (λ (o : Option Pool). IsLeastWith best (IsReadyAt g o) middle) is here) (subst (λ (xs : List (Option Pool)). IsLeastWith middle (IsReadyAmong g xs) least) (behind first pools) rest))
 
--- a command that comes no sooner than the least so far
-pub late_command : (best : ℕ) (at : Moment) (b : Bool) → best ≤ at.0 → best ≡ lesser_moment best (guarded_moment b (Some at))
-late_command best at true late = omega (arith, late)
-late_command best at false late = refl
-
 -- a moment that is there has come at itself
 come_then : (at : ℕ) (o : Option Moment) → IsAt o at → has_moment_come at o ≡ true
 come_then at o is = (let here : has_moment_come at (Some (moment at)) ≡ true = grind (arith, nat_tests) in ap (has_moment_come at) is ∙ here)
