@@ -154,56 +154,37 @@ impl Engine {
         ensures state { self.new ≡ record self.old
             { state = after self.old.machine self.old.state self.old.state.now action } }
     {
-        let mut entry = Entry {
-            at: self.moment,
-            event: Event::Finish,
-        };
-        self.perform_into(action, &mut entry);
-        entry.event
-    }
-
-    /// The same, and the entry is written in its place.
-    pub(crate) fn perform_into(&mut self, action: Action, out: &mut Entry)
-        requires { first_enabled_action self.old.machine self.old.state self.old.state.now
-            ≡ Some action }
-        ensures at { out.new.at ≡ moment self.old.state.now }
-        ensures event { out.new.event ≡ event_of self.old.machine self.old.state
-            self.old.state.now action }
-        ensures state { self.new ≡ record self.old
-            { state = after self.old.machine self.old.state self.old.state.now action } }
-    {
         match pool_of_event(&self.tool, self.granularity, action) {
-            Some(i) => self.perform_in_pool(i.0, action, out),
-            None => {
-                out.at = self.moment;
-                out.event = self.perform_by_tool(action);
-            }
+            Some(i) => self.perform_in_pool(i.0, action),
+            None => self.perform_by_tool(action),
         }
     }
 
-    /// Does the event of an action that may come now, which is one of this pool. The entry is written in its place.
+    /// Does the event of an action that may come now, which is one of this pool.
     #[inline(always)]
-    pub(crate) fn perform_in_pool(&mut self, place: u8, action: Action, out: &mut Entry)
+    pub(crate) fn perform_in_pool(&mut self, place: u8, action: Action) -> Event
         requires enabled { is_action_enabled self.old.machine self.old.state self.old.state.now
             action ≡ true }
         requires home { event_pool self.old.machine.config.granularity self.old.state action
             ≡ Some place }
-        ensures at { out.new.at ≡ moment self.old.state.now }
-        ensures event { out.new.event ≡ event_of self.old.machine self.old.state
-            self.old.state.now action }
+        ensures event { result ≡ event_of self.old.machine self.old.state self.old.state.now
+            action }
         ensures state { self.new ≡ record self.old
             { state = after self.old.machine self.old.state self.old.state.now action } }
     {
-        out.at = self.moment;
+        let mut event = Event::Finish;
         perform_among(
             self.slots.as_mut_slice(),
             &self.trail,
             place,
             action,
             self.moment,
-            &mut out.event,
+            &mut event,
         );
-        self.trail.add(out);
+        self.trail.add(&Entry {
+            at: self.moment,
+            event,
+        });
         read_one(
             self.slots.as_slice(),
             place as usize,
@@ -212,6 +193,7 @@ impl Engine {
             self.nexts.as_mut_slice(),
         );
         self.busy = self.busy.max(place as usize + 1);
+        event
     }
 
     /// The same of an action of the tool; of a command where no stall may come.

@@ -24,66 +24,59 @@ impl Engine {
         ensures after { self.new ≡ record self.old
             { state = next_state self.old.machine self.old.state } }
     {
-        let mut entry = Entry {
-            at: self.now(),
-            event: Event::Finish,
-        };
-        let last = self.go_on_into(&mut entry);
-        Step { entry, last }
-    }
-
-    /// The same, and the entry is written in its place: whether it is the last.
-    pub fn go_on_into(&mut self, out: &mut Entry) -> bool
-        ensures entry { out.new ≡ next_entry self.old.machine self.old.state }
-        ensures last { result ≡ is_last self.old.machine self.old.state }
-        ensures after { self.new ≡ record self.old
-            { state = next_state self.old.machine self.old.state } }
-    {
         if self.is_quiet() {
             return match self.first_of_pools() {
-                Some((place, action)) => self.go_by_pool(place, action, out),
-                None => self.go_by_moment(out),
+                Some((place, action)) => self.go_by_pool(place, action),
+                None => self.go_by_moment(),
             };
         }
         match self.first_enabled() {
-            Some(action) => self.go_by(action, out),
-            None => self.go_by_moment(out),
+            Some(action) => self.go_by(action),
+            None => self.go_by_moment(),
         }
     }
 
     /// The same by the first action that may come now, which is one of this pool.
-    fn go_by_pool(&mut self, place: u8, action: Action, out: &mut Entry) -> bool
+    fn go_by_pool(&mut self, place: u8, action: Action) -> Step
         requires first { first_enabled_action self.old.machine self.old.state self.old.state.now
             ≡ Some action }
         requires home { event_pool self.old.machine.config.granularity self.old.state action
             ≡ Some place }
-        ensures entry { out.new ≡ next_entry self.old.machine self.old.state }
-        ensures last { result ≡ is_last self.old.machine self.old.state }
+        ensures entry { result.entry ≡ next_entry self.old.machine self.old.state }
+        ensures last { result.last ≡ is_last self.old.machine self.old.state }
         ensures after { self.new ≡ record self.old
             { state = next_state self.old.machine self.old.state } }
     {
-        self.perform_in_pool(place, action, out);
-        false
+        let at = self.now();
+        let event = self.perform_in_pool(place, action);
+        Step {
+            entry: Entry { at, event },
+            last: false,
+        }
     }
 
     /// The same by the first action that may come now.
-    fn go_by(&mut self, action: Action, out: &mut Entry) -> bool
+    fn go_by(&mut self, action: Action) -> Step
         requires { first_enabled_action self.old.machine self.old.state self.old.state.now
             ≡ Some action }
-        ensures entry { out.new ≡ next_entry self.old.machine self.old.state }
-        ensures last { result ≡ is_last self.old.machine self.old.state }
+        ensures entry { result.entry ≡ next_entry self.old.machine self.old.state }
+        ensures last { result.last ≡ is_last self.old.machine self.old.state }
         ensures after { self.new ≡ record self.old
             { state = next_state self.old.machine self.old.state } }
     {
-        self.perform_into(action, out);
-        false
+        let at = self.now();
+        let event = self.perform(action);
+        Step {
+            entry: Entry { at, event },
+            last: false,
+        }
     }
 
     /// The same where nothing may come now: by the next moment, or else the end.
-    fn go_by_moment(&mut self, out: &mut Entry) -> bool
+    fn go_by_moment(&mut self) -> Step
         requires { first_enabled_action self.old.machine self.old.state self.old.state.now ≡ None }
-        ensures entry { out.new ≡ next_entry self.old.machine self.old.state }
-        ensures last { result ≡ is_last self.old.machine self.old.state }
+        ensures entry { result.entry ≡ next_entry self.old.machine self.old.state }
+        ensures last { result.last ≡ is_last self.old.machine self.old.state }
         ensures after { self.new ≡ record self.old
             { state = next_state self.old.machine self.old.state } }
     {
@@ -91,19 +84,21 @@ impl Engine {
         match self.next_moment() {
             Some(next) => {
                 self.pass_to(next);
-                *out = Entry {
-                    at,
-                    event: Event::End { next },
-                };
-                false
+                Step {
+                    entry: Entry {
+                        at,
+                        event: Event::End { next },
+                    },
+                    last: false,
+                }
             }
-            None => {
-                *out = Entry {
+            None => Step {
+                entry: Entry {
                     at,
                     event: Event::Finish,
-                };
-                true
-            }
+                },
+                last: true,
+            },
         }
     }
 }

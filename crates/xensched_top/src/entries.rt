@@ -8,7 +8,7 @@ use std::marker::Model;
 
 /// The entries of a run, and how it ends behind them.
 pub(crate) trait Entries {
-    ghost use Rattle.std.specs.Prelude.{◌≡◌, List, [], ◌∷◌, true, false};
+    ghost use Rattle.std.specs.Prelude.{◌≡◌, List, [], ◌∷◌, IfNone, IfSome};
     ghost use Rattle.sched_model.specs.declared.event.Entry.{Entry as EntryValue};
     ghost use Rattle.pcpu_threads.specs.declared.ends.RunEnd.{RunEnd as End};
 
@@ -18,11 +18,11 @@ pub(crate) trait Entries {
     /// How the run ends behind them.
     ghost ending: { Self → End };
 
-    /// The next entry, written in its place: whether there is one. Where all have come nothing changes but the place.
-    fn next(&mut self, out: &mut Entry) -> bool
-        ensures some { result ≡ true → coming self.old ≡ out.new ∷ coming self.new }
-        ensures none { result ≡ false → coming self.old ≡ [] }
-        ensures same { result ≡ false → self.new ≡ self.old }
+    /// The next entry, or none where all have come.
+    fn next(&mut self) -> Option<Entry>
+        ensures some { IfSome result (λ entry. coming self.old ≡ entry ∷ coming self.new) }
+        ensures none { IfNone result (coming self.old ≡ []) }
+        ensures same { IfNone result (self.new ≡ self.old) }
         ensures ending { ending self.new ≡ ending self.old };
 
     /// How the run ended, once all entries have come.
@@ -73,13 +73,14 @@ impl Entries for OrderedEntries {
 
     ghost ending = { λ o. o.end };
 
-    fn next(&mut self, out: &mut Entry) -> bool {
+    fn next(&mut self) -> Option<Entry> {
         if self.over || self.left == 0 {
-            return false;
+            return None;
         }
+        let step = self.engine.go_on();
         self.left -= 1;
-        self.over = self.engine.go_on_into(out);
-        true
+        self.over = step.last;
+        Some(step.entry)
     }
 
     fn end(&self) -> RunEnd {
@@ -131,13 +132,13 @@ impl Entries for RecordedEntries {
 
     ghost ending = { λ r. r.end };
 
-    fn next(&mut self, out: &mut Entry) -> bool {
+    fn next(&mut self) -> Option<Entry> {
         if self.place >= self.book.len() {
-            return false;
+            return None;
         }
-        *out = self.book.get(self.place);
+        let entry = self.book.get(self.place);
         self.place += 1;
-        true
+        Some(entry)
     }
 
     fn end(&self) -> RunEnd {

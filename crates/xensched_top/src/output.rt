@@ -17,10 +17,9 @@ use crate::report::put_report;
 use crate::status::Status;
 use command_line::Form;
 use pcpu_threads::RunEnd;
-use sched_base::{Failed, Moment, NoMemory};
+use sched_base::{Failed, NoMemory};
 use sched_io::Sink;
 use sched_model::config::Config;
-use sched_model::event::{Entry, Event};
 use sched_print::EntryLine;
 use sched_report::Report;
 use std::alloc::Global;
@@ -42,14 +41,6 @@ pub(crate) fn status_of(end: RunEnd, limit: u32) -> Status
     }
 }
 
-/// The place of an entry, before the first one is written there.
-fn no_entry() -> Entry {
-    Entry {
-        at: Moment(0),
-        event: Event::Finish,
-    }
-}
-
 /// Writes the lines of all entries.
 pub(crate) fn put_entries<E: Entries, K: Sink>(entries: &mut E, sink: &mut K) -> Result<(), Failed>
     ensures whole { OnOk result (Adds (K.told sink.old) (K.told sink.new)
@@ -62,8 +53,7 @@ pub(crate) fn put_entries<E: Entries, K: Sink>(entries: &mut E, sink: &mut K) ->
     ensures ending { E.ending entries.new ≡ E.ending entries.old }
 {
     let mut line = EntryLine::new();
-    let mut entry = no_entry();
-    while entries.next(&mut entry) {
+    while let Some(entry) = entries.next() {
         line.set(&entry);
         sink.put(line.as_bytes())?;
     }
@@ -79,8 +69,7 @@ fn add_entries<E: Entries>(entries: &mut E, report: &mut Report)
     ensures all { E.coming entries.new ≡ [] }
     ensures ending { E.ending entries.new ≡ E.ending entries.old }
 {
-    let mut entry = no_entry();
-    while entries.next(&mut entry) {
+    while let Some(entry) = entries.next() {
         report.add(&entry);
     }
 }

@@ -5,7 +5,7 @@ use Rattle.machine_parts.specs.Places.{state_of}
 use Rattle.machine_parts.specs.Parts.{event_pool}
 use Rattle.sched_model.specs.Standing.{Standing}
 use Rattle.machine_parts.proofs.Performing.{first-comes}
-use Rattle.engine.proofs.engine.Engine.perform_into.Goals as goal
+use Rattle.engine.proofs.engine.Engine.perform.Goals as goal
 use Rattle.machine_parts.proofs.AtPlaces.{number-of, no-number}
 
 pub perform_in_pool-requires-clause-enabled : goal.perform_in_pool-requires-clause-enabled
