@@ -6,7 +6,7 @@ import subprocess
 import tempfile
 
 from . import asking, loads, making, premises, tables
-from .machine import read_machine, read_work
+from .machine import DEFAULTS, DOMAIN_KEYS, read_machine, read_work
 from .measures import Distribution
 from .words import Refused
 
@@ -168,11 +168,18 @@ def joined_rows(rows):
             "worst": max(row["worst"] for row in rows), "preempted": sum(row["preempted"] for row in rows)}
 
 
+def in_force(machine):
+    """What a machine means, whether a file writes a default or not."""
+    pools = [(pool.name, pool.sched, pool.cpus, {**({"ratelimit_us": DEFAULTS["ratelimit_us"]} if pool.sched == "credit2" else {}), **pool.settings}) for pool in machine.pools]
+    domains = [(domain.name, domain.pool, domain.pins, {key: domain.setting(key) for key in DOMAIN_KEYS[machine.pool(domain.pool).sched]}) for domain in machine.domains]
+    return machine.granularity, machine.horizon, pools, domains
+
+
 def price_of(base, job, row):
     """What a configuration costs: processors in pools that have a domain, keys that are not as they were, preemptions."""
     machine = varied(base, job["settings"])
     used = {domain.pool for domain in machine.domains}
-    changed = sum(varied(base, {path: value}).text() != base.text() for path, value in job["settings"].items())
+    changed = sum(in_force(varied(base, {path: value})) != in_force(base) for path, value in job["settings"].items())
     return sum(len(pool.cpus) for pool in machine.pools if pool.name in used), changed, row["preempted"]
 
 
