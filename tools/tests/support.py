@@ -50,6 +50,14 @@ def studied(name):
     return study_of(domains, lines, work)
 
 
+def follow_stored(name, prepare):
+    """The study of a stored run, and what was made of it before its first line."""
+    domains, work, lines = stored(name)
+    study = Study(read_machine(domains), read_work(work))
+    made = prepare(study)
+    return study.follow(lines), made
+
+
 def study_of_machine(described, text):
     """The study of a machine, as a domain file would describe it, and of a schedule."""
     return Study(machine_of(described, "a machine")).follow(text.splitlines())

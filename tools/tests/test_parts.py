@@ -5,7 +5,6 @@ import json
 import pathlib
 import random
 import re
-import shutil
 import tempfile
 import unittest
 
@@ -201,7 +200,6 @@ class Words(unittest.TestCase):
             self.assertIn("is a study that was written", done.stderr)
 
     @BUILT
-    @unittest.skipUnless(shutil.which("parallel"), "GNU parallel is not installed")
     def test_sweep(self):
         words = ["tools/sweep", "--machine", FILES[0], "--over", "horizon_ns=32000000,40000000", "--column", "vcpus.a.runs_ns", "--column", "run", "--column", "end", "--column", "entries"]
         done = call(*words, "--warmup", "10ms", "--to", "21ms")

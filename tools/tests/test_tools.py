@@ -5,7 +5,6 @@ import io
 import json
 import os
 import pathlib
-import shutil
 import subprocess
 import sys
 import tempfile
@@ -260,7 +259,6 @@ class Comparing(unittest.TestCase):
 
 
 @BUILT
-@unittest.skipUnless(shutil.which("parallel"), "GNU parallel is not installed")
 class Sweeping(unittest.TestCase):
     def test_made_machines(self):
         done = call("tools/sweep", 2, 8, 8, "--column", "entries", "--column", "run", "--column", "late")

@@ -26,6 +26,50 @@ def take_part(study, given):
     study.count_part(time_of(given.begin) + time_of(given.warmup), None if given.until is None else time_of(given.until))
 
 
+def add_limits(given):
+    """The words of a tool that ask for something to be kept."""
+    given.add_argument("--deadline", action="append", default=[], metavar="WHO=TIME", help="each job of WHO (a domain's name, dD or dDvV) is to end within TIME of its release, as web=2ms")
+    given.add_argument("--latency", action="append", default=[], metavar="WHO=TIME", help="each wait of WHO is to be at most TIME")
+    given.add_argument("--share", action="append", default=[], metavar="DOMAIN=PERCENT", help="the domain is to have at least this share of its pool, as web=40%%")
+
+
+def limit_words(given):
+    """The same words again, for another call."""
+    return [word for kind in ("deadline", "latency", "share") for text in getattr(given, kind) for word in (f"--{kind}", text)]
+
+
+class Targets:
+    """The limits that were asked for, of one run: told to a study before its first line, and judged behind its last."""
+
+    def __init__(self, study, deadlines, latencies, shares):
+        self.study, self.limits, self.shares = study, limits_of(study, deadlines, latencies), shares_of(study, shares)
+
+    def judge(self):
+        """Behind the last line: what is open still and already too long has missed its limit."""
+        judge_open(self.study, self.limits)
+        return self
+
+    def had(self, domain):
+        """The share of its pool that a domain had."""
+        return sum(self.study.ran(unit) for unit in domain.units) / (capacity_of(self.study, domain) or 1)
+
+    @property
+    def met(self):
+        """How many waits, jobs and shares were as asked."""
+        return sum(limit.met for limit in self.limits) + sum(self.had(domain) >= least for domain, least in self.shares)
+
+    @property
+    def missed(self):
+        return sum(limit.missed for limit in self.limits) + sum(self.had(domain) < least for domain, least in self.shares)
+
+    @property
+    def worst(self):
+        """How much of what is allowed was taken where it was most: above 1 it is missed. The longest wait or job to its limit, the share asked to that had."""
+        parts = [limit.most / limit.span if limit.span else float(limit.most > 0) * 2 for limit in self.limits]
+        parts += [least / self.had(domain) if self.had(domain) else float("inf") if least else 0.0 for domain, least in self.shares]
+        return max(parts, default=0.0)
+
+
 def vcpus_of(study, who):
     """The vCPUs of `web`, `d0` or `d0v1`."""
     if who in study.vcpus:

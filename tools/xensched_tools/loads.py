@@ -5,12 +5,15 @@ is used. Each vCPU has a generator of its own, whose seed is a text of the seed,
 """
 import dataclasses
 import math
+import pathlib
 import random
 import statistics
 
+from .machine import read_work
 from .words import Refused, milliseconds, time_of
 
 MOST_PAIRS = 32
+MOST_COMMANDS = 4096
 LONGEST = 10**13
 NORMAL = statistics.NormalDist()
 LEAST_PART = 2.0**-60       # a draw may be 0, where the normal distribution has no value
@@ -312,3 +315,36 @@ class Plan:
                 if phase:
                     lines += [(0, f"0 xl pause {domain.name}"), (phase, f"{phase} xl unpause {domain.name}")]
         return lines, told
+
+
+def work_of(path, added, phases):
+    """The lines of the work file with those of the phases among them."""
+    if path is None:
+        kept = []
+    else:
+        commands = read_work(path)
+        for command in commands:
+            if command.words[0] in ("pause", "unpause") and command.words[1:2] and command.words[1] in phases:
+                raise Refused(f"{path}: line {command.line} pauses {command.words[1]} or lets it go on, and so does its phase")
+        if len(commands) + len(added) > MOST_COMMANDS:
+            raise Refused(f"{path} has {len(commands)} commands, and the phases {len(added)}: {MOST_COMMANDS} are the most")
+        kept = pathlib.Path(path).read_text(encoding="utf-8", errors="surrogateescape").splitlines()
+    return merged(kept, added)
+
+
+def merged(kept, added):
+    """The kept lines in their order, each added one before the first kept one of a later moment."""
+    lines, left = [], sorted(added)
+    for line in kept:
+        at = 0 if line.startswith("#") or not line.split() else int(line.split()[0])
+        while left and left[0][0] < at:
+            lines.append(left.pop(0)[1])
+        lines.append(line)
+    return lines + [line for _, line in left]
+
+
+def work_lines(machine, path, plan):
+    """The lines of the work file, None for none, with those of the plan's phases among them."""
+    added, _ = plan.phase_lines()
+    names = [domain.name for domain in machine.domains]
+    return work_of(path, added, {it for domain in plan.phases for it in (domain, str(names.index(domain)))})

@@ -38,15 +38,75 @@ def kept(settings, keys):
 
 
 def with_setting(machine, path, value):
-    """The machine with another value of a key: `web.weight`, `pool.Pool-0.ratelimit_us`, or `horizon_ns`."""
+    """The machine with another value of a key: `web.weight`, `web.pool`, `web.pins`, `pool.Pool-0.ratelimit_us`, `pool.Pool-0.sched`, `pool.Pool-0.cpus`, `sched` (of all pools),
+    `granularity` or `horizon_ns`. `value` is a whole number, True or False, a name, or a list of processors."""
     subject, _, key = path.rpartition(".")
     if path == "horizon_ns":
         return dataclasses.replace(machine, horizon=value)
+    if path == "granularity":
+        return dataclasses.replace(machine, granularity=value)
+    if path == "sched":
+        return with_schedulers(machine, {None: value})
     if subject.startswith("pool."):
-        return dataclasses.replace(machine, pools=[changed(pool, key, value) if pool.name == subject[5:] else pool for pool in machine.pools])
+        return with_pool_setting(machine, subject[5:], key, value)
     if subject not in [domain.name for domain in machine.domains]:
-        raise Refused(f"{path!r} names no key: write DOMAIN.KEY, pool.POOL.KEY or horizon_ns")
-    return dataclasses.replace(machine, domains=[changed(domain, key, value) if domain.name == subject else domain for domain in machine.domains])
+        raise Refused(f"{path!r} names no key: write DOMAIN.KEY, pool.POOL.KEY, sched, granularity or horizon_ns")
+    return dataclasses.replace(machine, domains=[domain_with(machine, domain, key, value) if domain.name == subject else domain for domain in machine.domains])
+
+
+def with_pool_setting(machine, name, key, value):
+    """The machine with another value of a key of a pool. Processors that a pool gets leave the others, and those that it gives up go to the first other one."""
+    if machine.pool(name) is None:
+        raise Refused(f"there is no pool {name!r}; the pools are {', '.join(pool.name for pool in machine.pools)}")
+    if key == "sched":
+        return with_schedulers(machine, {name: value})
+    if key != "cpus":
+        return dataclasses.replace(machine, pools=[changed(pool, key, value) if pool.name == name else pool for pool in machine.pools])
+    given_up = [cpu for cpu in machine.pool(name).cpus if cpu not in value]
+    pools = [dataclasses.replace(pool, cpus=value if pool.name == name else [cpu for cpu in pool.cpus if cpu not in value]) for pool in machine.pools]
+    first = next((at for at, pool in enumerate(pools) if pool.name != name), None)
+    if first is not None:
+        pools[first].cpus = sorted([*pools[first].cpus, *given_up])
+    return dataclasses.replace(machine, pools=pools)
+
+
+def domain_with(machine, domain, key, value):
+    """The domain with another value of a key; in a pool with another scheduler it keeps the keys that this one has too."""
+    if key == "pins":
+        return dataclasses.replace(domain, pins=[value] * machine.units_of(domain))
+    if key != "pool":
+        return changed(domain, key, value)
+    if machine.pool(value) is None:
+        raise Refused(f"there is no pool {value!r}; the pools are {', '.join(pool.name for pool in machine.pools)}")
+    return dataclasses.replace(domain, pool=value, settings=kept(domain.settings, DOMAIN_KEYS[machine.pool(value).sched]))
+
+
+def value_of(path, text):
+    """A value of a key as it is written: a whole number, true or false; a name for a scheduler or a pool; processors as 0-3+8 for `cpus` and `pins`."""
+    key = path.rpartition(".")[2]
+    if key in ("sched", "pool"):
+        return text
+    if key in ("cpus", "pins"):
+        return processors_of(text)
+    if text in ("true", "false"):
+        return text == "true"
+    try:
+        return int(text)
+    except ValueError:
+        raise Refused(f"{text!r} is no value of {path}: whole numbers, true or false") from None
+
+
+def processors_of(text):
+    """The processors of `0-3+8`."""
+    found = []
+    for part in text.split("+"):
+        first, dash, last = part.partition("-")
+        if not first.isdecimal() or dash and not last.isdecimal():
+            raise Refused(f"{text!r} are no processors: write them as 0-3+8")
+        found += range(int(first), int(last if dash else first) + 1)
+    if max(found, default=64) > 63:
+        raise Refused(f"{text!r} are no processors: they have numbers from 0 to 63")
+    return sorted(set(found))
 
 
 def changed(subject, key, value):

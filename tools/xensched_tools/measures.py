@@ -87,11 +87,12 @@ class Limit:
 
     def forget(self):
         """Counting begins."""
-        self.met = self.missed = 0
+        self.met = self.missed = self.most = 0
         self.first_missed = None
 
     def judge(self, span, at):
         """A span of this kind ended at this moment."""
+        self.most = max(self.most, span)
         if span <= self.span:
             self.met += 1
             return

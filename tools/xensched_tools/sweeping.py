@@ -5,8 +5,8 @@ import pathlib
 import subprocess
 import tempfile
 
-from . import making, premises, tables
-from .machine import read_machine, read_work
+from . import asking, loads, making, premises, tables
+from .machine import DEFAULTS, DOMAIN_KEYS, read_machine, read_work
 from .measures import Distribution
 from .words import Refused
 
@@ -88,13 +88,29 @@ def studied(job, prepare=lambda study: None):
         with tempfile.TemporaryDirectory(prefix="xensched-") as folder:
             domains, work = made_files(folder, job["seed"], job["processors"], job["domains"])
             return making.run(read_machine(domains), work, prepare)
-    return making.run(varied(making.machine_from(job["machine"]), job["settings"]), job["work"], prepare)
+    machine = varied(making.machine_from(job["machine"]), job["settings"])
+    if not job.get("loads"):
+        return making.run(machine, job["work"], prepare)
+    with tempfile.TemporaryDirectory(prefix="xensched-") as folder:
+        work = pathlib.Path(folder) / "work.txt"
+        work.write_text("".join(f"{line}\n" for line in loaded(machine, job)))
+        return making.run(machine, work, prepare)
+
+
+def loaded(machine, job):
+    """Gives the machine the loads of this job's seed, as tools/loads does, and returns the lines of its work file."""
+    plan = loads.Plan(machine, job["load_seed"])
+    for text in job["loads"]:
+        plan.add(text)
+    list(plan.set_scripts())
+    return loads.work_lines(machine, job["work"], plan)
 
 
 def varied(machine, settings):
-    """The machine with these values of keys."""
-    for path, value in settings.items():
-        machine = making.with_setting(machine, path, value)
+    """The machine with these values of keys, as they are written. Pools come before the domains that may move to them, and schedulers before their keys."""
+    order = sorted(settings, key=lambda path: (path.rpartition(".")[2] not in ("sched", "granularity"), not path.startswith("pool."), not path.endswith(".pool")))
+    for path in order:
+        machine = making.with_setting(machine, path, making.value_of(path, settings[path]))
     return machine
 
 
@@ -110,26 +126,61 @@ def premises_of(jobs):
     return list(dict.fromkeys(text for machine in machines for text in premises.of(machine, work)))
 
 
-def value_of(text):
-    """A value of a key: a whole number, or true or false."""
-    if text in ("true", "false"):
-        return text == "true"
-    try:
-        return int(text)
-    except ValueError:
-        raise Refused(f"{text!r} is no value of a key: whole numbers, true or false") from None
-
-
 def settings_over(texts):
-    """Each choice of values for the keys of `web.weight=128,256,512`."""
+    """Each choice of values, as they are written, for the keys of `web.weight=128,256,512`."""
     keys, choices = [], []
     for text in texts:
         key, equals, values = text.partition("=")
         if not equals:
             raise Refused(f"{text!r} is not of the form KEY=VALUE,VALUE")
+        for value in values.split(","):
+            making.value_of(key, value)
         keys.append(key)
-        choices.append([value_of(value) for value in values.split(",")])
+        choices.append(values.split(","))
     return keys, [dict(zip(keys, chosen)) for chosen in itertools.product(*choices)]
+
+
+def row_of(job, columns, given):
+    """What came of a job: the status of its run, its figures, and how it stood to what was asked. A sentence in place of all where it could not be run."""
+    targets = []
+
+    def prepare(study):
+        asking.take_part(study, given)
+        targets.append(asking.Targets(study, given.deadline, given.latency, given.share))
+
+    try:
+        study = studied(job, prepare)
+        judged = targets[0].judge()
+        # what `xensched run` ends with where the run is longer than the most entries
+        return {"status": 0 if study.finished else 7, "figures": [figure(study, column) for column in columns], "met": judged.met, "missed": judged.missed,
+                "worst": judged.worst, "preempted": WHOLE["preempted"](study)}
+    except Refused as fault:
+        return {"fault": str(fault)}
+
+
+def joined_rows(rows):
+    """One row of those of several seeds: of each figure the mean, the least and the greatest; counts are added up, and the worst is the worst of all."""
+    figures = []
+    for values in zip(*(row["figures"] for row in rows)):
+        known = [value for value in values if isinstance(value, (int, float)) and not isinstance(value, bool)]
+        figures += [round(sum(known) / len(known), 6), min(known), max(known)] if known else [None] * 3
+    return {"status": max(row["status"] for row in rows), "figures": figures, "met": sum(row["met"] for row in rows), "missed": sum(row["missed"] for row in rows),
+            "worst": max(row["worst"] for row in rows), "preempted": sum(row["preempted"] for row in rows)}
+
+
+def in_force(machine):
+    """What a machine means, whether a file writes a default or not."""
+    pools = [(pool.name, pool.sched, pool.cpus, {**({"ratelimit_us": DEFAULTS["ratelimit_us"]} if pool.sched == "credit2" else {}), **pool.settings}) for pool in machine.pools]
+    domains = [(domain.name, domain.pool, domain.pins, {key: domain.setting(key) for key in DOMAIN_KEYS[machine.pool(domain.pool).sched]}) for domain in machine.domains]
+    return machine.granularity, machine.horizon, pools, domains
+
+
+def price_of(base, job, row):
+    """What a configuration costs: processors in pools that have a domain, keys that are not as they were, preemptions."""
+    machine = varied(base, job["settings"])
+    used = {domain.pool for domain in machine.domains}
+    changed = sum(in_force(varied(base, {path: value})) != in_force(base) for path, value in job["settings"].items())
+    return sum(len(pool.cpus) for pool in machine.pools if pool.name in used), changed, row["preempted"]
 
 
 def line_of(job):
