@@ -126,7 +126,7 @@ class Runs(unittest.TestCase):
         # n / (n + z^2) where all of n are good; the middle of the interval of half of them is a half
         low, high = schedulability.wilson(10, 10)
         self.assertAlmostEqual(low, 0.722467, 6)
-        self.assertEqual(high, 1)
+        self.assertAlmostEqual(high, 1)
         low, high = schedulability.wilson(50, 100)
         self.assertAlmostEqual(low, 0.403832, 5)
         self.assertAlmostEqual(low + high, 1)
