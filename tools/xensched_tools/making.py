@@ -150,8 +150,8 @@ def get_ready():
         raise Refused(f"the program {PROGRAM} does not run")
 
 
-def run(machine, work_path=None, prepare=lambda study: None):
-    """The study of the machine's ordered run with this work file, None for none; `prepare` is told the study before it begins."""
+def run(machine, work_path=None, prepare=lambda study: None, kind=Study):
+    """The study of the machine's ordered run with this work file, None for none; `prepare` is told the study before it begins, `kind` is its class."""
     for domain in machine.domains:
         if None in domain.guests:
             raise Refused(f"what the vCPUs of {domain.name} do is not known, so there is nothing to run: its schedule can be studied (tools/study --json)")
@@ -163,7 +163,7 @@ def run(machine, work_path=None, prepare=lambda study: None):
             done = subprocess.run([PROGRAM, "run", "--ordered", "--events", str(MOST_ENTRIES), domains, work_path or empty], stdout=out, stderr=subprocess.PIPE, text=True)
         if done.returncode not in (0, 7):
             raise Refused(f"the program refuses the machine: {done.stderr.strip()}")
-        study = Study(machine, read_work(work_path) if work_path else None)
+        study = kind(machine, read_work(work_path) if work_path else None)
         prepare(study)
         with open(schedule, encoding="ascii") as lines:
             return study.follow(lines)
