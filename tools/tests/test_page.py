@@ -44,6 +44,10 @@ class Page(unittest.TestCase):
         self.timeline = Timeline(read_machine(domains)).follow(lines)
         self.browser.load(self.page)
         self.assertEqual(self.browser.errors(), [])
+        self.measure()
+
+    def measure(self):
+        """Where the timeline is: its left, top, width and height in pixels."""
         self.box = self.browser.value("(() => { const it = canvas.getBoundingClientRect(); return [it.left, it.top, it.width, it.height]; })()")
 
     def view(self):
@@ -52,6 +56,7 @@ class Page(unittest.TestCase):
 
     def place(self, moment, row=44):
         """The pixel of a moment in the whole view, in the first processor's row."""
+        self.measure()
         left, top, wide, _ = self.box
         return left + LEFT + (wide - LEFT - RIGHT) * moment / self.timeline.end, top + row
 
