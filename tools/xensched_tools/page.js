@@ -624,6 +624,7 @@ spacer.style.height = whole + 6 + "px";
 document.documentElement.dataset.boxes = machines.flatMap((it) => it.bars).reduce((sum, it) => sum + it.begin.length, 0);
 frame.addEventListener("scroll", redraw);
 window.addEventListener("resize", redraw);
+new ResizeObserver(redraw).observe(spacer);
 window.addEventListener("beforeprint", drawForPaper);
 window.addEventListener("afterprint", drawForScreen);
 window.addEventListener("hashchange", followHash);
