@@ -1,10 +1,13 @@
 """Colours that can be read, the size of a picture, and the tracks, flows and counters of a trace."""
+import hashlib
 import json
+import pathlib
 import re
+import tempfile
 import unittest
 import xml.dom.minidom
 
-from support import TOP, stored
+from support import TOP, call, stored
 from xensched_tools.colours import DIM, GROUND, PALETTE, STRIPES, colour, text_colour
 from xensched_tools.machine import read_machine
 from xensched_tools.page import domain_data
@@ -41,6 +44,16 @@ class Colours(unittest.TestCase):
         for d in range(len(PALETTE)):
             parts = [round(DIM * int(PALETTE[d][k : k + 2], 16) + (1 - DIM) * int(GROUND[k : k + 2], 16)) for k in (1, 3, 5)]
             self.assertGreaterEqual(contrast("#" + "".join(f"{part:02x}" for part in parts), domain_data(d, "a")["dimmed"]), 4.5)
+
+
+class Origins(unittest.TestCase):
+    def test_a_schedule_from_standard_input_has_its_sum(self):
+        text = (EXAMPLE / "schedule.txt").read_text()
+        with tempfile.TemporaryDirectory() as folder:
+            page = pathlib.Path(folder) / "page.html"
+            done = call("tools/study", EXAMPLE / "domains.toml", "-", "--html", page, text=text)
+            self.assertEqual(done.returncode, 0, done.stderr)
+            self.assertIn(f"<dt>the schedule</dt><dd>{hashlib.sha256(text.encode()).hexdigest()}</dd>", page.read_text())
 
 
 class Pictures(unittest.TestCase):
