@@ -1,12 +1,15 @@
 """What tools/plan looks for: the steps of its climb, the order of its answers, the xl commands; and a search on a small machine where the program is built."""
+import math
 import pathlib
+import random
 import tempfile
 import unittest
 
-from support import PROGRAM, TOP, call
-from xensched_tools import planning
+from support import PROGRAM, TOP, call, called
+from xensched_tools import framing, planning
 from xensched_tools.machine import read_machine
 from xensched_tools.planning import Answer
+from xensched_tools.words import Refused
 
 LATENCY = "examples/answers/latency.toml"
 FILE = '''format = 1
@@ -70,6 +73,50 @@ class Commands(unittest.TestCase):
         self.assertEqual(self.commands(pool__rt__cpus="2-3"), ["xl cpupool-cpu-remove one 2", "xl cpupool-cpu-add rt 2"])
         self.assertEqual(self.commands(granularity="2")[-1].split(":")[0], "# boot with sched-gran=core")
         self.assertEqual(self.commands(web__cap="0", web__weight="512"), [])
+
+
+class Frames(unittest.TestCase):
+    def given(self, windows, wish):
+        """What the windows give to a wish in each of its periods."""
+        found, now = {}, 0
+        for it, span in windows:
+            for moment in range(now, now + span):
+                if it is wish:
+                    found[moment // wish.period] = found.get(moment // wish.period, 0) + 1
+            now += span
+        return found, now
+
+    def test_each_has_its_run_in_each_period(self):
+        draw, full = random.Random("frames"), 0
+        for _ in range(200):
+            wishes = [framing.Wish("w", k, 0, draw.randrange(1, 5), draw.choice((4, 6, 8, 12))) for k in range(draw.randrange(1, 5))]
+            needed = sum(24 // wish.period * wish.run for wish in wishes)
+            if needed > 24:
+                with self.assertRaises(Refused):
+                    framing.frame_of(wishes)
+                continue
+            major, windows = framing.frame_of(wishes)
+            full += needed == 24
+            self.assertEqual(major, math.lcm(*(wish.period for wish in wishes)))
+            for wish in wishes:
+                found, end = self.given(windows, wish)
+                self.assertLessEqual(end, major)
+                self.assertGreaterEqual(min(found.get(k, 0) for k in range(major // wish.period)), wish.run)
+        self.assertGreater(full, 0)
+
+    def test_its_lines(self):
+        status, out, err = called("tools/plan", "examples/answers/promises.toml", "--frame", "flight", "--window", "control=6ms/20ms", "--window", "radio=2ms/10ms")
+        # radio has to be done first, then control; at 10 ms radio again, and what is left behind it is nobody's
+        self.assertEqual((status, err, out.splitlines()[-2:]), (0, "", ["major_ns = 20000000", "frame = [[1, 0, 2000000], [0, 0, 8000000], [1, 0, 2000000]]"]))
+        self.assertIn("# control asks for 6 of each 20 ms, and has 8 ms in 1 window", out.splitlines())
+
+    def test_wrong_words(self):
+        for words in (["--frame", "flight"], ["--window", "control=1ms/2ms"], ["--frame", "rest", "--window", "log=1ms/2ms"], ["--frame", "flight", "--window", "servo=1ms/2ms"],
+                      ["--frame", "flight", "--window", "control=3ms/2ms"], ["--frame", "flight", "--window", "control=1ms"], ["--frame", "flight", "--window", "control/1=1ms/2ms"],
+                      ["--frame", "flight", "--window", "control=6ms/10ms", "--window", "radio=5ms/10ms"], ["--frame", "flight", "--window", "control=1ms/10ms", "--window", "radio=1ms/9999us"]):
+            with self.subTest(words=words):
+                status, out, err = called("tools/plan", "examples/answers/promises.toml", *words)
+                self.assertEqual((status, out, len(err.splitlines())), (2, "", 1), err)
 
 
 @unittest.skipUnless(PROGRAM.exists(), "the program is not built")

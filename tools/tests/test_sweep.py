@@ -33,6 +33,17 @@ class Keys(unittest.TestCase):
             with self.subTest(path=path), self.assertRaises(Refused):
                 sweeping.varied(read_machine(TOP / LATENCY), {path: value})
 
+    def test_pins_of_larger_units(self):
+        machine = self.machine(web__pins="1-2")
+        web = next(domain for domain in machine.domains if domain.name == "web")
+        web.pins[1] = [0, 2]
+        pins = {size: [domain.pins for domain in making.with_granularity(machine, size).domains] for size in (1, 2, 4)}
+        self.assertEqual(pins, {1: [None, [[1, 2], [0, 2]], None], 2: [None, [[0, 1, 2]], None], 4: [None, [[0, 1, 2]], None]})
+        back = making.with_granularity(making.with_granularity(machine, 2), 1)
+        self.assertEqual(back.domains[1].pins, [[0, 1, 2], [0, 1, 2]])
+        with self.assertRaises(Refused):
+            self.machine(granularity="0")
+
     def test_processors_go_between_pools(self):
         with tempfile.NamedTemporaryFile("w", suffix=".toml") as file:
             file.write('format = 1\nprocessors = 4\nhorizon_ns = 1000\n[[pool]]\nname = "one"\nsched = "credit2"\ncpus = [0, 1]\n[[pool]]\nname = "two"\nsched = "null"\ncpus = [2, 3]\n'

@@ -209,8 +209,8 @@ def before(lines, moment):
     return list(itertools.takewhile(lambda line: not line.startswith(f"{moment} "), lines))
 
 
-def studied(machine, work, host, tool, prepare=lambda study: None):
-    """The study of the machine's schedule by Xen's code; `work` is the path of the work file, None for none."""
-    study = Study(machine, read_work(work) if work else None)
+def studied(machine, work, host, tool, prepare=lambda study: None, kind=Study):
+    """The study of the machine's schedule by Xen's code, of this class; `work` is the path of the work file, None for none."""
+    study = kind(machine, read_work(work) if work else None)
     prepare(study)
     return study.follow(schedule(machine, pathlib.Path(work).read_text() if work else "", host, tool))

@@ -2,7 +2,7 @@
 import json
 
 from . import tables
-from .words import milliseconds, percent
+from .words import Refused, milliseconds, percent
 
 # The figures that are compared, by what they mean to who asks: what was promised and not kept; how long it takes and how much there is; the rest.
 CLASSES = [
@@ -19,15 +19,35 @@ NAMES = {"vcpus": ["vcpu", "name"], "limits": ["vcpu", "name", "kind"], "terms":
 NOT_OF_A_HOST = ("jobs", "terms", "windows", "caps")
 
 
-def figures_of(records, left_out=()):
+# The columns by which a row is of a domain, a vCPU, a unit, a pool or a core.
+SUBJECTS = ("domain", "vcpu", "unit", "pool", "core", "name")
+
+
+class Chosen:
+    """Whose rows are compared: those of the domains, vCPUs, units, pools and cores that are named, or all where none is. A pool means its domains too."""
+
+    def __init__(self, names, all_records):
+        found = {record[key] for records in all_records for table in NAMES for record in records.get(table, []) for key in SUBJECTS if key in record}
+        domains = [record for records in all_records for record in records.get("domains", [])]
+        for name in names:
+            if name not in found:
+                raise Refused(f"no machine has a domain, vCPU, unit, pool or core {name!r}; the domains are {', '.join(dict.fromkeys(it['name'] for it in domains))}")
+        self.names = {*names, *(it["name"] for it in domains if it["domain"] in names or it["pool"] in names)}
+
+    def has(self, record):
+        """Whether the row is one of theirs."""
+        return not self.names or any(record.get(key) in self.names for key in SUBJECTS)
+
+
+def figures_of(records, chosen, left_out=()):
     """Each figure by its class, table, row and key, from the tables as JSON has them."""
     found = {}
-    for rank, chosen in enumerate(CLASSES):
-        for table, keys in chosen.items():
+    for rank, tables_of_class in enumerate(CLASSES):
+        for table, keys in tables_of_class.items():
             if table in left_out:
                 continue
             for record, name in named(table, records.get(table, [])):
-                for key in keys:
+                for key in keys if chosen.has(record) else ():
                     full = key if key in record else f"{key}_ns"
                     found[rank, table, name, full] = record[full]
     return found
@@ -66,11 +86,14 @@ def as_text(names, rows):
         yield "  ".join(cell.ljust(w) if k < 2 else cell.rjust(w) for k, (cell, w) in enumerate(zip(row, wide))).rstrip()
 
 
-def compared(all_records):
-    """A row for each figure that differs: table, name, key, the values, and how much they differ, as a part of the greatest value that any row has for that key. The classes come in their order, in each the greatest difference first."""
+def compared(all_records, of=()):
+    """A row for each figure that differs: table, name, key, the values, and how much they differ, as a part of the greatest value that any row has for that key. The classes come in their order, in each the greatest difference first.
+    With `of` the rows of these names alone."""
     of_a_host = any("guests" in records.get("run", {}) for records in all_records)
-    each = [figures_of(records, NOT_OF_A_HOST if of_a_host else ()) for records in all_records]
-    names = dict.fromkeys(name for figures in each for name in figures)
+    chosen, everybody = Chosen(of, all_records), Chosen((), all_records)
+    left_out = NOT_OF_A_HOST if of_a_host else ()
+    each = [figures_of(records, everybody, left_out) for records in all_records]
+    names = dict.fromkeys(name for records in all_records for name in figures_of(records, chosen, left_out))
     greatest = {}
     for figures in each:
         for (_, table, _, key), value in figures.items():

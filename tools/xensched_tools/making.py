@@ -44,7 +44,7 @@ def with_setting(machine, path, value):
     if path == "horizon_ns":
         return dataclasses.replace(machine, horizon=value)
     if path == "granularity":
-        return dataclasses.replace(machine, granularity=value)
+        return with_granularity(machine, value)
     if path == "sched":
         return with_schedulers(machine, {None: value})
     if subject.startswith("pool."):
@@ -52,6 +52,21 @@ def with_setting(machine, path, value):
     if subject not in [domain.name for domain in machine.domains]:
         raise Refused(f"{path!r} names no key: write DOMAIN.KEY, pool.POOL.KEY, sched, granularity or horizon_ns")
     return dataclasses.replace(machine, domains=[domain_with(machine, domain, key, value) if domain.name == subject else domain for domain in machine.domains])
+
+
+def with_granularity(machine, size):
+    """The machine with cores of so many processors. A unit may go where one of its vCPUs may, as tools/from-xl has it."""
+    if size not in (1, 2, 4):
+        raise Refused(f"{size} is no granularity: 1, 2 or 4")
+    return dataclasses.replace(machine, granularity=size, domains=[dataclasses.replace(domain, pins=pins_together(domain, machine.granularity, size)) for domain in machine.domains])
+
+
+def pins_together(domain, old, new):
+    """The pins of a domain whose units had so many vCPUs and have others now."""
+    if domain.pins is None:
+        return None
+    each = [domain.pins[vcpu // old] for vcpu in range(len(domain.guests))]
+    return [sorted({cpu for pins in each[first : first + new] for cpu in pins}) for first in range(0, len(each), new)]
 
 
 def with_pool_setting(machine, name, key, value):
@@ -135,8 +150,8 @@ def get_ready():
         raise Refused(f"the program {PROGRAM} does not run")
 
 
-def run(machine, work_path=None, prepare=lambda study: None):
-    """The study of the machine's ordered run with this work file, None for none; `prepare` is told the study before it begins."""
+def run(machine, work_path=None, prepare=lambda study: None, kind=Study):
+    """The study of the machine's ordered run with this work file, None for none; `prepare` is told the study before it begins, `kind` is its class."""
     for domain in machine.domains:
         if None in domain.guests:
             raise Refused(f"what the vCPUs of {domain.name} do is not known, so there is nothing to run: its schedule can be studied (tools/study --json)")
@@ -148,7 +163,7 @@ def run(machine, work_path=None, prepare=lambda study: None):
             done = subprocess.run([PROGRAM, "run", "--ordered", "--events", str(MOST_ENTRIES), domains, work_path or empty], stdout=out, stderr=subprocess.PIPE, text=True)
         if done.returncode not in (0, 7):
             raise Refused(f"the program refuses the machine: {done.stderr.strip()}")
-        study = Study(machine, read_work(work_path) if work_path else None)
+        study = kind(machine, read_work(work_path) if work_path else None)
         prepare(study)
         with open(schedule, encoding="ascii") as lines:
             return study.follow(lines)

@@ -652,7 +652,7 @@ class Study(Follower):
     def cap_set(self, domain):
         self._open_cap(domain)
 
-    def refilled(self, domain, periods):
+    def refilled(self, domain, periods, budget):
         caps = domain.tally.caps
         cap = caps.cap
         if caps.begin is not None:

@@ -1,9 +1,10 @@
 """Draws a timeline as text, as a picture in SVG, or as a trace for Perfetto."""
 import collections
-import json
+import itertools
 from xml.sax.saxutils import escape
 
 from .colours import HELD_COLOUR, LATE_COLOUR, PAUSED_COLOUR, STRIPES, WAITS_COLOUR, colour, text_colour
+from .perfetto import as_trace
 from .schedule import HELD, IDLE, PAUSED
 from .timeline import MARK_KINDS
 from .words import milliseconds
@@ -11,6 +12,8 @@ from .words import milliseconds
 SIGNS = "0123456789abcdefghijklmnopqrstuvwxyzABCDEFGHIJKLMNOPQRSTUVWXYZ+*"
 MARK_LINES = 12
 CHARACTER = 6.2
+# A bar of fewer pixels has no words: all such of a colour are one path.
+WORDED = 4
 
 
 class View:
@@ -193,21 +196,26 @@ class Picture:
             yield f'<text x="{self.LEFT - 8}" y="{y + 8}" text-anchor="end" font-size="9">{escape(vcpu.domain.name[:10])} {vcpu.name}</text>'
 
     def _bars(self, spans, rows, row_of, high, drawn):
-        """The bars; those under a pixel are merged: a column of a pixel has the colour of the domain that had most of it, as high as all had of it."""
-        narrow = collections.defaultdict(collections.Counter)
+        """The bars. Narrow ones are boxes of one path a colour, unless they were decided late; those under a pixel are merged: a column of a pixel has
+        the colour of the domain that had most of it, as high as all had of it."""
+        narrow, small = collections.defaultdict(collections.Counter), collections.defaultdict(list)
         for span in spans:
-            y = rows.get(row_of(span))
+            y, width = rows.get(row_of(span)), (span.end - span.begin) * self.scale
             if y is None or span.doing is IDLE:
                 continue
-            if (span.end - span.begin) * self.scale >= 1:
-                yield drawn(span, y)
+            what = span.doing if span.doing is HELD else span.doing.domain.index
+            if width < 1:
+                narrow[y, int(self.x(span.begin))][what] += span.end - span.begin
+            elif width < WORDED and not span.late:
+                small[fill_of(what)].append((self.x(span.begin), y, width))
             else:
-                narrow[y, int(self.x(span.begin))][span.doing if span.doing is HELD else span.doing.domain.index] += span.end - span.begin
+                yield drawn(span, y)
+        yield from boxes(small, high)
         columns = []
         for (y, x), counter in sorted(narrow.items()):
             part = min(1.0, sum(counter.values()) * self.scale)
             (what, _), *_ = counter.most_common(1)
-            columns.append((HELD_COLOUR if what is HELD else colour(what)[0], x, y + high, max(1, round(high * part))))
+            columns.append((fill_of(what), x, y + high, max(1, round(high * part))))
         yield from merged(columns)
 
     def _leg(self, leg, y):
@@ -238,15 +246,19 @@ class Picture:
         """A thin row a vCPU: it runs, it waits for a processor, it is paused, or it sleeps (nothing)."""
         runs = [leg for leg in self.view.legs if not isinstance(leg.doing, str)]
         yield from self._bars(runs, self.vcpu_rows, lambda leg: leg.doing, self.LOW, lambda leg, y: self._thin(leg, y, colour(leg.doing.domain.index)[0], f"{leg.doing.name} runs on p{leg.processor}"))
-        narrow = collections.Counter()
+        narrow, small = collections.Counter(), collections.defaultdict(list)
         for it in self.view.waits:
-            y = self.vcpu_rows.get(it.vcpu)
+            y, width = self.vcpu_rows.get(it.vcpu), (it.end - it.begin) * self.scale
+            fill, words = (PAUSED_COLOUR, "is paused") if it.state == PAUSED else (WAITS_COLOUR, "waits")
             if y is None:
                 continue
-            if (it.end - it.begin) * self.scale >= 1:
-                yield self._thin(it, y + 2, PAUSED_COLOUR if it.state == PAUSED else WAITS_COLOUR, f"{it.vcpu.name} {'is paused' if it.state == PAUSED else 'waits'}", self.LOW - 4)
+            if width < 1:
+                narrow[y, int(self.x(it.begin))] += width
+            elif width < WORDED:
+                small[fill].append((self.x(it.begin), y + 2, width))
             else:
-                narrow[y, int(self.x(it.begin))] += (it.end - it.begin) * self.scale
+                yield self._thin(it, y + 2, fill, f"{it.vcpu.name} {words}", self.LOW - 4)
+        yield from boxes(small, self.LOW - 4)
         yield from merged([(WAITS_COLOUR, x, y + self.LOW - 2, max(1, round((self.LOW - 4) * min(1, part)))) for (y, x), part in sorted(narrow.items())])
 
     def _thin(self, it, y, fill, text, high=None):
@@ -296,18 +308,38 @@ def sample(x, y, fill, stripes):
     return box + (f'<rect x="{x:.0f}" y="{y}" width="12" height="12" fill="url(#stripes{stripes})"/>' if stripes else "")
 
 
+def fill_of(what):
+    """The colour of a wait for a sibling, or of a domain by its number."""
+    return HELD_COLOUR if what is HELD else colour(what)[0]
+
+
+def boxes(by_fill, high):
+    """Boxes of one height, each a place and a width, as one path a colour."""
+    for fill, those in by_fill.items():
+        path = "".join(f"M{x:.1f} {y}h{width:.1f}v{high}h-{width:.1f}z" for x, y, width in those)
+        yield f'<path class="narrow" d="{path}" fill="{fill}"/>'
+
+
 def merged(columns):
-    """Columns of a pixel, each a colour, a place, a foot and a height, as one path a colour; equal neighbours are one box."""
-    paths, before = collections.defaultdict(list), None
+    """Columns of a pixel, each a colour, a place, a foot and a height, as one path a colour; neighbours of a colour are one outline."""
+    paths, outline, before = collections.defaultdict(list), None, None
     for fill, x, foot, high in columns:
-        if before and before[0] == (fill, foot, high) and before[2] == x:
-            before[2] += 1
-            continue
-        before = [(fill, foot, high), x, x + 1]
-        paths[fill].append(before)
-    for fill, boxes in paths.items():
-        path = "".join(f"M{begin} {foot}v-{high}h{end - begin}v{high}z" for (_, foot, high), begin, end in boxes)
-        yield f'<path class="merged" d="{path}" fill="{fill}"/>'
+        if before != (fill, foot, x):
+            outline = []
+            paths[fill].append((x, foot, outline))
+        outline.append(high)
+        before = fill, foot, x + 1
+    for fill, outlines in paths.items():
+        yield f'<path class="merged" d="{"".join(outline_of(*it) for it in outlines)}" fill="{fill}"/>'
+
+
+def outline_of(x, foot, heights):
+    """The outline of columns that stand side by side."""
+    path, before = f"M{x} {foot}", 0
+    for high, those in itertools.groupby(heights):
+        path += f"v{before - high}h{len(list(those))}"
+        before = high
+    return f"{path}v{before}z"
 
 
 def told(leg):
@@ -319,34 +351,6 @@ def told(leg):
 def as_svg(view, columns, rows):
     """A picture, ten pixels a column."""
     return Picture(view, 10 * columns, rows).draw()
-
-
-def as_trace(view, columns, rows):
-    """The trace-event format: a track a processor, a track a unit, a track a vCPU's waits, and the marks. Times are in microseconds."""
-    timeline = view.timeline
-    units = {unit: k for k, unit in enumerate(timeline.units.values())}
-    vcpus = {vcpu: k for k, vcpu in enumerate(timeline.vcpus.values())}
-    tracks = [(1, "processors", {p: f"p{p}" for p in range(timeline.machine.processors)}), (2, "units", {k: f"{unit.domain.name} {unit.name}" for unit, k in units.items()}),
-              (3, "what happens", {0: "stalls, commands, moves"}), (4, "waits", {k: f"{vcpu.domain.name} {vcpu.name}" for vcpu, k in vcpus.items()})]
-    events = []
-    for pid, name, threads in tracks:
-        events.append({"ph": "M", "name": "process_name", "pid": pid, "args": {"name": name}})
-        events += [{"ph": "M", "name": "thread_name", "pid": pid, "tid": tid, "args": {"name": text}} for tid, text in threads.items()]
-
-    def slice_of(pid, tid, name, kind, it, **args):
-        events.append({"ph": "X", "cat": kind, "name": name, "pid": pid, "tid": tid, "ts": it.begin / 1000, "dur": (it.end - it.begin) / 1000, "args": args})
-
-    for leg in view.legs:
-        if leg.doing is HELD:
-            slice_of(1, leg.processor, "waits for a sibling", "held", leg)
-        elif leg.doing is not IDLE:
-            slice_of(1, leg.processor, f"{leg.doing.domain.name} {leg.doing.name}", "run", leg, due=leg.due, late=leg.late)
-    for stay in view.stays:
-        slice_of(2, units[stay.unit], f"core {stay.core}", "stay", stay)
-    for it in view.waits:
-        slice_of(4, vcpus[it.vcpu], "is paused" if it.state == PAUSED else "waits", "wait", it)
-    events += [{"ph": "i", "name": mark.text, "cat": mark.kind, "pid": 3, "tid": 0, "ts": mark.at / 1000, "s": "g"} for mark in view.marks]
-    yield json.dumps({"displayTimeUnit": "ns", "traceEvents": events})
 
 
 FORMS = {"text": as_text, "svg": as_svg, "trace": as_trace}

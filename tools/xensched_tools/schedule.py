@@ -295,8 +295,8 @@ class Follower:
     def replenished(self, unit, start, deadline, budget, extra):
         """Told that the unit has its new period."""
 
-    def refilled(self, domain, periods):
-        """Told that the domain's cap was refilled for so many periods."""
+    def refilled(self, domain, periods, budget):
+        """Told that the domain's cap was refilled for so many periods, and the budget that it has then."""
 
     def stalled(self, processor, until):
         """Told that the processor stalls."""
@@ -449,7 +449,7 @@ class Follower:
         self.replenished(unit, int(words[4]), int(words[6]), int(words[8]), words[10] == "1")
 
     def _refill(self, words):
-        self.refilled(self.domains[words[2]], int(words[4]))
+        self.refilled(self.domains[words[2]], int(words[4]), int(words[6]))
 
     def _stall(self, words):
         self.stalled(self.processors[words[2]], int(words[4]))

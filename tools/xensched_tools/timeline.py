@@ -10,6 +10,8 @@ Stay = collections.namedtuple("Stay", "core begin end unit")
 Wait = collections.namedtuple("Wait", "vcpu begin end state")  # state: WAITS or PAUSED
 Stall = collections.namedtuple("Stall", "processor begin end")
 Housed = collections.namedtuple("Housed", "core begin end home")  # home: the pool's name, or "free"
+Period = collections.namedtuple("Period", "unit at start deadline budget")  # of an RTDS unit; at: when it was replenished
+Refill = collections.namedtuple("Refill", "domain at budget")  # of a cap
 Mark = collections.namedtuple("Mark", "at kind text")  # kind: one of MARK_KINDS
 
 MARK_KINDS = {"refused": "#b00020", "done": "#00703c", "moved": "#0050b0", "stall": "#707070"}
@@ -21,6 +23,7 @@ class Timeline(Follower):
     def __init__(self, *given):
         super().__init__(*given)
         self.legs, self.stays, self.waits, self.stalls, self.housed, self.marks = [], [], [], [], [], []
+        self.periods, self.refills = [], []
         self._home_since = dict.fromkeys(self.core_list, (0, "free"))
         for core in self.core_list:
             if core.home is not None:
@@ -51,6 +54,16 @@ class Timeline(Follower):
             self.stalls.append(Stall(processor.index, max(self.now, self.begin), until))
         self._mark("stall", f"p{processor.index} stalls to {milliseconds(until)} ms")
         super().stalled(processor, until)
+
+    def replenished(self, unit, start, deadline, budget, extra):
+        if deadline > self.begin:
+            self.periods.append(Period(unit, self.now, start, deadline, budget))
+        super().replenished(unit, start, deadline, budget, extra)
+
+    def refilled(self, domain, periods, budget):
+        if self.now >= self.begin:
+            self.refills.append(Refill(domain, self.now, budget))
+        super().refilled(domain, periods, budget)
 
     def answered_command(self, number, command, answer):
         said = " ".join(command.words) if command else f"command {number}"

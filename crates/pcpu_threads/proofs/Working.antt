@@ -157,8 +157,6 @@ pub full-rests : (actor : Actor) (old new : Seated) → Stays old new → (f : F
 full-rests actor old new stays f told = record { between = new.sitting.view.front; begins = told.looked.begins; goes_on = prefix_refl new.sitting.view.front; rests = inr (told.full_is.length_is ∙ stays.limit) }
 
 -- the same where the processor rested, or waited for its siblings
-module _ (hall : LockTable) (p : ProcId) (old mid new : Seated) (w : ActsAs (Proc p) old mid) where
-
 pub rests-or-waits-on : (hall : LockTable) (p : ProcId) (old mid new : Seated) → Stays old mid → IsPrefix old.sitting.view.front mid.sitting.view.front → IsPrefix mid.sitting.view.front new.sitting.view.front
     → Rested (Proc p) old mid ⊎ HasWaited hall p old mid → Rested (Proc p) old new ⊎ HasWaited hall p old new
 rests-or-waits-on hall p old mid new stays first second either = elim either [
