@@ -4,6 +4,7 @@ import csv
 import decimal
 import io
 import itertools
+import math
 import pathlib
 import random
 import tempfile
@@ -24,6 +25,21 @@ DHALL = [Task(10_000, 2_000), Task(10_000, 2_000), Task(11_000, 10_000)]
 
 def halves(count):
     return [Task(2_000, 1_000)] * count
+
+
+def misses(tasks, processors):
+    """Whether global EDF misses a deadline up to the hyperperiod, step by step, where all tasks begin together."""
+    left, step = [0] * len(tasks), math.gcd(*(it for task in tasks for it in (task.period, task.budget)))
+    for now in range(0, math.lcm(*(task.period for task in tasks)) + 1, step):
+        for k, task in enumerate(tasks):
+            if now % task.period == 0:
+                if left[k]:
+                    return True
+                left[k] = task.budget
+        ready = sorted((now - now % tasks[k].period + tasks[k].period, k) for k in range(len(tasks)) if left[k])
+        for _, k in ready[:processors]:
+            left[k] -= step
+    return False
 
 
 class Made(unittest.TestCase):
@@ -104,6 +120,19 @@ class Tests(unittest.TestCase):
         for budget, span, wanted in ((1, 14, 4), (3, 14, 11), (3, 3, 3), (3, 2, 2), (2, 12, 6)):
             with self.subTest(budget=budget, span=span):
                 self.assertEqual(schedulability.work_within(Task(4, budget), span), wanted)
+
+    def test_no_set_that_passes_misses(self):
+        draw, only = random.Random("edf"), {"gfb": 0, "bcl": 0}
+        for _ in range(400):
+            tasks = [Task(period, draw.randrange(1, 1 + period * 3 // 4)) for period in (draw.choice((4, 5, 6, 8, 10, 12)) for _ in range(draw.randrange(2, 6)))]
+            passed = [name for name, test in schedulability.TESTS.items() if test(tasks, 2)]
+            if passed:
+                self.assertFalse(misses(tasks, 2), tasks)
+            if len(passed) == 1:
+                only[passed[0]] += 1
+        # neither test follows from the other
+        self.assertGreater(min(only.values()), 0)
+        self.assertTrue(misses(DHALL, 2))
 
     def test_exact_at_the_border(self):
         # five thirds are just 2 - 1/3, which no rounding may spoil

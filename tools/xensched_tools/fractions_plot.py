@@ -49,9 +49,10 @@ def intervals(axes, rows):
 
 def legend():
     """The names of the lines."""
-    for k, (name, (colour, dashes)) in enumerate(LOOKS.items()):
-        x = LEFT + 168 * k
+    x = LEFT
+    for name, (colour, dashes) in LOOKS.items():
         yield f'<path d="M{x} {HIGH - 12}h22" stroke="{colour}" stroke-width="2.2" stroke-dasharray="{dashes}"/><text x="{x + 27}" y="{HIGH - 8}">{escape(NAMES[name])}</text>'
+        x += 50 + 6 * len(NAMES[name])
 
 
 def picture(title, rows):

@@ -75,6 +75,7 @@ def lines_of(pool, wishes):
     yield f"# the pool {pool}: {len(windows)} windows in {milliseconds(major)} ms, of which {milliseconds(major - given)} ms are nobody's"
     for wish in wishes:
         spans = [span for it, span in windows if it is wish]
-        yield f"# {wish.name} asks for {milliseconds(wish.run)} of each {milliseconds(wish.period)} ms, and has {milliseconds(sum(spans))} ms in {len(spans)} {'window' if len(spans) == 1 else 'windows'}"
+        count = f"{len(spans)} {'window' if len(spans) == 1 else 'windows'}"
+        yield f"# {wish.name} asks for {milliseconds(wish.run)} of each {milliseconds(wish.period)} ms, and has {milliseconds(sum(spans))} ms in {count}"
     yield f"major_ns = {major}"
     yield f"frame = {[[wish.domain, wish.unit, span] for wish, span in windows]}"
