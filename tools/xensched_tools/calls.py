@@ -1,4 +1,4 @@
-"""Calls of the program with a limit of time, and what each may end with: the statuses of README.md and the lines of docs/FORMATS.md."""
+"""Calls of the program with a limit of time, and what each may end with: the statuses and the lines of docs/FORMATS.md."""
 import os
 import re
 import subprocess

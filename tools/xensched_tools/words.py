@@ -1,4 +1,5 @@
 """Times as people write them, and how a tool ends: with a sentence and a status, never with a traceback."""
+import contextlib
 import os
 import re
 import sys
@@ -47,7 +48,9 @@ def percent(part):
 
 
 def warn(name, text):
-    """One line on standard error."""
+    """One line on standard error, behind what was written before it, also where both go to one place."""
+    with contextlib.suppress(OSError, ValueError):
+        sys.stdout.flush()
     print(f"{name}: {text}", file=sys.stderr)
 
 
