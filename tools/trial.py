@@ -14,12 +14,15 @@ import shutil
 import signal
 import subprocess
 import tempfile
+import time
 
 import built
 import children
 from built import say
 
 LOG = built.TRIAL.with_name("build.log")
+# How many seconds pass between two lines that say that a trial is being built.
+TELL = 30
 # A run that ends soon, for the call that builds.
 SMALL = ["make", "1", "1", "1", "domains"]
 # The status with which a run ends where a check fails. The program has none so high.
@@ -66,10 +69,20 @@ def watched_kit(to, kept):
     return to / "bin" / "rt"
 
 
+def output_of(process, tell):
+    """What the toolchain wrote, when it is over. It compiles all crates as one and says nothing before, so `tell` is told now and then how many seconds have passed."""
+    begun = time.monotonic()
+    while True:
+        try:
+            return process.communicate(timeout=TELL)[0]
+        except subprocess.TimeoutExpired:
+            tell(round(time.monotonic() - begun))
+
+
 @contextlib.contextmanager
-def made(change=lambda repository: None):
-    """The sum of the sources and the program that a trial build of them makes, for as long as it is wanted; `change` may edit their copy first. None in place of
-    the program where the toolchain keeps none."""
+def made(change=lambda repository: None, tell=lambda seconds: None):
+    """The sum of the sources and the program that a trial build of them makes, for as long as it is wanted; `change` may edit their copy first, and `tell` is told
+    the seconds that have passed. None in place of the program where the toolchain keeps none."""
     with children.room("xensched-trial") as room:
         repository, kept = room / "repository", room / "kept"
         repository.mkdir()
@@ -81,7 +94,7 @@ def made(change=lambda repository: None):
         with open(LOG, "wb") as log:
             process = children.start(words, repository / "crates" / built.CRATE, room, stdout=subprocess.PIPE, stderr=log)
         try:
-            wrote = process.communicate()[0]
+            wrote = output_of(process, tell)
         finally:
             children.end(process, room)
         if process.returncode or not wrote.startswith(b"format = 1\n"):
@@ -91,7 +104,10 @@ def made(change=lambda repository: None):
 
 def build(kit):
     """Builds the trial of the sources as they are, and puts it where the launcher finds it. Where it cannot be kept, its stamp says so."""
-    with made() as (sources, kept), tempfile.NamedTemporaryFile("w") as none:
+    def tell(seconds):
+        say(f"the trial is being built since {seconds} seconds: {len(built.crates_below())} crates, compiled as one")
+
+    with made(tell=tell) as (sources, kept), tempfile.NamedTemporaryFile("w") as none:
         none.write("#!/bin/sh\n# A trial that could not be kept: the launcher runs `rt try` in its place.\nexit 70\n")
         none.flush()
         built.put_in_place(built.TRIAL, kept or none.name, {"kit": kit, "proof": "none", "kept": "yes" if kept else "no"}, sources)
@@ -120,7 +136,7 @@ def ready(sources):
                 say("another call is building a trial of these sources now: waiting for it")
                 fcntl.flock(lock, fcntl.LOCK_EX)
             if not stamp_of_these(sources):
-                say("a trial of these sources is being built now, once: some two minutes")
+                say(f"a trial of these sources, {len(built.crates_below())} crates, is being built now, once: some two minutes")
                 build(kit)
     except OSError as fault:
         raise NotBuilt(f"the trial could not be built: {fault}") from fault

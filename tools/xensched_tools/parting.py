@@ -128,7 +128,7 @@ class Parting:
             return
         wide = max(map(len, self.names))
         number, at, entries = self.differs
-        yield f"Equal at the beginning: {self.equal} entries. Entry {number} is"
+        yield f"Equal at the beginning: {self.equal} {'entry' if self.equal == 1 else 'entries'}. Entry {number} is"
         yield from (f"  {name.ljust(wide)}  {entry or self._no_entry(k, at)}" for k, (name, entry) in enumerate(zip(self.names, entries)))
         if self.parted is None:
             yield f"Up to where {self.cut()[0]} is cut each processor does the same in both." if self.cut() else "Each processor does the same at each moment in both: only the entries differ."

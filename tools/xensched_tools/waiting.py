@@ -16,6 +16,7 @@ BY_STALL = "a stall: the core cannot decide"
 BY_SIBLINGS = "the core decides, and waits until all of its processors are there"
 BY_SAVE = "the core still switches out another unit"
 BY_LEAVING = "the core is leaving the pool, and takes no unit"
+BY_CUT = "nobody has the core, and the schedule ends before it decides"
 UNKNOWN = "by nothing that the schedule shows"
 
 
@@ -294,6 +295,8 @@ class Answer:
         if switched:
             return f"{text}; {switched.name} is switched out", BY_SAVE
         more, rule = AGAINST.get(self.home.sched, unknown)(self, core, holder)
+        if rule == UNKNOWN and holder is None and not self._stalls(core):
+            return text, BY_CUT
         return f"{text}{more}", self._or_stall(core, rule)
 
     def _or_stall(self, core, rule):
