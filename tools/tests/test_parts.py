@@ -176,7 +176,7 @@ class Words(unittest.TestCase):
         self.assertIn("Counted from 11 to 21 ms alone", text)
         data = json.loads(re.search(r'<script type="application/json" id=data>(.*?)</script>', text)[1])
         self.assertEqual((data["begin"], data["end"]), (11 * MS, 21 * MS))
-        bars, at = unpacked(data["bars"][0]), 0
+        bars, at = unpacked(data["machines"][0]["bars"][0]), 0
         found = []
         for k in range(0, len(bars), 4):
             begin = at + bars[k]
