@@ -146,7 +146,9 @@ class WrongInput(unittest.TestCase):
     def test_a_closed_output(self):
         import subprocess, sys
         done = subprocess.run(["bash", "-c", f"{sys.executable} tools/study {' '.join(FILES)} | head -n 1; exit ${{PIPESTATUS[0]}}"], cwd=TOP, capture_output=True, text=True)
-        self.assertEqual((done.returncode, done.stderr), (0, f"{EXTRA}\n"))
+        # what it says of the machine comes only where the reader has not gone before
+        self.assertEqual(done.returncode, 0)
+        self.assertIn(done.stderr, ("", f"{EXTRA}\n"))
 
 
 class Commands(unittest.TestCase):
