@@ -1,5 +1,8 @@
 """The keys of a sweep, its targets, its rows of several seeds, and what a configuration costs; and a sweep of one's own machine where the program is built."""
+import contextlib
+import io
 import pathlib
+import runpy
 import tempfile
 import unittest
 
@@ -11,6 +14,16 @@ from xensched_tools.words import Refused
 BUILT = unittest.skipUnless(PROGRAM.exists(), "the program is not built")
 LATENCY = "examples/answers/latency.toml"
 TWO = TOP / "examples" / "two-pools" / "domains.toml"
+
+
+class Telling(unittest.TestCase):
+    def test_what_is_left(self):
+        progress = runpy.run_path(str(TOP / "tools" / "sweep"))["Progress"](4)
+        progress.begun = progress.told = progress.begun - 60
+        with contextlib.redirect_stderr(io.StringIO()) as told:
+            progress.step()
+            progress.step()
+        self.assertEqual(told.getvalue(), "sweep: 1 of 4 are done; some 3 minutes are left\n")
 
 
 class Keys(unittest.TestCase):
