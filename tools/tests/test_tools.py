@@ -1,4 +1,5 @@
 """The tools as they are called: their forms, their statuses, and what they say of wrong words."""
+import concurrent.futures
 import csv
 import importlib.util
 import io
@@ -25,6 +26,21 @@ BUILT = unittest.skipUnless(PROGRAM.exists(), "the program is not built")
 def plain(value):
     """A value as a table has it: the number of a row is text in JSON, and pandas takes it as a number where the whole column is such."""
     return float(value) if isinstance(value, (int, float)) or value is not None and value.isdecimal() else value
+
+
+class Help(unittest.TestCase):
+    # The first two are called by the launcher alone, with its words; the third stands where the program does, and passes its words on.
+    OTHERS = ("launch", "installed_launcher", "altered")
+
+    def test_each_tool_says_what_it_is_and_does_nothing_else(self):
+        tools = [path for folder in ("tools", "bench", "beside-xen") for path in (TOP / folder).iterdir() if path.is_file() and os.access(path, os.X_OK) and path.name not in self.OTHERS]
+        self.assertGreater(len(tools), 30)
+        with concurrent.futures.ThreadPoolExecutor() as pool:
+            said = pool.map(lambda path: subprocess.run([path, "--help"], capture_output=True, text=True, timeout=20, check=False), tools)
+        for path, done in zip(tools, said, strict=True):
+            with self.subTest(tool=path.name):
+                self.assertEqual((done.returncode, done.stderr), (0, ""))
+                self.assertRegex(done.stdout, "[Uu]sage:")
 
 
 class Forms(unittest.TestCase):
