@@ -36,12 +36,12 @@ guests = [[1000000, 3000000]]
 
 
 def answer(**given):
-    return Answer(**{"settings": {}, "is_met": True, "worst": 0.5, "price": (2, 0, 0), "runs": 1, **given})
+    return Answer(**{"settings": {}, "is_met": True, "worst": 0.5, "price": (2, 0, 0, 0), "runs": 1, **given})
 
 
 class Climbing(unittest.TestCase):
     def test_the_order(self):
-        cheap, dear, near, far = answer(), answer(price=(3, 0, 0), worst=0.1), answer(is_met=False, worst=1.1), answer(is_met=False, worst=3.0, price=(1, 0, 0))
+        cheap, dear, near, far = answer(), answer(price=(3, 0, 0, 0), worst=0.1), answer(is_met=False, worst=1.1), answer(is_met=False, worst=3.0, price=(1, 0, 0, 0))
         self.assertEqual(sorted([far, dear, near, cheap], key=lambda it: it.rank), [cheap, dear, near, far])
 
     def test_neighbours(self):
@@ -51,7 +51,7 @@ class Climbing(unittest.TestCase):
     def test_it_ends_where_nothing_is_better(self):
         # the worst is least at 700, and everything above 600 meets all
         def search(choices):
-            return [answer(settings=it, is_met=int(it["k"]) > 600, worst=abs(int(it["k"]) - 700) / 100, price=(1, 1, int(it["k"]))) for it in choices]
+            return [answer(settings=it, is_met=int(it["k"]) > 600, worst=abs(int(it["k"]) - 700) / 100, price=(1, 0, 1, int(it["k"]))) for it in choices]
 
         best = planning.climb(search([{"k": "1000"}])[0], {"k": ["0", "1000"]}, search)
         self.assertTrue(best.is_met)

@@ -68,7 +68,11 @@ class Keys(unittest.TestCase):
         self.assertEqual((machine.domains[0].pool, machine.domains[0].settings), ("two", {}))
         self.assertEqual([pool.cpus for pool in base.pools], [[0, 1], [2, 3]])
         row = {"preempted": 7}
-        self.assertEqual(sweeping.price_of(base, {"settings": {"pool.two.cpus": "1-3", "web.pool": "two", "web.weight": "512"}}, row), (3, 2, 7))
+        self.assertEqual(sweeping.price_of(base, {"settings": {"pool.two.cpus": "1-3", "web.pool": "two", "web.weight": "512"}}, row), (3, 0, 2, 7))
+        # one unit, of 2 in 5 ms
+        price = sweeping.price_of(base, {"settings": {"pool.one.sched": "rtds", "web.budget_us": "2000", "web.period_us": "5000"}}, row)
+        self.assertEqual((price, sweeping.price_text(price)), ((2, 40, 3, 7), "2 processors, 40% of one reserved, 3 keys"))
+        self.assertEqual(sweeping.price_text((1, 0, 1, 0)), "1 processor, 1 key")
 
 
 class Rows(unittest.TestCase):
@@ -95,7 +99,7 @@ class Swept(unittest.TestCase):
         self.assertEqual(head, "sched,status,preempted,met,missed,worst")
         self.assertEqual((null.split(",")[:3], null.split(",")[4:]), (["null", "0", "0"], ["0", "0.000"]))
         self.assertGreater(float(credit2.split(",")[-1]), 1)
-        self.assertIn("sweep: 1 of 2 met all that was asked; the cheapest that was run: sched=null (3 processors, 1 keys changed, 0 preemptions)", done.stderr.splitlines())
+        self.assertIn("sweep: 1 of 2 met all that was asked; the cheapest that was run: sched=null (3 processors, 1 key changed, 0 preemptions)", done.stderr.splitlines())
         with tempfile.TemporaryDirectory() as folder:
             path = pathlib.Path(folder) / "kept.csv"
             # a line that was kept is not run again, so a changed one comes out as it is

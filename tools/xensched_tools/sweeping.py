@@ -5,7 +5,7 @@ import pathlib
 import subprocess
 import tempfile
 
-from . import asking, loads, making, premises, tables
+from . import asking, loads, making, premises, tables, words
 from .machine import DEFAULTS, DOMAIN_KEYS, read_machine, read_work
 from .measures import Distribution
 from .words import Refused
@@ -176,11 +176,19 @@ def in_force(machine):
 
 
 def price_of(base, job, row):
-    """What a configuration costs: processors in pools that have a domain, keys that are not as they were, preemptions."""
+    """What a configuration costs: processors in pools that have a domain, what RTDS reserves of them in percent of one, keys that make it another machine, preemptions."""
     machine = varied(base, job["settings"])
     used = {domain.pool for domain in machine.domains}
-    changed = sum(in_force(varied(base, {path: value})) != in_force(base) for path, value in job["settings"].items())
-    return sum(len(pool.cpus) for pool in machine.pools if pool.name in used), changed, row["preempted"]
+    reserved = sum(machine.units_of(domain) * domain.setting("budget_us") / domain.setting("period_us") for domain in machine.domains if machine.pool(domain.pool).sched == "rtds")
+    without = [{key: value for key, value in job["settings"].items() if key != path} for path in job["settings"]]
+    changed = sum(in_force(varied(base, settings)) != in_force(machine) for settings in without)
+    return sum(len(pool.cpus) for pool in machine.pools if pool.name in used), round(100 * machine.granularity * reserved), changed, row["preempted"]
+
+
+def price_text(price):
+    """The first three of what a configuration costs, in words."""
+    processors, reserved, changed, _ = price
+    return words.counted(processors, "processor") + (f", {reserved}% of one reserved" if reserved else "") + f", {words.counted(changed, 'key')}"
 
 
 def line_of(job):

@@ -47,6 +47,11 @@ def percent(part):
     return f"{100 * part:.2f}%"
 
 
+def counted(count, name):
+    """So many of what has this name."""
+    return f"{count} {name}" if count == 1 else f"{count} {name}s"
+
+
 def warn(name, text):
     """One line on standard error, behind what was written before it, also where both go to one place."""
     with contextlib.suppress(OSError, ValueError):
