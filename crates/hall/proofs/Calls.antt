@@ -35,7 +35,7 @@ use Rattle.hall.specs.declared.turns.Turn.TheVariants as turn
 use Rattle.hall.specs.Seats.{IsCountBefore, SeatStays}
 use Rattle.hall.specs.BookTurns.{DoneIn, FindsFull, FullWhole, Settles, SettlesEvent, SettlesFull, SettlesNothing, TurnIn, Turns, TurnsClose, TurnsFinish, TurnsOver, TurnsStep, state_in, AddsEvent}
 use Rattle.hall.specs.Steps.{HasEntered, KeepsSight, SeesBook, HasBook}
-use Rattle.hall.specs.Turns.{ActsFull, Added, HasActed, HasClosed, HasFinished, HasStepped, IsFull, IsOverAt, Looked, TurnsFull}
+use Rattle.hall.specs.Turns.{ActsFull, Added, HasActed, HasClosed, HasFinished, HasNothing, HasStepped, IsFull, IsOverAt, Looked, TurnsFull}
 use Rattle.lock_moves.specs.Plays.{Current}
 use Rattle.lock_moves.specs.Sets.{LockTable}
 use Rattle.hall.proofs.Parting.{run-held}
@@ -80,8 +80,14 @@ finds-full b s new full keeps events fits no_room = record { keeps = keeps; even
 
 -- the action is the first one of the actor
 module _ (b : Chronicle) (s new : Sitting) (actor : Actor) (action : Action) (found : first_by b.input (state_in b) actor ≡ Some action) where
-  pub settles-event : (place : ℕ) (e : Event) (decides : ℕ) → e ≡ event_of b.input (state_in b) (state_in b).now action → AddsEvent place e decides b s new → SettlesEvent actor place e decides b s new
-  settles-event place e decides is adds = record { action = action; first = found; is_event = is; adds = adds }
+  pub settles-event : (t : Moment) (place : ℕ) (e : Event) → t.0 ≡ (state_in b).now → place ≡ length b.history → e ≡ event_of b.input (state_in b) (state_in b).now action → HasEntered b (record { at = t; event = e }) s new → SettlesEvent actor place e b s new
+  settles-event t place e now place_is is entered = record {
+    action = action;
+    first = found;
+    is_event = is;
+    place_is = place_is;
+    entered = subst (λ (a : Moment). HasEntered b (record { at = a; event = e }) s new) (ap moment now) entered;
+  }
 
   pub settles-full : (full : Full) → FindsFull full b s new → SettlesFull actor full b s new
   settles-full full finds = record { finds = finds; due = λ none. (let clash : (let o : Option Action = Some action in o) ≡ None = sym found ∙ none in cc) }
@@ -145,29 +151,25 @@ module _ (b : Chronicle) (s0 s1 s2 s3 s4 : Sitting) (took : KeepsSight s0 s1) (s
   count-in : (e : Event) (decides : ℕ) → IsCountBefore b.input.config.granularity b.history e decides → IsCountBefore s0.view.input.config.granularity b.history e decides
   count-in e decides counted = subst (λ (m : Machine). IsCountBefore m.config.granularity b.history e decides) input counted
 
-  acted-in : (actor : Actor) (place : ℕ) (e : Event) (decides : ℕ) → SettlesEvent actor place e decides b s2 s3 → HasActed actor place e b.history s0.view s4.view × IsCountBefore s0.view.input.config.granularity b.history e decides
-  acted-in actor place e decides settled =
+  acted-in : (actor : Actor) (place : ℕ) (e : Event) → SettlesEvent actor place e b s2 s3 → HasActed actor place e b.history s0.view s4.view
+  acted-in actor place e settled =
       let on = actor-comes b.input (state_in b) actor settled.action settled.first in
-      let acted : HasActed actor place e b.history s0.view s4.view = record {
+      record {
         action = settled.action;
         first = at-seat (λ m s. first_by m s actor ≡ Some settled.action) settled.first;
         is_event = at-seat (λ m s. e ≡ event_of m s s.now settled.action) settled.is_event;
-        added = added-in place e settled.adds.place_is settled.adds.entered (run-with b checked run settled.action on e settled.is_event);
-      } in
-      (acted, count-in e decides settled.adds.counted)
+        added = added-in place e settled.place_is settled.entered (run-with b checked run settled.action on e settled.is_event);
+      }
 
-  event-in : (actor : Actor) (place : ℕ) (e : Event) (decides : ℕ) → SettlesEvent actor place e decides b s2 s3 → DoneIn actor (done.Event place e) decides s0.view s4.view
-  event-in actor place e decides settled = (let both = acted-in actor place e decides settled in (b.history, both.0, both.1))
-
-  nothing-in : (actor : Actor) (decides : ℕ) → SettlesNothing actor b s2 s3 → DoneIn actor done.Nothing decides s0.view s4.view
-  nothing-in actor decides settled = record {
+  nothing-in : (actor : Actor) → SettlesNothing actor b s2 s3 → HasNothing actor s0.view s4.view
+  nothing-in actor settled = record {
     looked = looked-in settled.keeps;
     none = subst (λ (h : List Entry). first_by s0.view.input (state_at s0.view.input h) actor ≡ None) (sym (front-in settled.keeps)) (at-seat (λ m s. first_by m s actor ≡ None) settled.none);
   }
 
-  done-in : (actor : Actor) (d : Done) (decides : ℕ) → Settles actor d decides b s2 s3 → DoneIn actor d decides s0.view s4.view
-  done-in actor (done.Event place e) decides settled = event-in actor place e decides settled
-  done-in actor done.Nothing decides settled = nothing-in actor decides settled
+  done-in : (actor : Actor) (d : Done) → Settles actor d b s2 s3 → DoneIn actor d s0.view s4.view
+  done-in actor (done.Event place e) settled = (b.history, acted-in actor place e settled)
+  done-in actor done.Nothing settled = nothing-in actor settled
 
   full-is : (full : Full) → b.limit ≡ s2.view.limit → FindsFull full b s2 s3 → IsFull full s4.view
   full-is full limit finds =
@@ -244,15 +246,15 @@ module _ (set hall : LockTable) (b : Chronicle) (s0 s1 s2 s3 s4 : Sitting) (took
   checked-held : IsChecked b.input
   checked-held = subst IsChecked (sym (input-held ∙ of)) of_hall
 
-  pub done-held : (actor : Actor) (r : Result (Done × ℕ) Full) → IfOk r (λ d. Settles actor d.0 d.1 b s2 s3) → IfOk r (λ d. DoneIn actor d.0 d.1 s0.view s4.view)
-  done-held actor (Ok d) settled = done-in b s0 s1 s2 s3 s4 took sees gave input-held checked-held (run-held set b s2 has current) actor d.0 d.1 settled
+  pub done-held : (actor : Actor) (r : Result Done Full) → IfOk r (λ d. Settles actor d b s2 s3) → IfOk r (λ d. DoneIn actor d s0.view s4.view)
+  done-held actor (Ok d) settled = done-in b s0 s1 s2 s3 s4 took sees gave input-held checked-held (run-held set b s2 has current) actor d settled
   done-held actor (Err full) settled = tt
 
   -- and the entry of an event stands behind the book's history
-  pub acted-held : (actor : Actor) (place : ℕ) (e : Event) (decides : ℕ) → SettlesEvent actor place e decides b s2 s3 → HasActed actor place e b.history s0.view s4.view × IsCountBefore s0.view.input.config.granularity b.history e decides
+  pub acted-held : (actor : Actor) (place : ℕ) (e : Event) → SettlesEvent actor place e b s2 s3 → HasActed actor place e b.history s0.view s4.view
   acted-held = acted-in b s0 s1 s2 s3 s4 took sees gave input-held checked-held (run-held set b s2 has current)
 
-  pub fills-held : (actor : Actor) (r : Result (Done × ℕ) Full) → IfErr r (λ full. SettlesFull actor full b s2 s3) → IfErr r (λ full. ActsFull actor full s0.view s4.view)
+  pub fills-held : (actor : Actor) (r : Result Done Full) → IfErr r (λ full. SettlesFull actor full b s2 s3) → IfErr r (λ full. ActsFull actor full s0.view s4.view)
   fills-held actor (Ok d) settled = tt
   fills-held actor (Err full) settled = acts-full b s0 s1 s2 s3 s4 took sees gave input-held checked-held (run-held set b s2 has current) actor full has.limit settled
 

@@ -1,6 +1,6 @@
 -- The number of decisions that a seat keeps with an arrival is at most that of its front.
 use Rattle.std.proofs.Common.{◌≡◌, ℕ, ◌≤◌, ◌<◌, ◌/◌, ◌==◌, Bool, true, false, List, [], ◌∷◌, sym, ap, subst, arith}
-use Rattle.std.specs.Prelude.{Option, Some, None, if◌then◌else◌}
+use Rattle.std.specs.Prelude.{Option, Some, None, Result, Ok, Err, IfOk, IfErr, if◌then◌else◌}
 use Rattle.std.specs.Option.{ForSome}
 use Rattle.std.proofs.lemmas.Option.{none-some}
 use mathlib.Core.List.{IsPrefix}
@@ -17,11 +17,12 @@ use Rattle.lock_moves.proofs.Prefix.{prefix_trans}
 use Rattle.hall.specs.declared.seat.Arrival.{Arrival}
 use Rattle.hall.specs.declared.turns.Done.{Done}
 use Rattle.hall.specs.declared.turns.Done.TheVariants as done
+use Rattle.hall.specs.declared.turns.Full.{Full}
 use Rattle.hall.specs.declared.turns.Turn.{Turn}
 use Rattle.hall.specs.declared.turns.Turn.TheVariants as turn
 use Rattle.hall.specs.BookTurns.{DoneIn, TurnIn}
 use Rattle.hall.specs.Seats.{IsCounted, SitsFree, kept_arrival}
-use Rattle.hall.specs.Turns.{Added}
+use Rattle.hall.specs.Turns.{ActsFull, Added}
 
 pub counted-later : (g : ℕ) (front longer : List Entry) (kept : Option Arrival) → IsPrefix front longer → ForSome kept (IsCounted g front) → ForSome kept (IsCounted g longer)
 counted-later g front longer kept p some = λ a is. let more = prefix_grows front longer p (a.p.0 / g) in let had = some a is in omega (arith, more, had)
@@ -85,9 +86,13 @@ begins-on : (place : ℕ) (e : Event) (before : List Entry) (old new : Seen) →
 begins-on place e before old new added = prefix_trans old.front before new.front added.begins (begins-added place e before old new added)
 
 -- each answer leaves a front that goes on from the one before
-pub seen-begins : (actor : Actor) (d : Done) (decides : ℕ) (old new : Seen) → DoneIn actor d decides old new → IsPrefix old.front new.front
-seen-begins actor (done.Event place e) decides old new told = begins-on place e told.0 old new told.1.added
-seen-begins actor done.Nothing decides old new told = told.looked.begins
+seen-begins : (actor : Actor) (d : Done) (old new : Seen) → DoneIn actor d old new → IsPrefix old.front new.front
+seen-begins actor (done.Event place e) old new told = begins-on place e told.0 old new told.1.added
+seen-begins actor done.Nothing old new told = told.looked.begins
+
+pub answer-begins : (actor : Actor) (old new : Seen) (r : Result Done Full) → IfOk r (λ d. DoneIn actor d old new) → IfErr r (λ full. ActsFull actor full old new) → IsPrefix old.front new.front
+answer-begins actor old new (Ok d) told full = seen-begins actor d old new told
+answer-begins actor old new (Err e) told full = full.looked.begins
 
 pub turn-begins : (t : Turn) (decides : ℕ) (old new : Seen) → TurnIn t decides old new → IsPrefix old.front new.front
 turn-begins (turn.Stepped place e) decides old new told = begins-on place e told.0 old new told.1.added

@@ -1,6 +1,6 @@
 -- A hold that keeps the book in hand: what a seat knows then, one act more, and the two ends.
 use mathlib.Core.List.{IsPrefix}
-use Rattle.std.proofs.Common.{◌≡◌, ◌≢◌, ◌∙◌, ◌<◌, ◌≤◌, ◌/◌, ℕ, true, List, length, sym, subst, arith}
+use Rattle.std.proofs.Common.{◌≡◌, ◌≢◌, ◌∙◌, ◌<◌, ◌≤◌, ◌/◌, ℕ, true, List, length, refl, sym, ap, subst, arith}
 use Rattle.std.specs.Prelude.{Err, None, Ok, Option, Some}
 use Rattle.std.specs.Option.{ForSome, IsSome}
 use Rattle.sched_base.specs.declared.Moment.{Moment}
@@ -14,6 +14,7 @@ use Rattle.sched_model.specs.declared.machine.Machine.{Machine}
 use Rattle.sched_model.specs.Actions.{IsOfPool, home_pool_of_action}
 use Rattle.sched_model.specs.CheckedMachine.{IsChecked}
 use Rattle.sched_model.specs.Runs.{event_action}
+use Rattle.sched_model.proofs.RunLemmas.{action_of-event_of}
 use Rattle.sched_laws.proofs.Lists.{some_is}
 use Rattle.composition_laws.specs.Actors.{has_actor}
 use Rattle.pool_laws.specs.Actors.{IsFirstBy}
@@ -33,7 +34,7 @@ use Rattle.hall.specs.BookTurns.{SettlesEvent}
 use Rattle.hall.specs.Holds.{InHold, InHoldOn, IsHolder, StaysAtPool, seated}
 use Rattle.hall.specs.SeatKnowledge.{KnowsPool}
 use Rattle.hall.specs.Seats.{IsCountBefore, IsCounted, SeatStays, kept_arrival}
-use Rattle.hall.specs.Serving.{AreTogether, IsDoerOf, IsServed}
+use Rattle.hall.specs.Serving.{AreTogether, HasServedOn, IsDoerOf, IsServed}
 use Rattle.hall.specs.Steps.{HasActed, HasBook, HasTakenBook, KeepsLocks, KeepsSight, MayAct, SeesBook}
 use Rattle.hall.specs.Turns as turns
 use Rattle.hall.specs.Turns.{ActsFull, HasNothing, is_actor}
@@ -107,7 +108,7 @@ module _ (hall : LockTable) (k : ℕ) (low : k < 16) (t : Moment) (slot : Option
     -- nothing of the actor may come
     pub nothing-on : found ≡ None → (new : Sitting) → KeepsSight s new → HasNothing actor mid.view new.view
     nothing-on none new keeps =
-        done-held hall hall b mid mid s new new (keeps_same mid) took.sees took.has took.current (keeps_same new) on.hold.of.input checked actor (Ok (done.Nothing, 0))
+        done-held hall hall b mid mid s new new (keeps_same mid) took.sees took.has took.current (keeps_same new) on.hold.of.input checked actor (Ok done.Nothing)
         (nothing-held hall b s took.has took.current checked input-on k low slot knows-on some-on t.0 now-on actor mine found first new none keeps)
 
     module _ (action : Action) (is : found ≡ Some action) where
@@ -140,11 +141,15 @@ module _ (hall : LockTable) (k : ℕ) (low : k < 16) (t : Moment) (slot : Option
       module _ (place : ℕ) (e : Event) (decides : ℕ) (slot' : Option PoolSeen) (b' : Chronicle) (next s' : Sitting) (arrived' : Option Arrival) (place_is : place ≡ length b.history) (acted : HasActed b action t e s next) (stays : StaysAtPool k slot' s next)
           (again : HasTakenBook hall b' next s') (count : (x : Event) → event_action x ≡ Some action → IsCountBefore hall.opened.input.config.granularity b.history x decides)
           (kept : (g : ℕ) (before : List Entry) → IsCountBefore g before e decides → arrived' ≡ kept_arrival g before e arrived) where
-        settled : SettlesEvent actor place e decides b s next
-        settled = event-held hall b s took.has took.current checked input-on k low slot knows-on some-on t.0 now-on actor mine found first action is place e decides next place_is acted.event acted.entered count
+        settled : SettlesEvent actor place e b s next
+        settled = event-held hall b s took.has took.current checked input-on k low slot knows-on some-on t.0 now-on actor mine found first action is place e next place_is acted.event acted.entered
 
-        told : turns.HasActed actor place e b.history mid.view next.view × IsCountBefore mid.view.input.config.granularity b.history e decides
-        told = acted-held hall hall b mid mid s next next (keeps_same mid) took.sees took.has took.current (keeps_same next) on.hold.of.input checked actor place e decides settled
+        told : turns.HasActed actor place e b.history mid.view next.view
+        told = acted-held hall hall b mid mid s next next (keeps_same mid) took.sees took.has took.current (keeps_same next) on.hold.of.input checked actor place e settled
+
+        counted : IsCountBefore mid.view.input.config.granularity b.history e decides
+        counted = subst (λ (m : Machine). IsCountBefore m.config.granularity b.history e decides) (sym on.hold.of.input)
+            (count e (ap event_action acted.event ∙ action_of-event_of b.input (state_of (told_of b)) (state_of (told_of b)).now action))
 
         stays-once : SeatStays mid next
         stays-once = record {
@@ -155,31 +160,35 @@ module _ (hall : LockTable) (k : ℕ) (low : k < 16) (t : Moment) (slot : Option
         }
 
         arrived-is : arrived' ≡ kept_arrival mid.view.input.config.granularity b.history e arrived
-        arrived-is = kept mid.view.input.config.granularity b.history told.1
+        arrived-is = kept mid.view.input.config.granularity b.history counted
 
         inside-once : is_actor mid.view.input.config actor ≡ true
         inside-once = subst (λ (x : Machine). is_actor x.config actor ≡ true) input-seen (inside-held hall b s took.has took.current hall.opened.input checked input-on k low slot knows-on some-on actor mine)
 
-        pub served-on : IsServed holder.actor actor place (seated mid arrived) (seated next arrived')
-        served-on = record {
+        served-once : IsServed holder.actor actor place (seated mid arrived) (seated next arrived')
+        served-once = record {
           is = inside-once;
           some = some-held hall b s took.has took.current hall.opened.input checked input-on k low slot knows-on some-on actor mine;
-          once = record { stays = stays-once; event = e; done = (b.history, told.0, arrived-is) };
+          once = record { stays = stays-once; event = e; done = (b.history, told, arrived-is) };
           together = subst (λ (x : Machine). AreTogether x.config.granularity (state_at x b.history) holder.actor actor) input-seen
               (together-held hall b s took.has took.current hall.opened.input checked input-on k low slot knows-on some-on holder.actor actor actor-on mine);
         }
+
+        pub served-on : next.view.front ≡ b'.history → HasServedOn holder.actor actor place e b' (seated mid arrived) (seated next arrived')
+        unfolding served-once
+        served-on front = record { served = served-once; event_is = refl; front = front }
 
         few-processors : ForSome arrived' (λ (a : Arrival). a.p.0 < hall.opened.input.config.processors)
         few-processors =
             let m : Machine = hall.opened.input in
             subst (λ (o : Option Arrival). ForSome o (λ (a : Arrival). a.p.0 < m.config.processors)) (sym arrived-is)
             (kept-inside m.config.processors mid.view.input.config.granularity b.history e arrived
-            (λ p is. subst (λ (x : Machine). p.0 < x.config.processors) on.hold.of.input (arrival-few actor place e b.history mid.view next.view told.0 inside-once p is)) on.hold.inside.processor)
+            (λ p is. subst (λ (x : Machine). p.0 < x.config.processors) on.hold.of.input (arrival-few actor place e b.history mid.view next.view told inside-once p is)) on.hold.inside.processor)
 
         few-decisions : ForSome arrived' (IsCounted hall.opened.input.config.granularity next.view.front)
         few-decisions =
             subst (λ (x : Machine). ForSome arrived' (IsCounted x.config.granularity next.view.front)) (stays-once.input ∙ on.hold.of.input)
-            (counted-acted place e b.history mid.view next.view arrived arrived' told.0.added stays-once.input arrived-is
+            (counted-acted place e b.history mid.view next.view arrived arrived' told.added stays-once.input arrived-is
             (subst (λ (x : Machine). ForSome arrived (IsCounted x.config.granularity mid.view.front)) (sym on.hold.of.input) on.hold.inside.counted))
 
         pub hold-acted : InHoldOn hall k n t.0 slot' b' next (seated s' arrived')

@@ -2,15 +2,18 @@
 use mathlib.Core.List.{IsPrefix}
 use mathlib.Core.Logic.{dite}
 use native.Mathlib.Decide.{ℕ_discrete, dec_lt}
-use Rattle.std.proofs.Common.{◌≡◌, ◌≢◌, ◌∙◌, ◌<◌, ◌≤◌, ◌+◌, ℕ, true, List, [], ◌∷◌, length, length-append, refl, sym, ap, subst, arith}
-use Rattle.std.specs.Prelude.{Option, Some, None, Result, Ok, Err, IfOk, IfErr}
+use Rattle.std.proofs.Common.{◌≡◌, ◌≢◌, ◌∙◌, ◌<◌, ◌≤◌, ◌+◌, ◌++◌, ℕ, true, List, [], ◌∷◌, length, length-append, refl, sym, ap, subst, arith}
+use Rattle.std.specs.Prelude.{Option, Some, None, Result, Ok, Err, IfOk, IfErr, IfSome}
 use Rattle.std.specs.Option.{ForSome, IsSome}
+use Rattle.sched_base.specs.Numbers.{moment}
 use Rattle.sched_model.specs.declared.action.Actor.{Actor}
 use Rattle.sched_model.specs.declared.event.Entry.{Entry}
 use Rattle.sched_model.specs.declared.event.Event.{Event}
 use Rattle.sched_model.specs.declared.machine.Machine.{Machine}
+use Rattle.sched_model.specs.Machine.{event_of}
 use Rattle.sched_model.specs.Runs.{IsRun}
 use Rattle.composition_laws.specs.Actors.{first_by, has_actor}
+use Rattle.journal_core.specs.Books.{Chronicle}
 use Rattle.journal_core.specs.Histories.{part_at, state_at}
 use Rattle.journal_core.specs.Parts.{StatePart, lists}
 use Rattle.lock_moves.specs.declared.content.NameId.{NameId}
@@ -22,20 +25,21 @@ use Rattle.lock_moves.proofs.Named.{name_below}
 use Rattle.lock_moves.proofs.Prefix.{prefix_length}
 use Rattle.pool_core.specs.Seen.{Seen as PoolSeen}
 use Rattle.machine_parts.specs.Places.{SlotSuits, slot_part}
-use Rattle.hall.specs.declared.hold.Acted.{Acted}
+use Rattle.hall.specs.declared.hold.Hold.{Hold}
+use Rattle.hall.specs.declared.hold.Holder.{Holder}
 use Rattle.hall.specs.declared.turns.Done.{Done}
 use Rattle.hall.specs.declared.turns.Done.TheVariants as done
 use Rattle.hall.specs.declared.turns.Full.{Full}
-use Rattle.hall.specs.BookTurns.{DoneIn, HoldsOnly, IsNamed}
-use Rattle.hall.specs.Holds.{Acts, HasActedAll, HasActedOnce, HasFilled, InHold, IsArrivalOf, IsAsBefore, seated}
+use Rattle.hall.specs.BookTurns.{HoldsOnly, IsNamed}
+use Rattle.hall.specs.Holds.{BeginsHold, HasActedOnce, InHold, IsArrivalOf, IsAsBefore, seated}
 use Rattle.hall.specs.SeatKnowledge.{KnowsPool}
-use Rattle.hall.specs.Seats.{IsSeatOf, Seated, SeatStays, Stays}
+use Rattle.hall.specs.Seats.{IsSeatOf, Seated, SeatStays, kept_arrival}
+use Rattle.hall.specs.Serving.{HasServedOn}
 use Rattle.hall.specs.declared.seat.Arrival.{Arrival}
 use Rattle.hall.proofs.Counting.{counted-later}
-use Rattle.hall.specs.Steps.{KeepsOthers, KeepsSight, KnowsAfter}
-use Rattle.hall.specs.Turns.{ActsFull, Added, HasNothing, Looked}
-use Rattle.hall.proofs.Calls.{kept-stays}
-use Rattle.hall.proofs.Locking.{keeps_on}
+use Rattle.hall.specs.Steps.{HasTakenBook, KeepsOthers, KeepsSight, KnowsAfter}
+use Rattle.hall.specs.Turns.{ActsFull, Added, HasActed, HasNothing, IsDone, Looked}
+use Rattle.hall.proofs.Locking.{keeps_on, keeps_same}
 use Rattle.hall.proofs.UnderOne.{actor-there}
 
 -- a name that the seat has for a lock, it has as long as it knows the same of the lock
@@ -68,68 +72,91 @@ stays-on a b c p q = record { table = q.table ∙ p.table; input = q.input ∙ p
 pub of-hall : (hall : LockTable) (a b : Sitting) → IsSeatOf hall a → SeatStays a b → IsSeatOf hall b
 of-hall hall a b of stays = record { table = stays.table ∙ of.table; input = stays.input ∙ of.input; limit = stays.limit ∙ of.limit }
 
--- what is said of a call is said of it with the lock given back
-module _ (old : Seen) (s new : Sitting) (gave : KeepsSight s new) where
-  looked-gave : Looked old s.view → Looked old new.view
-  looked-gave looked = record {
-    begins = subst (IsPrefix old.front) (sym gave.front) looked.begins;
-    run = subst (IsRun old.input) (sym gave.front) looked.run;
-    own = gave.own ∙ looked.own;
-    took = (let a = looked.took in let b = gave.takes in omega (arith, a, b));
-    alone = λ whole. gave.front ∙ looked.alone whole;
+-- the seat has seen no more, though it may have taken the book again
+pub record IsSameSight (old new : Sitting) : Type 0 where
+  pub limit : new.view.limit ≡ old.view.limit
+  pub front : new.view.front ≡ old.view.front
+  pub own : new.view.own ≡ old.view.own
+  pub takes : old.view.takes ≤ new.view.takes
+
+pub sight-same : (old new : Sitting) → KeepsSight old new → IsSameSight old new
+sight-same old new keeps = record { limit = keeps.limit; front = keeps.front; own = keeps.own; takes = (let t = keeps.takes in omega (arith, t)) }
+
+-- what is said of a call is said of it with a lock taken before and given back after it
+module _ (first old s new : Sitting) (took : KeepsSight first old) (gave : IsSameSight s new) where
+  run-held : IsRun old.view.input s.view.front → IsRun first.view.input new.view.front
+  run-held run = subst (IsRun first.view.input) (sym gave.front) (subst (λ (m : Machine). IsRun m s.view.front) took.input run)
+
+  looked-held : Looked old.view s.view → Looked first.view new.view
+  looked-held looked = record {
+    begins = subst (λ (h : List Entry). IsPrefix h new.view.front) took.front (subst (IsPrefix old.view.front) (sym gave.front) looked.begins);
+    run = run-held looked.run;
+    own = gave.own ∙ looked.own ∙ took.own;
+    took = (let a = looked.took in let b = gave.takes in let c = took.takes in omega (arith, a, b, c));
+    alone = λ whole. gave.front ∙ looked.alone (took.shares ∙ whole) ∙ took.front;
   }
 
-  added-gave : (place : ℕ) (e : Event) (before : List Entry) → Added place e before old s.view → Added place e before old new.view
-  added-gave place e before added = record {
-    begins = added.begins;
+  added-held : (place : ℕ) (e : Event) (before : List Entry) → Added place e before old.view s.view → Added place e before first.view new.view
+  added-held place e before added = record {
+    begins = subst (λ (h : List Entry). IsPrefix h before) took.front added.begins;
     place_is = added.place_is;
-    front = gave.front ∙ added.front;
-    run = subst (IsRun old.input) (sym gave.front) added.run;
-    own = gave.own ∙ added.own;
-    took = (let a = added.took in let b = gave.takes in omega (arith, a, b));
-    alone = added.alone;
+    front = gave.front ∙ added.front ∙ ap (λ (m : Machine). before ++ record { at = moment (state_at m before).now; event = e } ∷ []) took.input;
+    run = run-held added.run;
+    own = gave.own ∙ added.own ∙ ap (λ (xs : List ℕ). xs ++ place ∷ []) took.own;
+    took = (let a = added.took in let b = gave.takes in let c = took.takes in omega (arith, a, b, c));
+    alone = λ whole. added.alone (took.shares ∙ whole) ∙ took.front;
   }
 
-  pub nothing-gave : (actor : Actor) → HasNothing actor old s.view → HasNothing actor old new.view
-  nothing-gave actor nothing = record {
-    looked = looked-gave nothing.looked;
-    none = subst (λ (h : List Entry). first_by old.input (state_at old.input h) actor ≡ None) (sym gave.front) nothing.none;
+  pub nothing-held : (actor : Actor) → HasNothing actor old.view s.view → HasNothing actor first.view new.view
+  nothing-held actor nothing = record {
+    looked = looked-held nothing.looked;
+    none = subst (λ (h : List Entry). first_by first.view.input (state_at first.view.input h) actor ≡ None) (sym gave.front)
+        (subst (λ (m : Machine). first_by m (state_at m s.view.front) actor ≡ None) took.input nothing.none);
   }
 
-  pub full-gave : (actor : Actor) (full : Full) → ActsFull actor full old s.view → ActsFull actor full old new.view
-  full-gave actor full told = record {
-    looked = looked-gave told.looked;
+  pub full-held : (actor : Actor) (full : Full) → ActsFull actor full old.view s.view → ActsFull actor full first.view new.view
+  full-held actor full told = record {
+    looked = looked-held told.looked;
     full_is = record { events = told.full_is.events ∙ sym gave.limit; length_is = ap length gave.front ∙ told.full_is.length_is ∙ sym gave.limit };
-    due = λ none. told.due (subst (λ (h : List Entry). first_by old.input (state_at old.input h) actor ≡ None) gave.front none);
+    due = λ none. told.due (subst (λ (m : Machine). first_by m (state_at m s.view.front) actor ≡ None) (sym took.input)
+        (subst (λ (h : List Entry). first_by first.view.input (state_at first.view.input h) actor ≡ None) gave.front none));
   }
 
-  done-gave : (actor : Actor) (d : Done) (decides : ℕ) → DoneIn actor d decides old s.view → DoneIn actor d decides old new.view
-  done-gave actor (done.Event place e) decides told = (
-    told.0,
-    record { action = told.1.action; first = told.1.first; is_event = told.1.is_event; added = added-gave place e told.0 told.1.added },
-    told.2,
-  )
-  done-gave actor done.Nothing decides told = nothing-gave actor told
+  acted-held : (actor : Actor) (place : ℕ) (e : Event) (before : List Entry) → HasActed actor place e before old.view s.view → HasActed actor place e before first.view new.view
+  acted-held actor place e before acted = record {
+    action = acted.action;
+    first = subst (λ (m : Machine). first_by m (state_at m before) actor ≡ Some acted.action) took.input acted.first;
+    is_event = subst (λ (m : Machine). e ≡ event_of m (state_at m before) (state_at m before).now acted.action) took.input acted.is_event;
+    added = added-held place e before acted.added;
+  }
 
-  pub answer-gave : (actor : Actor) (r : Result (Done × ℕ) Full) → IfOk r (λ d. DoneIn actor d.0 d.1 old s.view) → IfOk r (λ d. DoneIn actor d.0 d.1 old new.view)
-  answer-gave actor (Ok d) told = done-gave actor d.0 d.1 told
-  answer-gave actor (Err full) told = tt
+  pub done-held : (actor : Actor) (had has : Option Arrival) (d : Done) → IsDone actor d (seated old had) (seated s has) → IsDone actor d (seated first had) (seated new has)
+  done-held actor had has (done.Event place e) told = (told.0, acted-held actor place e told.0 told.1, told.2 ∙ ap (λ (m : Machine). kept_arrival m.config.granularity told.0 e had) took.input)
+  done-held actor had has done.Nothing told = (nothing-held actor told.0, told.1)
 
-  pub refusal-gave : (actor : Actor) (r : Result (Done × ℕ) Full) → IfErr r (λ full. ActsFull actor full old s.view) → IfErr r (λ full. ActsFull actor full old new.view)
-  refusal-gave actor (Ok d) told = tt
-  refusal-gave actor (Err full) told = full-gave actor full told
+  pub answer-held : (actor : Actor) (had has : Option Arrival) (r : Result Done Full) → IfOk r (λ d. IsDone actor d (seated old had) (seated s has)) → IfOk r (λ d. IsDone actor d (seated first had) (seated new has))
+  answer-held actor had has (Ok d) told = done-held actor had has d told
+  answer-held actor had has (Err full) told = tt
+
+  pub refusal-held : (actor : Actor) (r : Result Done Full) → IfErr r (λ full. ActsFull actor full old.view s.view) → IfErr r (λ full. ActsFull actor full first.view new.view)
+  refusal-held actor (Ok d) told = tt
+  refusal-held actor (Err full) told = full-held actor full told
+
+-- one act more, behind which the book was taken again and went back as it was
+pub done-once : (set : LockTable) (actor : Actor) (place : ℕ) (e : Event) (b : Chronicle) (old mid again new : Sitting) (had has : Option Arrival) → HasServedOn actor actor place e b (seated old had) (seated mid has)
+    → HasTakenBook set b mid again → KeepsSight again new → IsDone actor (done.Event place e) (seated old had) (seated new has)
+done-once set actor place e b old mid again new had has on took keeps =
+    let same : IsSameSight mid new = record {
+      limit = keeps.limit ∙ took.sees.limit;
+      front = keeps.front ∙ took.sees.front ∙ sym on.front;
+      own = keeps.own ∙ took.sees.own;
+      takes = (let a = keeps.takes in let c = took.sees.takes in omega (arith, a, c));
+    } in
+    done-held old old mid new (keeps_same old) same actor had has (done.Event place e)
+    (subst (λ (x : Event). IsDone actor (done.Event place x) (seated old had) (seated mid has)) on.event_is on.served.once.done)
 
 pub as-before-on : (a b c : Seated) → IsAsBefore a b → IsAsBefore b c → IsAsBefore a c
 as-before-on a b c p q = record { sight = keeps_on a.sitting b.sitting c.sitting p.sight q.sight; arrived = q.arrived ∙ p.arrived }
-
--- the seat took the lock before its acts
-pub acts-from : (actor : Actor) (places : List ℕ) (first old new : Seated) → IsAsBefore first old → Acts actor places old new → Acts actor places first new
-acts-from actor [] first old new same acts = as-before-on first old new same acts
-acts-from actor (place ∷ places) first old new same acts = (acts.0, acts-from actor places first old acts.0 same acts.1, acts.2)
-
-pub acts-stay : (actor : Actor) (places : List ℕ) (old new : Seated) → Acts actor places old new → Stays old new
-acts-stay actor [] old new acts = kept-stays old.sitting new.sitting acts.sight
-acts-stay actor (place ∷ places) old new acts = stays-on old.sitting acts.0.sitting new.sitting (acts-stay actor places old acts.0 acts.1) acts.2.stays
 
 -- each act has its place in the history
 pub once-longer : (actor : Actor) (place : ℕ) (old new : Seated) → HasActedOnce actor place old new → (length old.sitting.view.front ≤ place) × (length new.sitting.view.front ≡ place + 1)
@@ -139,43 +166,6 @@ once-longer actor place old new once =
     let len : length new.sitting.view.front ≡ length once.done.0 + 1 = ap length added.front ∙ length-append once.done.0 _ in
     let place_is = added.place_is in
     (omega (arith, less, place_is), omega (arith, len, place_is))
-
-pub acts-few : (actor : Actor) (places : List ℕ) (old new : Seated) → Acts actor places old new → length places ≤ length new.sitting.view.front
-acts-few actor [] old new acts = omega arith
-acts-few actor (place ∷ places) old new acts =
-    let few = acts-few actor places old acts.0 acts.1 in
-    let more = once-longer actor place acts.0 new acts.2 in
-    omega (arith, few, more.0, more.1)
-
--- as many acts before a further one as its place allows
-pub acts-below : (actor : Actor) (places : List ℕ) (old mid new : Seated) (place : ℕ) → Acts actor places old mid → HasActedOnce actor place mid new → length places ≤ place
-acts-below actor places old mid new place acts once =
-    let few = acts-few actor places old mid acts in
-    let more = once-longer actor place mid new once in
-    omega (arith, few, more.0)
-
--- all that was done is done from the seat before the lock was taken on, and to the seat that gave it back
-pub all-held : (actor : Actor) (acted : Acted) (first old mid new : Seated) → IsAsBefore first old → IsAsBefore mid new → HasActedAll actor acted old mid → HasActedAll actor acted first new
-all-held actor acted first old mid new took gave all = record {
-  places = all.places;
-  mid = all.mid;
-  acts = acts-from actor all.places first old all.mid took all.acts;
-  stays = stays-on all.mid.sitting mid.sitting new.sitting all.stays (kept-stays mid.sitting new.sitting gave.sight);
-  nothing = nothing-gave all.mid.sitting.view mid.sitting new.sitting gave.sight actor all.nothing;
-  arrived = gave.arrived ∙ all.arrived;
-  count = all.count;
-  first = all.first;
-}
-
-pub filled-held : (actor : Actor) (full : Full) (first old mid new : Seated) → IsAsBefore first old → IsAsBefore mid new → HasFilled actor full old mid → HasFilled actor full first new
-filled-held actor full first old mid new took gave filled = record {
-  places = filled.places;
-  mid = filled.mid;
-  acts = acts-from actor filled.places first old filled.mid took filled.acts;
-  stays = stays-on filled.mid.sitting mid.sitting new.sitting filled.stays (kept-stays mid.sitting new.sitting gave.sight);
-  full_is = full-gave filled.mid.sitting.view mid.sitting new.sitting gave.sight actor full filled.full_is;
-  arrived = gave.arrived ∙ filled.arrived;
-}
 
 -- the pool whose lock is held lists the actor's name, so it is there and has the actor
 module _ (hall : LockTable) (k t : ℕ) (slot : Option PoolSeen) (s : Seated) (actor : Actor) (name : NameId) (named : IsNamed hall.opened.input actor name) (hold : InHold hall k (name_number name) t slot s) where
@@ -214,3 +204,7 @@ hold-on hall k n t slot after old new kept hold stays only knows has now begins 
   now = hold.now ∙ sym now;
   inside = arrival-on hall old new kept begins hold.inside;
 }
+
+-- the hold that was begun
+pub begun : (hall : LockTable) (holder : Holder) (old new : Sitting) (found : Option Hold) (hold : Hold) → found ≡ Some hold → IfSome found (λ x. BeginsHold hall holder x old new) → BeginsHold hall holder hold old new
+begun hall holder old new found hold is some = subst (λ (o : Option Hold). IfSome o (λ x. BeginsHold hall holder x old new)) is some

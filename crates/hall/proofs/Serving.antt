@@ -1,17 +1,18 @@
 -- What a hold of a whole pool does, act by act: from the seat before it took the pool's lock, to the seat that gave the lock back.
-use Rattle.std.proofs.Common.{◌≡◌, ◌∙◌, ◌≤◌, ℕ, Bool, true, false, List, [], ◌∷◌, length, refl, sym, subst, arith}
-use Rattle.std.specs.Prelude.{Err, IfErr, IfOk, None, Ok, Result}
+use Rattle.std.proofs.Common.{◌≡◌, ◌∙◌, ◌≤◌, ℕ, List, [], ◌∷◌, length, refl, sym, subst, arith}
+use Rattle.std.specs.Prelude.{Err, IfErr, IfOk, None, Ok, Option, Result}
 use Rattle.sched_model.specs.declared.action.Actor.{Actor}
 use Rattle.sched_model.specs.declared.event.Entry.{Entry}
 use Rattle.journal_core.specs.Histories.{state_at}
-use Rattle.hall.specs.declared.hold.Acted.{Acted}
+use Rattle.lock_moves.specs.SeatSight.{Sitting}
+use Rattle.hall.specs.declared.seat.Arrival.{Arrival}
+use Rattle.hall.specs.declared.turns.Acted.{Acted}
 use Rattle.hall.specs.declared.turns.Full.{Full}
-use Rattle.hall.specs.Holds.{IsAsBefore}
+use Rattle.hall.specs.Holds.{IsAsBefore, seated}
 use Rattle.hall.specs.Seats.{Seated, Stays}
-use Rattle.hall.specs.Serving.{AreTogether, HasDone, HasDoneFull, HasServed, HasServedFull, HasServedOnce, Serves}
-use Rattle.hall.specs.Turns.{HasNothing}
+use Rattle.hall.specs.Serving.{AreTogether, FindsNoPool, HasServed, HasServedFull, HasServedOnce, Serves}
 use Rattle.hall.proofs.Calls.{kept-stays}
-use Rattle.hall.proofs.Holds.{all-held, as-before-on, filled-held, full-gave, nothing-gave, once-longer, stays-on}
+use Rattle.hall.proofs.Holds.{as-before-on, full-held, nothing-held, once-longer, sight-same, stays-on}
 use Rattle.hall.proofs.Locking.{keeps_same}
 
 -- the seat took the lock before its acts
@@ -41,21 +42,22 @@ serves-below actor places old mid new place serves once =
 served-held : (actor : Actor) (acted : Acted) (first old mid new : Seated) → IsAsBefore first old → IsAsBefore mid new → HasServed actor acted old mid → HasServed actor acted first new
 served-held actor acted first old mid new took gave all =
     let input = all.mid.sitting.view.input in
+    let same = sight-same mid.sitting new.sitting gave.sight in
     record {
       places = all.places;
       mid = all.mid;
       serves = serves-from actor all.places first old all.mid took all.serves;
       stays = stays-on all.mid.sitting mid.sitting new.sitting all.stays (kept-stays mid.sitting new.sitting gave.sight);
-      nothing = nothing-gave all.mid.sitting.view mid.sitting new.sitting gave.sight actor all.nothing;
-      others = λ other both. nothing-gave all.mid.sitting.view mid.sitting new.sitting gave.sight other
+      nothing = nothing-held all.mid.sitting all.mid.sitting mid.sitting new.sitting (keeps_same all.mid.sitting) same actor all.nothing;
+      others = λ other both. nothing-held all.mid.sitting all.mid.sitting mid.sitting new.sitting (keeps_same all.mid.sitting) same other
           (all.others other (subst (λ (h : List Entry). AreTogether input.config.granularity (state_at input h) actor other) gave.sight.front both));
       arrived = gave.arrived ∙ all.arrived;
       count = all.count;
       first = all.first;
     }
 
-full-held : (actor : Actor) (full : Full) (first old mid new : Seated) → IsAsBefore first old → IsAsBefore mid new → HasServedFull actor full old mid → HasServedFull actor full first new
-full-held actor full first old mid new took gave all =
+served-full : (actor : Actor) (full : Full) (first old mid new : Seated) → IsAsBefore first old → IsAsBefore mid new → HasServedFull actor full old mid → HasServedFull actor full first new
+served-full actor full first old mid new took gave all =
     let input = all.mid.sitting.view.input in
     record {
       places = all.places;
@@ -66,49 +68,30 @@ full-held actor full first old mid new took gave all =
       is = all.is;
       some = all.some;
       together = subst (λ (h : List Entry). AreTogether input.config.granularity (state_at input h) actor all.doer) (sym gave.sight.front) all.together;
-      full_is = full-gave all.mid.sitting.view mid.sitting new.sitting gave.sight all.doer full all.full_is;
+      full_is = full-held all.mid.sitting all.mid.sitting mid.sitting new.sitting (keeps_same all.mid.sitting) (sight-same mid.sitting new.sitting gave.sight) all.doer full all.full_is;
       arrived = gave.arrived ∙ all.arrived;
     }
 
--- the same of what a hold does, of the whole pool or of the actor
+-- the same of an answer
 module _ (actor : Actor) (first old mid new : Seated) (took : IsAsBefore first old) (gave : IsAsBefore mid new) where
-  done-held : (whole : Bool) (acted : Acted) → HasDone whole actor acted old mid → HasDone whole actor acted first new
-  done-held true acted all = served-held actor acted first old mid new took gave all
-  done-held false acted all = all-held actor acted first old mid new took gave all
+  pub held-served : (r : Result Acted Full) → IfOk r (λ acted. HasServed actor acted old mid) → IfOk r (λ acted. HasServed actor acted first new)
+  held-served (Ok acted) all = served-held actor acted first old mid new took gave all
+  held-served (Err full) all = tt
 
-  fills-held : (whole : Bool) (full : Full) → HasDoneFull whole actor full old mid → HasDoneFull whole actor full first new
-  fills-held true full all = full-held actor full first old mid new took gave all
-  fills-held false full all = filled-held actor full first old mid new took gave all
-
-  pub held-done : (whole : Bool) (r : Result Acted Full) → IfOk r (λ acted. HasDone whole actor acted old mid) → IfOk r (λ acted. HasDone whole actor acted first new)
-  held-done whole (Ok acted) all = done-held whole acted all
-  held-done whole (Err full) all = tt
-
-  pub held-full : (whole : Bool) (r : Result Acted Full) → IfErr r (λ full. HasDoneFull whole actor full old mid) → IfErr r (λ full. HasDoneFull whole actor full first new)
-  held-full whole (Ok acted) all = tt
-  held-full whole (Err full) all = fills-held whole full all
+  pub held-full : (r : Result Acted Full) → IfErr r (λ full. HasServedFull actor full old mid) → IfErr r (λ full. HasServedFull actor full first new)
+  held-full (Ok acted) all = tt
+  held-full (Err full) all = served-full actor full first old mid new took gave all
 
 -- nothing may come of an actor that no pool has
-pub idle-done : (whole : Bool) (actor : Actor) (acted : Acted) (old new : Seated) → Stays old new → HasNothing actor old.sitting.view new.sitting.view
-    → ((other : Actor) → AreTogether old.sitting.view.input.config.granularity (state_at old.sitting.view.input new.sitting.view.front) actor other → ⊥) → new.arrived ≡ old.arrived → acted.count ≡ 0 → acted.first ≡ None → HasDone whole actor acted old new
-idle-done true actor acted old new stays nothing alone arrived count first = record {
+pub idle-served : (actor : Actor) (acted : Acted) (old new : Sitting) (arrived : Option Arrival) → FindsNoPool actor old new → acted.count ≡ 0 → acted.first ≡ None → HasServed actor acted (seated old arrived) (seated new arrived)
+idle-served actor acted old new arrived idle count first = record {
   places = [];
-  mid = old;
-  serves = record { sight = keeps_same old.sitting; arrived = refl };
-  stays = stays;
-  nothing = nothing;
-  others = λ other both. absurd (alone other both);
-  arrived = arrived;
-  count = count;
-  first = first;
-}
-idle-done false actor acted old new stays nothing alone arrived count first = record {
-  places = [];
-  mid = old;
-  acts = record { sight = keeps_same old.sitting; arrived = refl };
-  stays = stays;
-  nothing = nothing;
-  arrived = arrived;
+  mid = seated old arrived;
+  serves = record { sight = keeps_same old; arrived = refl };
+  stays = idle.stays;
+  nothing = idle.nothing;
+  others = λ other both. absurd (idle.alone other both);
+  arrived = refl;
   count = count;
   first = first;
 }

@@ -18,7 +18,7 @@ use Rattle.journal_core.specs.Histories.{state_at}
 use Rattle.lock_moves.specs.SeatSight.{Sitting}
 use Rattle.lock_moves.specs.Sets.{LockTable}
 use Rattle.lock_moves.specs.Words.{name_number}
-use Rattle.hall.specs.declared.hold.Acted.{Acted}
+use Rattle.hall.specs.declared.turns.Acted.{Acted}
 use Rattle.hall.specs.declared.hold.Holder.{Holder}
 use Rattle.hall.specs.declared.seat.Arrival.{Arrival}
 use Rattle.hall.specs.declared.turns.Full.{Full}

@@ -1,27 +1,33 @@
 -- What the tool's call does under all locks, and whether a run is over.
 use Rattle.std.proofs.Common.{◌≡◌, ◌∙◌, ℕ, zero, suc, Bool, true, false, List, [], ◌∷◌, ◌++◌, length, refl, sym, ap, subst, arith, inl, inr, true≢false}
-use Rattle.std.specs.Prelude.{◌↔◌, Option, Some, None, Result, Ok, Err, IfOk, IfErr, slice_get, if◌then◌else◌}
+use Rattle.std.specs.Prelude.{◌&&◌, ◌↔◌, Option, Some, None, Result, Ok, Err, IfOk, IfErr, slice_get, if◌then◌else◌}
 use Rattle.std.proofs.lemmas.Bool.{cases_Bool}
-use Rattle.sched_base.specs.Numbers.{core, domain, processor}
 use Rattle.sched_model.specs.declared.action.Action.{Action}
-use Rattle.sched_model.specs.declared.action.Action.TheVariants.{Arrive, DomMoved, Moved, Stall, Xl}
+use Rattle.sched_model.specs.declared.action.Action.TheVariants.{Arrive, Leave, Stall, Xl}
 use Rattle.sched_model.specs.declared.action.Actor.{Actor}
 use Rattle.sched_model.specs.declared.action.Actor.TheVariants.{Tool}
 use Rattle.sched_model.specs.declared.event.Entry.{Entry}
+use Rattle.sched_model.specs.declared.event.Event.{Event}
 use Rattle.sched_model.specs.declared.event.Event.TheVariants as event
 use Rattle.sched_model.specs.declared.machine.Machine.{Machine}
 use Rattle.sched_model.specs.declared.state.State.{State}
+use Rattle.sched_model.specs.Actions.{candidates, home_pool_of_action}
 use Rattle.sched_model.specs.CheckedMachine.{IsChecked}
-use Rattle.sched_model.specs.Machine.{is_action_enabled}
+use Rattle.sched_model.specs.Machine.{event_of, is_action_enabled}
+use Rattle.sched_model.specs.Places.{test_at}
 use Rattle.sched_model.specs.Runs.{IsRun}
+use Rattle.sched_model.proofs.RunLemmas.{find_passes}
+use Rattle.sched_base.proofs.Bools.{and_left}
+use Rattle.sched_laws.proofs.Lists.{some-test_at}
+use Rattle.pool_laws.specs.Actors.{is_by}
 use Rattle.run_laws.specs.RunLaws.{IsOver}
 use Rattle.composition_laws.proofs.Entries.{over_at_finish}
-use Rattle.composition_laws.specs.Actors.{first_by}
+use Rattle.composition_laws.specs.Actors.{first_by, is_by_actor, is_by_at_home}
 use Rattle.composition_laws.specs.WholeFirst.{first_tool_move, first_tool_action}
 use Rattle.composition_laws.proofs.Actors.{tool_is_first}
 use Rattle.journal_core.specs.Books.{Chronicle}
-use Rattle.journal_core.specs.Histories.{now_at, reached_by}
-use Rattle.journal_core.specs.Parts.{UnderWay, core_to, domain_to, state_under_way}
+use Rattle.journal_core.specs.Histories.{now_at, reached_by, state_at}
+use Rattle.journal_core.specs.Parts.{state_under_way}
 use Rattle.machine_parts.specs.Places.{state_of}
 use Rattle.machine_parts.specs.Told.{Told, told_of}
 use Rattle.machine_parts.proofs.Going.{now_of-is, state_of-is}
@@ -30,13 +36,16 @@ use Rattle.lock_moves.specs.Sets.{LockTable}
 use Rattle.lock_moves.specs.SeatSight.{AllBelow, Seen, Sitting, find_lock}
 use Rattle.lock_moves.proofs.Holding.{all_below}
 use Rattle.hall.specs.declared.all.AllParts.{AllParts}
+use Rattle.hall.specs.declared.seat.Arrival.{Arrival}
 use Rattle.hall.specs.declared.turns.Done.{Done}
 use Rattle.hall.specs.declared.turns.Done.TheVariants as done
 use Rattle.hall.specs.declared.turns.Full.{Full}
 use Rattle.hall.specs.SeatKnowledge.{KnowsAll}
-use Rattle.hall.specs.Seats.{SeatStays}
-use Rattle.hall.specs.BookTurns.{Settles, SettlesFull, state_in}
+use Rattle.hall.specs.Seats.{SeatStays, kept_arrival}
+use Rattle.hall.specs.BookTurns.{DoneIn, Settles, SettlesFull, state_in}
+use Rattle.hall.specs.Holds.{seated}
 use Rattle.hall.specs.Steps.{HasBook}
+use Rattle.hall.specs.Turns.{IsDone}
 use Rattle.hall.proofs.Calls.{actor-comes, entered-stays, kept-stays, goes-where}
 use Rattle.hall.proofs.Locking.{all_held}
 use Rattle.hall.proofs.Parting.{now-held, run-held}
@@ -58,27 +67,13 @@ over-there m h n last run is count =
 pub over-not : (m : Machine) (h : List Entry) (n : ℕ) (last : Entry) → IsRun m h → slice_get h n ≡ Some last → length h ≡ suc n → (last.event ≡ event.Finish → ⊥) → false ≡ (reached_by m h).over
 over-not m h n last run is count other = elim (cases_Bool (reached_by m h).over) [ inl over ↦ absurd (other ((over-there m h n last run is count).0 over)) | inr goes ↦ sym goes ]
 
--- the tool's first action is a command only where no stall may come, and never an arrival
+-- the tool's first action is a command only where no stall may come
 stall-or : (b : Bool) (rest : Option Action) → (if b then Some Stall else rest) ≡ Some Xl → b ≡ false
 stall-or true rest is = absurd (cc)
 stall-or false rest is = refl
 
 pub command-first : (m : Machine) (s : State) (t : ℕ) → first_tool_action m s t ≡ Some Xl → is_action_enabled m s t Stall ≡ false
 command-first m s t is = stall-or (is_action_enabled m s t Stall) (if is_action_enabled m s t Xl then Some Xl else first_tool_move m s t (state_under_way s)) is
-
-if-no-arrive : (b : Bool) (a : Action) (p : ℕ) (rest : Option Action) → (a ≡ Arrive (processor p) → ⊥) → (rest ≡ Some (Arrive (processor p)) → ⊥) → (if b then Some a else rest) ≡ Some (Arrive (processor p)) → ⊥
-if-no-arrive true a p rest other none is = other (cc)
-if-no-arrive false a p rest other none is = none is
-
-move-no-arrive : (m : Machine) (s : State) (t p : ℕ) (way : Option UnderWay) → first_tool_move m s t way ≡ Some (Arrive (processor p)) → ⊥
-move-no-arrive m s t p None is = cc
-move-no-arrive m s t p (Some (core_to r to)) is = if-no-arrive (is_action_enabled m s t (Moved (core r))) (Moved (core r)) p None (λ e. cc) (λ e. cc) is
-move-no-arrive m s t p (Some (domain_to d i)) is = if-no-arrive (is_action_enabled m s t (DomMoved (domain d))) (DomMoved (domain d)) p None (λ e. cc) (λ e. cc) is
-
-pub no-arrive : (m : Machine) (s : State) (t p : ℕ) → first_tool_action m s t ≡ Some (Arrive (processor p)) → ⊥
-no-arrive m s t p is =
-    if-no-arrive (is_action_enabled m s t Stall) Stall p (if is_action_enabled m s t Xl then Some Xl else first_tool_move m s t (state_under_way s)) (λ e. cc)
-    (λ r. if-no-arrive (is_action_enabled m s t Xl) Xl p (first_tool_move m s t (state_under_way s)) (λ e. cc) (move-no-arrive m s t p (state_under_way s)) r) is
 
 pub none-else : (o : Option Action) → ((a : Action) → o ≡ Some a → ⊥) → o ≡ None
 none-else None other = refl
@@ -105,13 +100,41 @@ module _ (set : LockTable) (b : Chronicle) (s : Sitting) (has : HasBook set b s)
     first-is = subst (λ (x : State). first_by b.input x Tool ≡ first_tool_action b.input x x.now) (sym (state_of-is (told_of b))) (tool_is_first b.input checked b.history run)
 
 -- what was settled with the book leaves the seat's hall and its parts
-done-stays : (actor : Actor) (b : Chronicle) (s new : Sitting) (d : Done) (decides : ℕ) → Settles actor d decides b s new → SeatStays s new
-done-stays actor b s new (done.Event place e) decides settled = entered-stays b _ s new settled.adds.entered
-done-stays actor b s new done.Nothing decides settled = kept-stays s new settled.keeps
+done-stays : (actor : Actor) (b : Chronicle) (s new : Sitting) (d : Done) → Settles actor d b s new → SeatStays s new
+done-stays actor b s new (done.Event place e) settled = entered-stays b _ s new settled.entered
+done-stays actor b s new done.Nothing settled = kept-stays s new settled.keeps
 
-pub stays-settled : (actor : Actor) (b : Chronicle) (s new : Sitting) (r : Result (Done × ℕ) Full) → IfOk r (λ x. Settles actor x.0 x.1 b s new) → IfErr r (λ e. SettlesFull actor e b s new) → SeatStays s new
-stays-settled actor b s new (Ok x) settled full = done-stays actor b s new x.0 x.1 settled
+pub stays-settled : (actor : Actor) (b : Chronicle) (s new : Sitting) (r : Result Done Full) → IfOk r (λ d. Settles actor d b s new) → IfErr r (λ e. SettlesFull actor e b s new) → SeatStays s new
+stays-settled actor b s new (Ok d) settled full = done-stays actor b s new d settled
 stays-settled actor b s new (Err e) settled full = kept-stays s new full.finds.keeps
+
+-- no event of a pool is the tool's, so what the tool does changes no arrival that a seat keeps
+no-tool : (m : Machine) (s : State) (action : Action) → is_by_at_home m s Tool action ≡ true → ⊥
+no-tool m s action = by_home (home_pool_of_action m.config.granularity s action)
+  where
+    by_home : (o : Option ℕ) → elim o as (λ _. Bool) [ None ↦ false | Some i ↦ test_at s.pools i (λ pool. is_by m.config.granularity pool Tool action) ] ≡ true → ⊥
+    by_home None is = absurd (cc)
+    by_home (Some i) is = (let x = some-test_at s.pools i (λ pool. is_by m.config.granularity pool Tool action) is in let by = x.2 in absurd (cc))
+
+tool-keeps : (m : Machine) (s : State) (before : List Entry) (kept : Option Arrival) (action : Action) → is_by_actor m s Tool action ≡ true → kept_arrival m.config.granularity before (event_of m s s.now action) kept ≡ kept
+tool-keeps m s before kept (Arrive p) by = absurd (no-tool m s (Arrive p) by)
+tool-keeps m s before kept (Leave p) by = absurd (no-tool m s (Leave p) by)
+tool-keeps m s before kept action by = refl
+
+tool-done : (old new : Sitting) (kept : Option Arrival) (d : Done) → DoneIn Tool d old.view new.view → IsDone Tool d (seated old kept) (seated new kept)
+tool-done old new kept (done.Event place e) told =
+    let m = old.view.input in
+    let s : State = state_at m told.0 in
+    let acted = told.1 in
+    let by : is_by_actor m s Tool acted.action ≡ true =
+    and_left (is_by_actor m s Tool acted.action) (is_action_enabled m s s.now acted.action)
+    (find_passes (λ a. is_by_actor m s Tool a && is_action_enabled m s s.now a) (candidates m.config) acted.action acted.first) in
+    (told.0, acted, sym (ap (λ (x : Event). kept_arrival m.config.granularity told.0 x kept) acted.is_event ∙ tool-keeps m s told.0 kept acted.action by))
+tool-done old new kept done.Nothing told = (told, refl)
+
+pub tool-answer : (old new : Sitting) (kept : Option Arrival) (r : Result Done Full) → IfOk r (λ d. DoneIn Tool d old.view new.view) → IfOk r (λ d. IsDone Tool d (seated old kept) (seated new kept))
+tool-answer old new kept (Ok d) told = tool-done old new kept d told
+tool-answer old new kept (Err full) told = tt
 
 -- all parts stay known where the book was taken
 pub below-book : (all : AllParts) (v : Seen) → KnowsAll all v → find_lock 17 v.held ≡ None → AllBelow 17 v.held

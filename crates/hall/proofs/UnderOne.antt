@@ -20,7 +20,7 @@ use Rattle.sched_model.specs.Actions.{home_pool_of_action}
 use Rattle.sched_model.specs.CheckedMachine.{IsChecked}
 use Rattle.sched_model.specs.Machine.{event_of, is_action_enabled}
 use Rattle.sched_model.specs.Places.{at_place}
-use Rattle.sched_model.specs.Runs.{IsRun, event_action}
+use Rattle.sched_model.specs.Runs.{IsRun}
 use Rattle.sched_base.proofs.Bools.{and_left, and_right}
 use Rattle.sched_laws.proofs.Lists.{is_some_at, some_is, test_at-some}
 use Rattle.sched_laws.proofs.Reached.{is_apart}
@@ -48,10 +48,9 @@ use Rattle.lock_moves.specs.Words.{has_core, has_name, name_number}
 use Rattle.lock_moves.proofs.Finding.{find-head, find-tail, find-without-other, find-without-same, none_held}
 use Rattle.hall.specs.declared.turns.Full.{Full}
 use Rattle.hall.specs.SeatKnowledge.{KnowsPool}
-use Rattle.hall.specs.Seats.{IsCountBefore}
 use Rattle.hall.specs.BookTurns.{HoldsOnly, IsNamed, SettlesEvent, SettlesFull, SettlesNothing, state_in, FindsFull}
 use Rattle.hall.specs.Steps.{HasBook, HasEntered, KeepsLocks, KeepsOthers, KeepsSight}
-use Rattle.hall.proofs.Calls.{goes-where, adds-event, settles-event, settles-full}
+use Rattle.hall.proofs.Calls.{goes-where, settles-event, settles-full}
 use Rattle.hall.proofs.Locking.{no_place, no_tool}
 use Rattle.hall.proofs.Parting.{now-held, part-held, stands-held, run-held}
 use Rattle.hall.proofs.Processors.{arrival-small}
@@ -130,11 +129,8 @@ module _ (set : LockTable) (b : Chronicle) (s : Sitting) (has : HasBook set b s)
     pub full-held : (full : Full) (new : Sitting) → FindsFull full b s new → SettlesFull actor full b s new
     full-held full new finds = settles-full b s new actor action (first-held ∙ is) full finds
 
-    pub event-held : (place : ℕ) (e : Event) (decides : ℕ) (new : Sitting) → place ≡ length b.history → e ≡ event_of m (state_of (told_of b)) (state_of (told_of b)).now action
-        → HasEntered b (record { at = moment t; event = e }) s new → ((x : Event) → event_action x ≡ Some action → IsCountBefore set.opened.input.config.granularity b.history x decides) → SettlesEvent actor place e decides b s new
-    event-held place e decides new place_is e_is entered count =
-        settles-event b s new actor action (first-held ∙ is) place e decides e_is
-        (adds-event b s new action (moment t) place e decides set.opened.input input (now ∙ now-held set b s has current) place_is e_is entered count)
+    pub event-held : (place : ℕ) (e : Event) (new : Sitting) → place ≡ length b.history → e ≡ event_of m (state_of (told_of b)) (state_of (told_of b)).now action → HasEntered b (record { at = moment t; event = e }) s new → SettlesEvent actor place e b s new
+    event-held place e new place_is e_is entered = settles-event b s new actor action (first-held ∙ is) (moment t) place e (now ∙ now-held set b s has current) place_is e_is entered
 
 -- the lock is put back, and nothing is held
 pub only-gone : (k : ℕ) (s1 s2 s3 s4 : Sitting) → HoldsOnly k s1.view → ((j : ℕ) → j ≢ 17 → find_lock j s2.view.held ≡ find_lock j s1.view.held) → KeepsOthers k s2.view s3.view → s4 ≡ sitting_with s3 (after_give k s3.view) → s4.view.held ≡ []

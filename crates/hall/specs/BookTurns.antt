@@ -49,27 +49,21 @@ HoldsOnly k v = (j : ℕ) → j ≢ k → find_lock j v.held ≡ None
 abbrev pub state_in : Chronicle → State
 state_in b = state_of (told_of b)
 
--- the event was added to the book b, behind all that stood there; the number is that of the decisions of its core before it, where it is an
--- arrival
-pub record AddsEvent (place : ℕ) (e : Event) (decides : ℕ) (b : Chronicle) (old new : Sitting) : Type 0 where
-  pub place_is : place ≡ length b.history
-  pub entered : HasEntered b (record { at = moment (state_in b).now; event = e }) old new
-  pub counted : IsCountBefore b.input.config.granularity b.history e decides
-
 -- what an answer for an actor says
-pub record SettlesEvent (actor : Actor) (place : ℕ) (e : Event) (decides : ℕ) (b : Chronicle) (old new : Sitting) : Type 0 where
+pub record SettlesEvent (actor : Actor) (place : ℕ) (e : Event) (b : Chronicle) (old new : Sitting) : Type 0 where
   pub action : Action
   pub first : first_by b.input (state_in b) actor ≡ Some action
   pub is_event : e ≡ event_of b.input (state_in b) (state_in b).now action
-  pub adds : AddsEvent place e decides b old new
+  pub place_is : place ≡ length b.history
+  pub entered : HasEntered b (record { at = moment (state_in b).now; event = e }) old new
 
 pub record SettlesNothing (actor : Actor) (b : Chronicle) (old new : Sitting) : Type 0 where
   pub keeps : KeepsSight old new
   pub none : first_by b.input (state_in b) actor ≡ None
 
-abbrev pub Settles : Actor → Done → ℕ → Chronicle → Sitting → Sitting → Type 0
-Settles actor (done.Event place e) decides b old new = SettlesEvent actor place e decides b old new
-Settles actor done.Nothing decides b old new = SettlesNothing actor b old new
+abbrev pub Settles : Actor → Done → Chronicle → Sitting → Sitting → Type 0
+Settles actor (done.Event place e) b old new = SettlesEvent actor place e b old new
+Settles actor done.Nothing b old new = SettlesNothing actor b old new
 
 -- the book was full, and went back as it was
 pub record FindsFull (full : Full) (b : Chronicle) (old new : Sitting) : Type 0 where
@@ -80,6 +74,13 @@ pub record FindsFull (full : Full) (b : Chronicle) (old new : Sitting) : Type 0 
 pub record SettlesFull (actor : Actor) (full : Full) (b : Chronicle) (old new : Sitting) : Type 0 where
   pub finds : FindsFull full b old new
   pub due : first_by b.input (state_in b) actor ≢ None
+
+-- the event was added to the book b, behind all that stood there; the number is that of the decisions of its core before it, where it is an
+-- arrival
+pub record AddsEvent (place : ℕ) (e : Event) (decides : ℕ) (b : Chronicle) (old new : Sitting) : Type 0 where
+  pub place_is : place ≡ length b.history
+  pub entered : HasEntered b (record { at = moment (state_in b).now; event = e }) old new
+  pub counted : IsCountBefore b.input.config.granularity b.history e decides
 
 -- what an answer for the whole machine says
 pub record TurnsStep (place : ℕ) (e : Event) (decides : ℕ) (b : Chronicle) (old new : Sitting) : Type 0 where
@@ -122,9 +123,9 @@ pub record FullWhole (full : Full) (b : Chronicle) (old new : Sitting) : Type 0 
   pub due : (e : Entry) × IsNext b.input (reached_by b.input b.history) e
 
 -- the same of a whole call, which had seen `old` at its beginning
-abbrev pub DoneIn : Actor → Done → ℕ → Seen → Seen → Type 0
-DoneIn actor (done.Event place e) decides old new = (before : List Entry) × HasActed actor place e before old new × IsCountBefore old.input.config.granularity before e decides
-DoneIn actor done.Nothing decides old new = HasNothing actor old new
+abbrev pub DoneIn : Actor → Done → Seen → Seen → Type 0
+DoneIn actor (done.Event place e) old new = (before : List Entry) × HasActed actor place e before old new
+DoneIn actor done.Nothing old new = HasNothing actor old new
 
 abbrev pub TurnIn : Turn → ℕ → Seen → Seen → Type 0
 TurnIn (turn.Stepped place e) decides old new = (before : List Entry) × HasStepped place e before old new × IsCountBefore old.input.config.granularity before e decides

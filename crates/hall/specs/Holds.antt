@@ -1,24 +1,25 @@
--- What a hold does: acts of one actor, one after the other, while nobody else has the actor's pool.
-use Rattle.std.specs.Prelude.{ℕ, ◌≡◌, ◌<◌, ◌∷◌, [], List, Option, Some, None, length, true}
+-- What a hold is: a seat has the lock of one pool, and does acts there while nobody else has the pool.
+use Rattle.std.specs.Prelude.{ℕ, ◌≡◌, ◌<◌, ◌∷◌, [], List, Option, Some, None, true}
 use Rattle.std.specs.Option.{ForSome}
 use Rattle.sched_model.specs.declared.action.Actor.{Actor}
 use Rattle.sched_model.specs.declared.action.Actor.TheVariants.{Proc, Dom, Tool}
 use Rattle.sched_model.specs.declared.event.Event.{Event}
 use Rattle.sched_model.specs.declared.machine.Machine.{Machine}
 use Rattle.journal_core.specs.Books.{Chronicle}
+use Rattle.journal_core.specs.Parts.{tool_lock}
 use Rattle.pool_core.specs.Seen.{Seen as PoolSeen}
 use Rattle.lock_moves.specs.Sets.{HasName, LockTable}
 use Rattle.lock_moves.specs.SeatSight.{Sitting}
-use Rattle.hall.specs.declared.hold.Acted.{Acted}
+use Rattle.lock_moves.specs.Words.{name_number}
+use Rattle.hall.specs.declared.hold.Hold.{Hold}
 use Rattle.hall.specs.declared.hold.Holder.{Holder}
 use Rattle.hall.specs.declared.seat.Arrival.{Arrival}
 use Rattle.hall.specs.declared.turns.Done.TheVariants as done
-use Rattle.hall.specs.declared.turns.Full.{Full}
 use Rattle.hall.specs.BookTurns.{HoldsOnly, IsNamed}
 use Rattle.hall.specs.SeatKnowledge.{KnowsPool}
 use Rattle.hall.specs.Seats.{IsCounted, IsOf, Seated, Stays}
 use Rattle.hall.specs.Steps.{HasTakenBook, KeepsOthers, KeepsSight}
-use Rattle.hall.specs.Turns.{ActsFull, HasNothing, IsDone, is_actor}
+use Rattle.hall.specs.Turns.{IsDone, is_actor}
 
 -- the actor is a processor or a domain, whose events are those of one pool
 abbrev pub IsOfSomePool : Actor → Type 0
@@ -37,11 +38,6 @@ pub record HasActedOnce (actor : Actor) (place : ℕ) (old new : Seated) : Type 
   pub event : Event
   pub done : IsDone actor (done.Event place event) old new
 
--- the seat has done so many acts of the actor, one after the other; the places of their entries, the last one first
-abbrev pub Acts : Actor → List ℕ → Seated → Seated → Type 0
-Acts actor [] old new = IsAsBefore old new
-Acts actor (place ∷ places) old new = (mid : Seated) × Acts actor places old mid × HasActedOnce actor place mid new
-
 -- the first place where one more comes behind others, of which this was the first
 abbrev pub first_with : ℕ → Option ℕ → Option ℕ
 first_with place None = Some place
@@ -51,27 +47,6 @@ first_with place (Some first) = Some first
 abbrev pub last_of : List ℕ → Option ℕ
 last_of [] = None
 last_of (place ∷ places) = first_with place (last_of places)
-
--- the seat has done all that the actor might do: acts of it, so many, the first of which added the entry at the place that is answered; and then it
--- looked, and nothing of the actor might come
-pub record HasActedAll (actor : Actor) (acted : Acted) (old new : Seated) : Type 0 where
-  pub places : List ℕ
-  pub mid : Seated
-  pub acts : Acts actor places old mid
-  pub stays : Stays mid new
-  pub nothing : HasNothing actor mid.sitting.view new.sitting.view
-  pub arrived : new.arrived ≡ mid.arrived
-  pub count : acted.count ≡ length places
-  pub first : acted.first ≡ last_of places
-
--- the same up to where the book was found full
-pub record HasFilled (actor : Actor) (full : Full) (old new : Seated) : Type 0 where
-  pub places : List ℕ
-  pub mid : Seated
-  pub acts : Acts actor places old mid
-  pub stays : Stays mid new
-  pub full_is : ActsFull actor full mid.sitting.view new.sitting.view
-  pub arrived : new.arrived ≡ mid.arrived
 
 -- the seat that sits so and keeps this arrival
 abbrev pub seated : Sitting → Option Arrival → Seated
@@ -102,7 +77,13 @@ pub record StaysAtPool (k : ℕ) (slot : Option PoolSeen) (old new : Sitting) : 
   pub names : (n : ℕ) → HasName k n old.view → HasName k n new.view
   pub others : KeepsOthers k old.view new.view
 
--- whose events a hold does: an actor of some pool of the input, and its name
+-- whose pool a hold is of: an actor of some pool of the input, and its name
 pub record IsHolder (m : Machine) (holder : Holder) : Type 0 where
   pub named : IsNamed m holder.actor holder.name
   pub actor : is_actor m.config holder.actor ≡ true
+
+-- the seat, which held nothing, has taken the lock of the holder's pool and no more
+pub record BeginsHold (hall : LockTable) (holder : Holder) (hold : Hold) (old new : Sitting) : Type 0 where
+  pub low : hold.lock.0 < tool_lock
+  pub sight : KeepsSight old new
+  pub held : (arrived : Option Arrival) → IsArrivalOf hall (seated old arrived) → InHold hall hold.lock.0 (name_number holder.name) hold.t.0 hold.slot (seated new arrived)

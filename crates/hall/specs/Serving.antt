@@ -1,20 +1,23 @@
 -- What a hold of a whole pool does: events of actors that the pool has, one after the other, while nobody else has the pool.
-use Rattle.std.specs.Prelude.{ℕ, ◌≡◌, ◌⊎◌, ◌∷◌, [], Bool, true, false, List, Option, Some, None, length}
+use Rattle.std.specs.Prelude.{ℕ, ◌≡◌, ◌⊎◌, ◌∷◌, [], true, List, Option, Some, None, length}
 use Rattle.std.specs.Option.{ForSome}
 use Rattle.sched_model.specs.declared.action.Action.{Action}
 use Rattle.sched_model.specs.declared.action.Actor.{Actor}
+use Rattle.sched_model.specs.declared.event.Event.{Event}
 use Rattle.sched_model.specs.declared.state.Pool.{Pool}
 use Rattle.sched_model.specs.declared.state.State.{State}
 use Rattle.sched_model.specs.Places.{at_place}
+use Rattle.journal_core.specs.Books.{Chronicle}
 use Rattle.journal_core.specs.Histories.{state_at}
 use Rattle.composition_laws.specs.Actors.{has_actor}
 use Rattle.pool_laws.specs.Actors.{IsFirstBy}
 use Rattle.pool_laws.specs.FirstEvents.{IsFirstEnabled}
 use Rattle.pool_core.specs.Seen.{Seen as PoolSeen}
-use Rattle.hall.specs.declared.hold.Acted.{Acted}
+use Rattle.lock_moves.specs.SeatSight.{Sitting}
+use Rattle.hall.specs.declared.turns.Acted.{Acted}
 use Rattle.hall.specs.declared.turns.Full.{Full}
-use Rattle.hall.specs.Holds.{HasActedAll, HasActedOnce, HasFilled, IsAsBefore, IsOfSomePool, last_of}
-use Rattle.hall.specs.Seats.{Seated, Stays}
+use Rattle.hall.specs.Holds.{HasActedOnce, IsAsBefore, IsOfSomePool, last_of}
+use Rattle.hall.specs.Seats.{SeatStays, Seated, Stays}
 use Rattle.hall.specs.Turns.{ActsFull, HasNothing, is_actor}
 
 -- some pool of the state has both actors. g is the number of a core's processors
@@ -66,14 +69,18 @@ pub record HasServedFull (actor : Actor) (full : Full) (old new : Seated) : Type
   pub full_is : ActsFull doer full mid.sitting.view new.sitting.view
   pub arrived : new.arrived ≡ mid.arrived
 
--- what a hold has done: for the whole pool, or for the actor alone
-abbrev pub HasDone : Bool → Actor → Acted → Seated → Seated → Type 0
-HasDone true actor acted old new = HasServed actor acted old new
-HasDone false actor acted old new = HasActedAll actor acted old new
+-- the seat has looked, and no pool has the actor, of which nothing may come; it holds nothing, as before
+pub record FindsNoPool (actor : Actor) (old new : Sitting) : Type 0 where
+  pub stays : SeatStays old new
+  pub free : new.view.held ≡ []
+  pub nothing : HasNothing actor old.view new.view
+  pub alone : (other : Actor) → AreTogether old.view.input.config.granularity (state_at old.view.input new.view.front) actor other → ⊥
 
-abbrev pub HasDoneFull : Bool → Actor → Full → Seated → Seated → Type 0
-HasDoneFull true actor full old new = HasServedFull actor full old new
-HasDoneFull false actor full old new = HasFilled actor full old new
+-- an act whose event this is, and whose entry is the last of the book b
+pub record HasServedOn (actor doer : Actor) (place : ℕ) (event : Event) (b : Chronicle) (old new : Seated) : Type 0 where
+  pub served : IsServed actor doer place old new
+  pub event_is : served.once.event ≡ event
+  pub front : new.sitting.view.front ≡ b.history
 
 -- the pool of the place has the actor, whose first action this is at t
 pub record IsDoerOf (slot : Option PoolSeen) (t : ℕ) (action : Action) (actor : Actor) : Type 0 where

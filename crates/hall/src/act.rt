@@ -1,39 +1,33 @@
 //! What one actor does: the events of a processor or of a domain under the lock of one pool, and those of the tool under all locks.
 
-ghost use Rattle.sched_base.specs.Numbers.{processor};
-ghost use Rattle.std.specs.Prelude.{◌≡◌, ◌<◌, ◌/◌, ℕ, [], true, Some, None, IfOk, IfErr};
-ghost use Rattle.std.specs.Option.{ForSome, IsSome};
-ghost use Rattle.sched_model.specs.declared.action.Action.TheVariants.{Arrive};
+ghost use mathlib.Core.List.{IsPrefix};
+ghost use Rattle.std.specs.Prelude.{◌≡◌, ◌<◌, [], true, Option, None, IfOk, IfErr};
 ghost use Rattle.sched_model.specs.declared.action.Actor.TheVariants.{Tool};
-ghost use Rattle.sched_model.specs.declared.event.Event.{Event as EventSpec};
-ghost use Rattle.sched_model.specs.Runs.{event_action};
 ghost use Rattle.journal_core.specs.Histories.{reached_by};
-ghost use Rattle.composition_laws.specs.Actors.{has_actor};
-ghost use Rattle.pool_laws.specs.Actors.{IsFirstBy};
 ghost use Rattle.lock_moves.specs.SeatSight.{find_lock};
-ghost use Rattle.lock_moves.specs.Sets.{HasName};
-ghost use Rattle.hall.specs.SeatKnowledge.{KnowsAll, KnowsPool};
-ghost use Rattle.hall.specs.Seats.{IsCountBefore, IsOf, IsSeatOf, SeatStays, Stays};
-ghost use Rattle.hall.specs.BookTurns.{DoneIn, HoldsOnly, IsNamed, Settles, SettlesFull};
-ghost use Rattle.hall.specs.Steps.{BeginsTurn, KeepsOthers};
+ghost use Rattle.hall.specs.declared.seat.Arrival.{Arrival as ArrivalSpec};
+ghost use Rattle.hall.specs.SeatKnowledge.{KnowsAll};
+ghost use Rattle.hall.specs.Seats.{IsOf, IsSeatOf, SeatStays, Stays};
+ghost use Rattle.hall.specs.BookTurns.{Settles, SettlesFull};
+ghost use Rattle.hall.specs.Holds.{InHold, IsArrivalOf, IsHolder, seated};
+ghost use Rattle.hall.specs.Steps.{BeginsTurn};
 ghost use Rattle.hall.specs.Turns.{ActsFull, IsDone, is_actor};
 ghost use Rattle.journal_core.specs.Parts.{tool_lock};
-ghost use Rattle.lock_moves.specs.Words.{book_lock};
+ghost use Rattle.lock_moves.specs.Words.{book_lock, name_number};
 
 use crate::all::{AllParts, put_all, take_all};
 use crate::book::{put_book, take_book};
 use crate::hall::Hall;
-use crate::pools::perform_at;
-use crate::seat::{HallSeat, arrived_after};
+use crate::hold::Holder;
+use crate::seat::{Arrival, HallSeat};
 use crate::turns::{Done, Full};
-use crate::value::PartState;
 use crate::whole::perform;
 use journal_core::Book;
-use lock_moves::{Held, HeldBook, LockId, LockSeat, NameId, WordId};
+use lock_moves::{HeldBook, LockId, LockSeat};
 use machine_parts::{PoolSlot, Trail, tool_first};
-use sched_base::{Moment, ResId};
+use sched_base::Moment;
 use sched_io::Gate;
-use sched_model::action::{Action, Actor};
+use sched_model::action::Actor;
 use sched_model::event::Event;
 use std::sync::Wait;
 
@@ -69,183 +63,85 @@ impl Hall {
             ActsFull actor full seat.old.sitting.view seat.new.sitting.view) }
         ensures kept { IfErr result (λ full. seat.new.arrived ≡ seat.old.arrived) }
     {
-        let found = self.act_for(rt, &mut seat.seat, actor, gate);
-        let (done, decides) = found?;
-        if let Done::Event { event, .. } = done {
-            seat.arrived = arrived_after(seat.arrived, event, decides);
+        match actor {
+            Actor::Tool => self.act_as_tool(rt, &mut seat.seat, gate),
+            Actor::Proc(_) | Actor::Dom(_) => {
+                let holder = self.holder(actor);
+                self.act_for(rt, &mut seat.seat, &mut seat.arrived, holder, gate)
+            }
         }
-        Ok(done)
     }
 
-    /// The same, with the number of decisions of the core before it, where the event is an arrival.
+    /// The same of a holder, by a seat that keeps this arrival.
     fn act_for<R: Wait, G: Gate>(
         &self,
         rt: &R,
         seat: &mut LockSeat,
-        actor: Actor,
+        arrived: &mut Option<Arrival>,
+        holder: Holder,
         gate: &G,
-    ) -> Result<(Done, u32), Full>
+    ) -> Result<Done, Full>
         requires of { IsSeatOf self.now seat.old }
         requires nothing { seat.old.view.held ≡ [] }
-        requires actor { is_actor self.now.opened.input.config actor ≡ true }
+        requires inside { IsArrivalOf self.now (seated seat.old arrived.old) }
+        requires holder { IsHolder self.now.opened.input holder }
         ensures stays { SeatStays seat.old seat.new }
         ensures nothing { seat.new.view.held ≡ [] }
-        ensures done { IfOk result (λ r. DoneIn actor r.0 r.1 seat.old.view seat.new.view) }
-        ensures full { IfErr result (λ full. ActsFull actor full seat.old.view seat.new.view) }
+        ensures inside { IsArrivalOf self.now (seated seat.new arrived.new) }
+        ensures done { IfOk result (λ done. IsDone holder.actor done
+            (seated seat.old arrived.old) (seated seat.new arrived.new)) }
+        ensures full { IfErr result (λ full.
+            ActsFull holder.actor full seat.old.view seat.new.view) }
+        ensures kept { IfErr result (λ full. arrived.new ≡ arrived.old) }
     {
-        match actor {
-            Actor::Proc(p) => {
-                let core = NameId::Res(ResId(p.0 / self.granularity));
-                self.act_at(rt, seat, core, actor, u32::from(p.0), gate)
-            }
-            Actor::Dom(d) => {
-                let who = 64 + u32::from(d.0);
-                self.act_at(rt, seat, NameId::Dom(d), actor, who, gate)
-            }
-            Actor::Tool => self.act_as_tool(rt, seat, gate),
-        }
-    }
-
-    /// The same under the lock of the part that lists the actor's name, with the number of decisions of the core before it, where the event is
-    /// an arrival. A core of no pool has no event.
-    fn act_at<R: Wait, G: Gate>(
-        &self,
-        rt: &R,
-        seat: &mut LockSeat,
-        name: NameId,
-        actor: Actor,
-        who: u32,
-        gate: &G,
-    ) -> Result<(Done, u32), Full>
-        requires of { IsSeatOf self.now seat.old }
-        requires nothing { seat.old.view.held ≡ [] }
-        requires name { IsNamed self.now.opened.input actor name }
-        ensures stays { SeatStays seat.old seat.new }
-        ensures nothing { seat.new.view.held ≡ [] }
-        ensures done { IfOk result (λ r. DoneIn actor r.0 r.1 seat.old.view seat.new.view) }
-        ensures full { IfErr result (λ full. ActsFull actor full seat.old.view seat.new.view) }
-    {
-        let held = self.set.lock_of(rt, seat, name);
-        let lock = held.lock();
-        match held.into_value() {
-            PartState::Tool(kept) => {
-                let book = take_book(rt, &self.set, seat);
-                put_book(&self.set, seat, book);
-                self.set
-                    .unlock(seat, Held::new(lock, PartState::Tool(kept)));
-                Ok((Done::Nothing, 0))
-            }
-            PartState::Pool(slot) => self.act_in_pool(rt, seat, lock, slot, actor, who, gate),
-        }
-    }
-
-    /// The same in the pool whose place this is and whose lock alone the seat holds.
-    fn act_in_pool<R: Wait, G: Gate>(
-        &self,
-        rt: &R,
-        seat: &mut LockSeat,
-        lock: LockId,
-        slot: PoolSlot,
-        actor: Actor,
-        who: u32,
-        gate: &G,
-    ) -> Result<(Done, u32), Full>
-        requires of { IsSeatOf self.now seat.old }
-        requires number { lock.0 < tool_lock }
-        requires only { HoldsOnly lock.0 seat.old.view }
-        requires knows { KnowsPool lock.0 slot seat.old.view }
-        requires some { IsSome slot }
-        requires actor { ForSome slot (λ seen. has_actor seen.granularity seen.pool actor ≡ true) }
-        ensures stays { SeatStays seat.old seat.new }
-        ensures nothing { seat.new.view.held ≡ [] }
-        ensures done { IfOk result (λ r. DoneIn actor r.0 r.1 seat.old.view seat.new.view) }
-        ensures full { IfErr result (λ full. ActsFull actor full seat.old.view seat.new.view) }
-    {
-        let t = Moment(self.set.read_word(seat, WordId::Now));
-        let mut slot = slot;
-        let done = self.act_held(rt, seat, lock, &mut slot, t, actor, who, gate);
-        self.set
-            .unlock(seat, Held::new(lock, PartState::Pool(slot)));
+        let Some(mut hold) = self.begin_hold(rt, seat, holder) else {
+            return Ok(Done::Nothing);
+        };
+        let done = self.act_on(
+            rt,
+            seat,
+            arrived,
+            hold.lock,
+            &mut hold.slot,
+            hold.t,
+            holder,
+            gate,
+        );
+        self.end_hold(seat, hold);
         done
     }
 
-    /// The same, and the seat goes on holding the lock. The moment is t.
-    fn act_held<R: Wait, G: Gate>(
+    /// The same in the pool whose place this is and whose lock the seat holds, and goes on holding. The moment is t.
+    fn act_on<R: Wait, G: Gate>(
         &self,
         rt: &R,
         seat: &mut LockSeat,
+        arrived: &mut Option<Arrival>,
         lock: LockId,
         slot: &mut PoolSlot,
         t: Moment,
-        actor: Actor,
-        who: u32,
+        holder: Holder,
         gate: &G,
-    ) -> Result<(Done, u32), Full>
-        requires of { IsSeatOf self.now seat.old }
+    ) -> Result<Done, Full>
         requires number { lock.0 < tool_lock }
-        requires only { HoldsOnly lock.0 seat.old.view }
-        requires knows { KnowsPool lock.0 slot.old seat.old.view }
-        requires some { IsSome slot.old }
-        requires actor { ForSome slot.old (λ seen. has_actor seen.granularity seen.pool actor
-            ≡ true) }
-        requires now { t.0 ≡ seat.old.view.now }
+        requires hold { InHold self.now lock.0 (name_number holder.name) t.0 slot.old
+            (seated seat.old arrived.old) }
+        requires holder { IsHolder self.now.opened.input holder }
+        ensures hold { InHold self.now lock.0 (name_number holder.name) t.0 slot.new
+            (seated seat.new arrived.new) }
         ensures stays { SeatStays seat.old seat.new }
-        ensures only { HoldsOnly lock.0 seat.new.view }
-        ensures knows { KnowsPool lock.0 slot.new seat.new.view }
-        ensures names { (n : ℕ) → HasName lock.0 n seat.old.view → HasName lock.0 n seat.new.view }
-        ensures now { seat.new.view.now ≡ seat.old.view.now }
-        ensures done { IfOk result (λ r. DoneIn actor r.0 r.1 seat.old.view seat.new.view) }
-        ensures full { IfErr result (λ full. ActsFull actor full seat.old.view seat.new.view) }
+        ensures done { IfOk result (λ done. IsDone holder.actor done
+            (seated seat.old arrived.old) (seated seat.new arrived.new)) }
+        ensures full { IfErr result (λ full.
+            ActsFull holder.actor full seat.old.view seat.new.view) }
+        ensures kept { IfErr result (λ full. arrived.new ≡ arrived.old) }
     {
-        gate.pass(who);
-        let found = slot.enabled_for(actor, t);
-        let book = take_book(rt, &self.set, seat);
-        self.settle(seat, book, slot, lock.0, actor, found, t)
-    }
-
-    /// How often the core of an arriving processor has decided in the book's history, where the action is an arrival.
-    pub(crate) fn decides_before(&self, book: &Book, action: Action) -> u32
-        requires few { (p : ℕ) → action ≡ Arrive (processor p) →
-            p / self.now.opened.input.config.granularity < 64 }
-        ensures { (e : EventSpec) → event_action e ≡ Some action →
-            IsCountBefore self.now.opened.input.config.granularity book.now.history e result }
-    {
-        match action {
-            Action::Arrive(p) => book.decides(ResId(p.0 / self.granularity)),
-            _ => 0,
-        }
-    }
-
-    /// Does the event of the actor that was found in this pool, if one was, or puts the book back as it was.
-    fn settle(
-        &self,
-        seat: &mut LockSeat,
-        book: HeldBook,
-        slot: &mut PoolSlot,
-        index: u8,
-        actor: Actor,
-        found: Option<Action>,
-        t: Moment,
-    ) -> Result<(Done, u32), Full>
-        requires begins { BeginsTurn self.now book seat.old }
-        requires number { index < tool_lock }
-        requires knows { KnowsPool index slot.old seat.old.view }
-        requires some { IsSome slot.old }
-        requires now { t.0 ≡ seat.old.view.now }
-        requires actor { ForSome slot.old (λ seen. has_actor seen.granularity seen.pool actor
-            ≡ true) }
-        requires found { ForSome slot.old
-            (λ seen. IsFirstBy seen.granularity t.0 seen.pool actor found) }
-        ensures knows { KnowsPool index slot.new seat.new.view }
-        ensures names { (n : ℕ) → HasName index n seat.old.view → HasName index n seat.new.view }
-        ensures others { KeepsOthers index seat.old.view seat.new.view }
-        ensures stays { SeatStays seat.old seat.new }
-        ensures done { IfOk result (λ r. Settles actor r.0 r.1 book seat.old seat.new) }
-        ensures full { IfErr result (λ full. SettlesFull actor full book seat.old seat.new) }
-    {
+        gate.pass(holder.who);
+        let found = slot.enabled_for(holder.actor, t);
+        let mut book = take_book(rt, &self.set, seat);
         let Some(action) = found else {
             put_book(&self.set, seat, book);
-            return Ok((Done::Nothing, 0));
+            return Ok(Done::Nothing);
         };
         book.get().tell();
         if !book.get().room_left() {
@@ -253,24 +149,27 @@ impl Hall {
             put_book(&self.set, seat, book);
             return Err(Full { events });
         }
-        let place = book.get().len();
-        let decides = self.decides_before(book.get(), action);
-        let event = perform_at(&self.set, seat, book, slot, index, action, t);
-        Ok((Done::Event { place, event }, decides))
+        let (place, event) = self.act_on_book(
+            seat, arrived, &mut book, lock, slot, t, holder, action,
+        );
+        put_book(&self.set, seat, book);
+        Ok(Done::Event { place, event })
     }
 
-    /// The first event of the tool, under all locks.
+    /// The first event of the tool, under all locks. It changes no arrival that a seat keeps.
     fn act_as_tool<R: Wait, G: Gate>(
         &self,
         rt: &R,
         seat: &mut LockSeat,
         gate: &G,
-    ) -> Result<(Done, u32), Full>
+    ) -> Result<Done, Full>
         requires of { IsSeatOf self.now seat.old }
         requires nothing { seat.old.view.held ≡ [] }
         ensures stays { SeatStays seat.old seat.new }
         ensures nothing { seat.new.view.held ≡ [] }
-        ensures done { IfOk result (λ r. DoneIn Tool r.0 r.1 seat.old.view seat.new.view) }
+        ensures begins { IsPrefix seat.old.view.front seat.new.view.front }
+        ensures done { (kept : Option ArrivalSpec) → IfOk result (λ done. IsDone Tool done
+            (seated seat.old kept) (seated seat.new kept)) }
         ensures full { IfErr result (λ full. ActsFull Tool full seat.old.view seat.new.view) }
     {
         let mut all = take_all(rt, &self.set, seat);
@@ -287,23 +186,23 @@ impl Hall {
         seat: &mut LockSeat,
         book: HeldBook,
         all: &mut AllParts,
-    ) -> Result<(Done, u32), Full>
+    ) -> Result<Done, Full>
         requires begins { BeginsTurn self.now book seat.old }
         requires knows { KnowsAll all.old seat.old.view }
         ensures knows { KnowsAll all.new seat.new.view }
         ensures book { find_lock book_lock seat.new.view.held ≡ None }
-        ensures done { IfOk result (λ r. Settles Tool r.0 r.1 book seat.old seat.new) }
+        ensures done { IfOk result (λ done. Settles Tool done book seat.old seat.new) }
         ensures full { IfErr result (λ full. SettlesFull Tool full book seat.old seat.new) }
     {
         if is_over(book.get()) {
             put_book(&self.set, seat, book);
-            return Ok((Done::Nothing, 0));
+            return Ok(Done::Nothing);
         }
         let t = book.get().now();
         let trail = Trail::of(book.get());
         let Some(action) = tool_first(all.slots.as_slice(), &all.tool.tool, &trail, t) else {
             put_book(&self.set, seat, book);
-            return Ok((Done::Nothing, 0));
+            return Ok(Done::Nothing);
         };
         book.get().tell();
         if !book.get().room_left() {
@@ -312,8 +211,7 @@ impl Hall {
             return Err(Full { events });
         }
         let place = book.get().len();
-        let decides = self.decides_before(book.get(), action);
         let event = perform(&self.set, self.granularity, seat, book, all, action, t);
-        Ok((Done::Event { place, event }, decides))
+        Ok(Done::Event { place, event })
     }
 }

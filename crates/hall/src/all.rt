@@ -15,7 +15,6 @@ use sched_model::machine::MOST_POOLS;
 use std::boxed::Box;
 use std::sync::Wait;
 
-/// The lock of what the tool keeps.
 /// The places of the 16 pools, in the order of their numbers, and what the tool keeps.
 #[derive(Drop)]
 pub struct AllParts {

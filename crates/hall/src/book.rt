@@ -80,7 +80,12 @@ fn add_entry(set: &LockSet<PartState>, seat: &mut LockSeat, book: &mut HeldBook,
 }
 
 /// Adds the next entry of the run to the book, and puts the book back.
-pub(crate) fn enter(set: &LockSet<PartState>, seat: &mut LockSeat, book: HeldBook, entry: Entry)
+pub(crate) fn add_and_put_back(
+    set: &LockSet<PartState>,
+    seat: &mut LockSeat,
+    book: HeldBook,
+    entry: Entry,
+)
     requires has { HasBook set.now book seat.old }
     requires checked { IsChecked book.input }
     requires next { IsNext book.input (reached_by book.input book.history) entry }
@@ -98,7 +103,7 @@ pub(crate) fn enter(set: &LockSet<PartState>, seat: &mut LockSeat, book: HeldBoo
 }
 
 /// The same, and the seat goes on holding the book, in which the entry now is: as if it took the book again at once.
-pub(crate) fn enter_on(
+pub(crate) fn add_and_keep(
     set: &LockSet<PartState>,
     seat: &mut LockSeat,
     book: &mut HeldBook,

@@ -1,16 +1,16 @@
 //! The hall: a machine whose parts lie under locks, and the calls that open it, share it out and end it.
 //!
 //! *Design.* A hall is one machine for many threads. Each works through a seat, its handle, which knows the beginning of the history that it has
-//! seen. A call does one entry of the run or none: the first event of an actor, that is of a processor, of a domain or of the tool (`act`), all
-//! such events of a processor or domain under one hold of its pool (`act_all`), all events of a pool, whoever does them (`act_pool`), or the next
-//! entry of the whole machine (`close_or_step`), which alone ends moments and the run. What an entry says is judged in the state that the history
-//! before it leads to, so any order of the callers' steps makes the beginning of a run.
+//! seen. The program makes two calls: `act_pool` does all events of a pool that may come now, whoever does them, and `close_or_step` (`close_and_look`)
+//! does the next entry of the whole machine, and alone ends moments and the run. `act` does the first event of one actor, that is of a processor, of
+//! a domain or of the tool, or none. What an entry says is judged in the state that the history before it leads to, so any order of the callers'
+//! steps makes the beginning of a run.
 //!
 //! *Locking.* There are 18 locks (`lock_moves`): one for each slot of a pool, one for what the tool keeps, and one for the book with the history.
-//! An event of a processor or a domain takes two: its pool's, where it looks for the event, and then the book's, under which it does the event and
-//! adds the entry; `act_all` and `act_pool` take both once, and keep the book for all their events. So threads in different pools meet at the book
-//! alone. Commands, stalls, moves and the ends of moments take all 18. Locks are taken in rising order of their numbers, the book's last; between
-//! two calls a seat holds none. Which lock has a core or a domain is read from its name's word, and read again under the lock, since a move may
+//! An event of a processor or a domain takes two: its pool's, where the event is looked for, and then the book's, under which it is done and its
+//! entry added. `act_pool` takes both once, and keeps the book for all its events; `act` does one and gives both back. So threads in different pools
+//! meet at the book alone. Commands, stalls, moves and the ends of moments take all 18. Locks are taken in rising order of their numbers, the book's last;
+//! between two calls a seat holds none. Which lock has a core or a domain is read from its name's word, and read again under the lock, since a move may
 //! have come between. `still_waits` is one load of a word, without a lock. `entry` and `entries`, which read the history,
 //! take the book.
 //!

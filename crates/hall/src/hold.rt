@@ -1,38 +1,35 @@
-//! All events of one actor that may come now, under one hold of its pool's lock.
+//! A hold: a pool's lock in the hands of a seat, under which it does events of that pool.
 
-ghost use Rattle.std.specs.Prelude.{◌≡◌, ◌<◌, [], true, length, IfOk, IfErr, Some};
+ghost use Rattle.sched_base.specs.Numbers.{processor};
+ghost use Rattle.std.specs.Prelude.{◌≡◌, ◌<◌, ◌/◌, ℕ, [], true, length, IfNone, IfSome, Some};
+ghost use Rattle.sched_model.specs.declared.action.Action.TheVariants.{Arrive};
+ghost use Rattle.sched_model.specs.declared.event.Event.{Event as EventSpec};
+ghost use Rattle.sched_model.specs.Runs.{event_action};
 ghost use Rattle.lock_moves.specs.SeatSight.{Sitting};
-ghost use Rattle.hall.specs.Holds.{HasActedAll, HasFilled, InHold, InHoldOn, IsArrivalOf, IsHolder, IsOfSomePool, seated};
-ghost use Rattle.hall.specs.Seats.{IsOf, IsSeatOf, SeatStays, Stays};
-ghost use Rattle.hall.specs.Serving.{HasDone, HasDoneFull, IsDoerOf, IsServed};
+ghost use Rattle.hall.specs.BookTurns.{HoldsOnly};
+ghost use Rattle.hall.specs.Holds.{BeginsHold, InHoldOn, IsHolder, IsOfSomePool, seated};
+ghost use Rattle.hall.specs.SeatKnowledge.{KnowsPool};
+ghost use Rattle.hall.specs.Seats.{IsCountBefore, IsSeatOf};
+ghost use Rattle.hall.specs.Serving.{FindsNoPool, HasServedOn, IsDoerOf};
+ghost use Rattle.hall.specs.Steps.{KeepsSight};
 ghost use Rattle.hall.specs.Turns.{is_actor};
 ghost use Rattle.lock_moves.specs.Words.{name_number};
 ghost use Rattle.journal_core.specs.Parts.{tool_lock};
 
 use crate::book::{put_book, take_book};
 use crate::hall::Hall;
-use crate::hints::next_doer;
 use crate::pools::perform_on;
-use crate::seat::{Arrival, HallSeat, arrived_after};
-use crate::turns::Full;
+use crate::seat::{Arrival, arrived_after};
 use crate::value::PartState;
+use journal_core::Book;
 use lock_moves::{Held, HeldBook, LockId, LockSeat, NameId, WordId};
 use machine_parts::PoolSlot;
 use sched_base::{Moment, ResId};
-use sched_io::Gate;
 use sched_model::action::{Action, Actor};
+use sched_model::event::Event;
 use std::sync::Wait;
 
-/// What a hold did: how many events it added to the history, and the place of the first of them, from 0. `next` is a hint, of which no contract
-/// speaks: whose event comes first in the pool then.
-#[derive(Clone, Copy)]
-pub struct Acted {
-    pub count: u64,
-    pub first: Option<u32>,
-    pub next: Option<Actor>,
-}
-
-/// Whose events a hold does: the actor, its name, and the number with which it passes the gate.
+/// Whose pool a hold is of: an actor of the pool, its name, and the number with which it passes the gate.
 #[derive(Clone, Copy)]
 pub(crate) struct Holder {
     pub actor: Actor,
@@ -40,62 +37,16 @@ pub(crate) struct Holder {
     pub who: u32,
 }
 
-impl Acted {
-    ghost use Rattle.std.specs.Prelude.{◌≡◌, ◌+◌, ◌≤◌, None};
-    ghost use Rattle.hall.specs.Holds.{first_with};
-
-    /// Nothing yet.
-    pub(crate) fn nothing() -> Acted
-        ensures count { result.count ≡ 0 }
-        ensures first { result.first ≡ None }
-    {
-        Acted {
-            count: 0,
-            first: None,
-            next: None,
-        }
-    }
-
-    /// One event more, whose entry has this place.
-    pub(crate) fn add(&mut self, place: u32)
-        requires few { self.old.count ≤ place }
-        ensures count { self.new.count ≡ self.old.count + 1 }
-        ensures first { self.new.first ≡ first_with place self.old.first }
-    {
-        self.count += 1;
-        if self.first.is_none() {
-            self.first = Some(place);
-        }
-    }
+/// The lock of a pool with the pool's place, and the moment, which stands still while the lock is held.
+#[derive(Drop)]
+pub(crate) struct Hold {
+    pub lock: LockId,
+    pub slot: PoolSlot,
+    pub t: Moment,
 }
 
 impl Hall {
-    /// Does the events of the actor, a processor or a domain, that may come now, one after the other, under one hold of its pool's lock, and answers
-    /// how many they were. Each is the first event of the actor in the state in which its entry stands.
-    /// It ends where the book was looked at, and no event of the actor may come in the state to which the seat's front then leads. It waits for
-    /// locks. Full comes only where a further one may, and the book has no room; what was done before stays.
-    ///
-    /// It takes the book once, and adds all its entries while it holds the book, so that they stand one behind the other; no contract says so. Where
-    /// the pool's lock is held, and the book not yet, it passes the gate, once: with the processor's number, or 64 more than the domain's.
-    pub fn act_all<R: Wait, G: Gate>(
-        &self,
-        rt: &R,
-        seat: &mut HallSeat,
-        actor: Actor,
-        gate: &G,
-    ) -> Result<Acted, Full>
-        requires of { IsOf self.now seat.old }
-        requires actor { is_actor self.now.opened.input.config actor ≡ true }
-        requires pool { IsOfSomePool actor }
-        ensures stays { Stays seat.old seat.new }
-        ensures all { IfOk result (λ acted. HasActedAll actor acted seat.old seat.new) }
-        ensures full { IfErr result (λ full. HasFilled actor full seat.old seat.new) }
-    {
-        let holder = self.holder(actor);
-        self.hold_for(rt, &mut seat.seat, &mut seat.arrived, holder, false, gate)
-    }
-
-    /// Whose events a hold for the actor does.
+    /// The holder for the pool of this actor, a processor or a domain.
     pub(crate) fn holder(&self, actor: Actor) -> Holder
         requires actor { is_actor self.now.opened.input.config actor ≡ true }
         requires pool { IsOfSomePool actor }
@@ -117,27 +68,19 @@ impl Hall {
         }
     }
 
-    /// The same by a seat that keeps this arrival, or what may come of the whole pool. A core of no pool has no event.
-    pub(crate) fn hold_for<R: Wait, G: Gate>(
+    /// Takes the lock of the pool that has the holder, and waits until it is free. A core of no pool has no event: then the seat looks at the
+    /// book, and holds nothing.
+    pub(crate) fn begin_hold<R: Wait>(
         &self,
         rt: &R,
         seat: &mut LockSeat,
-        arrived: &mut Option<Arrival>,
         holder: Holder,
-        whole: bool,
-        gate: &G,
-    ) -> Result<Acted, Full>
+    ) -> Option<Hold>
         requires of { IsSeatOf self.now seat.old }
         requires nothing { seat.old.view.held ≡ [] }
-        requires inside { IsArrivalOf self.now (seated seat.old arrived.old) }
         requires holder { IsHolder self.now.opened.input holder }
-        ensures stays { SeatStays seat.old seat.new }
-        ensures nothing { seat.new.view.held ≡ [] }
-        ensures inside { IsArrivalOf self.now (seated seat.new arrived.new) }
-        ensures all { IfOk result (λ acted. HasDone whole holder.actor acted
-            (seated seat.old arrived.old) (seated seat.new arrived.new)) }
-        ensures full { IfErr result (λ full. HasDoneFull whole holder.actor full
-            (seated seat.old arrived.old) (seated seat.new arrived.new)) }
+        ensures some { IfSome result (λ hold. BeginsHold self.now holder hold seat.old seat.new) }
+        ensures none { IfNone result (FindsNoPool holder.actor seat.old seat.new) }
     {
         let held = self.set.lock_of(rt, seat, holder.name);
         let lock = held.lock();
@@ -147,68 +90,44 @@ impl Hall {
                 put_book(&self.set, seat, book);
                 self.set
                     .unlock(seat, Held::new(lock, PartState::Tool(kept)));
-                Ok(Acted::nothing())
+                None
             }
             PartState::Pool(slot) => {
-                let mut slot = slot;
                 let t = Moment(self.set.read_word(seat, WordId::Now));
-                let acted = self.do_all(rt, seat, arrived, lock, &mut slot, t, holder, whole, gate);
-                self.set
-                    .unlock(seat, Held::new(lock, PartState::Pool(slot)));
-                acted
+                Some(Hold { lock, slot, t })
             }
         }
     }
 
-    /// The same in the pool whose place this is and whose lock the seat holds, and goes on holding, of the holder alone. The moment is t.
-    pub(crate) fn act_on<R: Wait, G: Gate>(
-        &self,
-        rt: &R,
-        seat: &mut LockSeat,
-        arrived: &mut Option<Arrival>,
-        lock: LockId,
-        slot: &mut PoolSlot,
-        t: Moment,
-        holder: Holder,
-        gate: &G,
-    ) -> Result<Acted, Full>
-        requires number { lock.0 < tool_lock }
-        requires hold { InHold self.now lock.0 (name_number holder.name) t.0 slot.old
-            (seated seat.old arrived.old) }
-        requires holder { IsHolder self.now.opened.input holder }
-        ensures hold { InHold self.now lock.0 (name_number holder.name) t.0 slot.new
-            (seated seat.new arrived.new) }
-        ensures stays { SeatStays seat.old seat.new }
-        ensures all { IfOk result (λ acted. HasActedAll holder.actor acted
-            (seated seat.old arrived.old) (seated seat.new arrived.new)) }
-        ensures full { IfErr result (λ full. HasFilled holder.actor full
-            (seated seat.old arrived.old) (seated seat.new arrived.new)) }
+    /// Puts the pool's place back under its lock, the only one that the seat holds.
+    pub(crate) fn end_hold(&self, seat: &mut LockSeat, hold: Hold)
+        requires set { seat.old.table ≡ self.now.table }
+        requires number { hold.lock.0 < tool_lock }
+        requires only { HoldsOnly hold.lock.0 seat.old.view }
+        requires knows { KnowsPool hold.lock.0 hold.slot seat.old.view }
+        ensures keeps { KeepsSight seat.old seat.new }
+        ensures nothing { seat.new.view.held ≡ [] }
     {
-        gate.pass(holder.who);
-        let mut acted = Acted::nothing();
-        let mut found = slot.enabled_for(holder.actor, t);
-        let mut book = take_book(rt, &self.set, seat);
-        for _ in rt.forever() {
-            let Some(action) = found else {
-                put_book(&self.set, seat, book);
-                acted.next = next_doer(slot, t, self.granularity);
-                return Ok(acted);
-            };
-            book.get().tell();
-            if !book.get().room_left() {
-                let events = book.get().limit();
-                put_book(&self.set, seat, book);
-                return Err(Full { events });
-            }
-            let place = self.act_on_book(seat, arrived, &mut book, lock, slot, t, holder, action);
-            acted.add(place);
-            found = slot.enabled_for(holder.actor, t);
-        }
-        unreachable!()
+        let Hold { lock, slot, .. } = hold;
+        self.set
+            .unlock(seat, Held::new(lock, PartState::Pool(slot)));
     }
 
-    /// One event of it, which is the first of the one who does it, and for which the book has room. The book stays with the seat. It answers the place
-    /// of its entry.
+    /// How often the core of an arriving processor has decided in the book's history, where the action is an arrival.
+    pub(crate) fn decides_before(&self, book: &Book, action: Action) -> u32
+        requires few { (p : ℕ) → action ≡ Arrive (processor p) →
+            p / self.now.opened.input.config.granularity < 64 }
+        ensures { (e : EventSpec) → event_action e ≡ Some action →
+            IsCountBefore self.now.opened.input.config.granularity book.now.history e result }
+    {
+        match action {
+            Action::Arrive(p) => book.decides(ResId(p.0 / self.granularity)),
+            _ => 0,
+        }
+    }
+
+    /// Does an event in a hold, the first of the one who does it, and adds its entry to the book, which has room and stays with the seat. It answers the
+    /// event with the place of its entry.
     pub(crate) fn act_on_book(
         &self,
         seat: &mut LockSeat,
@@ -219,7 +138,7 @@ impl Hall {
         t: Moment,
         holder: Holder,
         action: Action,
-    ) -> u32
+    ) -> (u32, Event)
         requires number { lock.0 < tool_lock }
         requires hold { (mid : Sitting) × InHoldOn self.now lock.0 (name_number holder.name) t.0
             slot.old book.old mid (seated seat.old arrived.old) }
@@ -229,7 +148,7 @@ impl Hall {
         ensures { (mid : Sitting) (doer : Actor)
             → InHoldOn self.now lock.0 (name_number holder.name) t.0 slot.old book.old mid
             (seated seat.old arrived.old) → IsDoerOf slot.old t.0 action doer
-            → (next : Sitting) × IsServed holder.actor doer result
+            → (next : Sitting) × HasServedOn holder.actor doer result.0 result.1 book.new
             (seated mid arrived.old) (seated next arrived.new)
             × InHoldOn self.now lock.0 (name_number holder.name) t.0 slot.new book.new next
             (seated seat.new arrived.new) }
@@ -239,6 +158,6 @@ impl Hall {
         let decides = self.decides_before(book.get(), action);
         let event = perform_on(set, seat, book, slot, lock.0, action, t);
         *arrived = arrived_after(*arrived, event, decides);
-        place
+        (place, event)
     }
 }

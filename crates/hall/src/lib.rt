@@ -22,7 +22,6 @@ mod whole;
 
 pub use hall::Hall;
 pub use hints::Hints;
-pub use hold::Acted;
 pub use seat::{Arrival, HallSeat};
-pub use turns::{Done, Full, Turn, Waits};
+pub use turns::{Acted, Done, Full, Turn, Waits};
 pub use value::{PartState, ToolKept};

@@ -11,7 +11,7 @@ ghost use Rattle.hall.specs.Holds.{StaysAtPool};
 ghost use Rattle.lock_moves.specs.SeatSight.{Sitting};
 ghost use Rattle.journal_core.specs.Parts.{tool_lock};
 
-use crate::book::{enter, enter_on};
+use crate::book::{add_and_keep, add_and_put_back};
 use crate::value::PartState;
 use lock_moves::{HeldBook, LockSeat, LockSet};
 use machine_parts::{PoolSlot, Trail};
@@ -43,7 +43,7 @@ pub(crate) fn perform_at(
 {
     let trail = Trail::of(book.get());
     let event = slot.perform(&trail, place, action, t);
-    enter(set, seat, book, Entry { at: t, event });
+    add_and_put_back(set, seat, book, Entry { at: t, event });
     event
 }
 
@@ -65,10 +65,10 @@ pub(crate) fn perform_on(
         (state_of (told_of book.old)) action ≡ Some place }
     ensures { (mid : Sitting) × HasActed book.old action t result seat.old mid
         × StaysAtPool place slot.new seat.old mid
-        × HasTakenBook set.now book.new mid seat.new }
+        × HasTakenBook set.now book.new mid seat.new × (mid.view.front ≡ book.new.history) }
 {
     let trail = Trail::of(book.get());
     let event = slot.perform(&trail, place, action, t);
-    enter_on(set, seat, book, Entry { at: t, event });
+    add_and_keep(set, seat, book, Entry { at: t, event });
     event
 }

@@ -1,18 +1,18 @@
 //! All events of a pool that may come now, whoever does them, under one hold of its lock.
 
-ghost use Rattle.std.specs.Prelude.{◌≡◌, ◌<◌, true, IfOk, IfErr, IfSome};
-ghost use Rattle.hall.specs.Holds.{InHold, IsHolder, IsOfSomePool, seated};
-ghost use Rattle.hall.specs.Seats.{IsOf, SeatStays, Stays};
-ghost use Rattle.hall.specs.Serving.{HasDone, HasDoneFull, HasServed, HasServedFull, IsSomebodys, MayComeNext};
+ghost use Rattle.std.specs.Prelude.{◌≡◌, ◌<◌, [], true, IfOk, IfErr, IfSome};
+ghost use Rattle.hall.specs.Holds.{InHold, IsArrivalOf, IsHolder, IsOfSomePool, seated};
+ghost use Rattle.hall.specs.Seats.{IsOf, IsSeatOf, SeatStays, Stays};
+ghost use Rattle.hall.specs.Serving.{HasServed, HasServedFull, IsSomebodys, MayComeNext};
 ghost use Rattle.hall.specs.Turns.{is_actor};
 ghost use Rattle.lock_moves.specs.Words.{name_number};
 ghost use Rattle.journal_core.specs.Parts.{tool_lock};
 
 use crate::book::{put_book, take_book};
 use crate::hall::Hall;
-use crate::hold::{Acted, Holder};
+use crate::hold::Holder;
 use crate::seat::{Arrival, HallSeat};
-use crate::turns::Full;
+use crate::turns::{Acted, Full};
 use lock_moves::{LockId, LockSeat};
 use machine_parts::PoolSlot;
 use sched_base::Moment;
@@ -65,7 +65,7 @@ impl Hall {
     ///
     /// Its entries stand one behind the other: those that come at a moment of their own by kind, then by number and index; then core by core, each
     /// through its whole switch, and of those that are to begin one that runs nothing first. No contract says so. Where the pool's lock is
-    /// held, and the book not yet, it passes the gate, once: with the processor's number, or 64 more than the domain's. `next` of the answer is `None`.
+    /// held, and the book not yet, it passes the gate, once: with the processor's number, or 64 more than the domain's.
     pub fn act_pool<R: Wait, G: Gate>(
         &self,
         rt: &R,
@@ -81,43 +81,48 @@ impl Hall {
         ensures full { IfErr result (λ full. HasServedFull actor full seat.old seat.new) }
     {
         let holder = self.holder(actor);
-        self.hold_for(rt, &mut seat.seat, &mut seat.arrived, holder, true, gate)
+        self.serve_for(rt, &mut seat.seat, &mut seat.arrived, holder, gate)
     }
 
-    /// What a hold does in the pool whose place this is and whose lock the seat holds, and goes on holding: all that the whole pool may do, or the
-    /// holder alone. The moment is t.
-    pub(crate) fn do_all<R: Wait, G: Gate>(
+    /// The same by a seat that keeps this arrival, of the pool that has the holder.
+    fn serve_for<R: Wait, G: Gate>(
         &self,
         rt: &R,
         seat: &mut LockSeat,
         arrived: &mut Option<Arrival>,
-        lock: LockId,
-        slot: &mut PoolSlot,
-        t: Moment,
         holder: Holder,
-        whole: bool,
         gate: &G,
     ) -> Result<Acted, Full>
-        requires number { lock.0 < tool_lock }
-        requires hold { InHold self.now lock.0 (name_number holder.name) t.0 slot.old
-            (seated seat.old arrived.old) }
+        requires of { IsSeatOf self.now seat.old }
+        requires nothing { seat.old.view.held ≡ [] }
+        requires inside { IsArrivalOf self.now (seated seat.old arrived.old) }
         requires holder { IsHolder self.now.opened.input holder }
-        ensures hold { InHold self.now lock.0 (name_number holder.name) t.0 slot.new
-            (seated seat.new arrived.new) }
         ensures stays { SeatStays seat.old seat.new }
-        ensures all { IfOk result (λ acted. HasDone whole holder.actor acted
+        ensures nothing { seat.new.view.held ≡ [] }
+        ensures inside { IsArrivalOf self.now (seated seat.new arrived.new) }
+        ensures all { IfOk result (λ acted. HasServed holder.actor acted
             (seated seat.old arrived.old) (seated seat.new arrived.new)) }
-        ensures full { IfErr result (λ full. HasDoneFull whole holder.actor full
+        ensures full { IfErr result (λ full. HasServedFull holder.actor full
             (seated seat.old arrived.old) (seated seat.new arrived.new)) }
     {
-        if whole {
-            self.serve_on(rt, seat, arrived, lock, slot, t, holder, gate)
-        } else {
-            self.act_on(rt, seat, arrived, lock, slot, t, holder, gate)
-        }
+        let Some(mut hold) = self.begin_hold(rt, seat, holder) else {
+            return Ok(Acted::nothing());
+        };
+        let acted = self.serve_on(
+            rt,
+            seat,
+            arrived,
+            hold.lock,
+            &mut hold.slot,
+            hold.t,
+            holder,
+            gate,
+        );
+        self.end_hold(seat, hold);
+        acted
     }
 
-    /// The same for the whole pool.
+    /// The same in the pool whose place this is and whose lock the seat holds, and goes on holding. The moment is t.
     fn serve_on<R: Wait, G: Gate>(
         &self,
         rt: &R,
@@ -156,7 +161,9 @@ impl Hall {
                 put_book(&self.set, seat, book);
                 return Err(Full { events });
             }
-            let place = self.act_on_book(seat, arrived, &mut book, lock, slot, t, holder, action);
+            let (place, _) = self.act_on_book(
+                seat, arrived, &mut book, lock, slot, t, holder, action,
+            );
             acted.add(place);
             found = next_event(slot, t, action);
         }

@@ -3,6 +3,41 @@
 use sched_base::Moment;
 use sched_model::event::Event;
 
+/// What was done in a pool: how many events were added to the history, and the place of the first of them, from 0.
+#[derive(Clone, Copy)]
+pub struct Acted {
+    pub count: u64,
+    pub first: Option<u32>,
+}
+
+impl Acted {
+    ghost use Rattle.std.specs.Prelude.{◌≡◌, ◌+◌, ◌≤◌, None};
+    ghost use Rattle.hall.specs.Holds.{first_with};
+
+    /// Nothing yet.
+    pub(crate) fn nothing() -> Acted
+        ensures count { result.count ≡ 0 }
+        ensures first { result.first ≡ None }
+    {
+        Acted {
+            count: 0,
+            first: None,
+        }
+    }
+
+    /// One event more, whose entry has this place.
+    pub(crate) fn add(&mut self, place: u32)
+        requires few { self.old.count ≤ place }
+        ensures count { self.new.count ≡ self.old.count + 1 }
+        ensures first { self.new.first ≡ first_with place self.old.first }
+    {
+        self.count += 1;
+        if self.first.is_none() {
+            self.first = Some(place);
+        }
+    }
+}
+
 /// What an actor did. The place is that of the entry in the history, from 0.
 #[derive(Clone, Copy)]
 pub enum Done {

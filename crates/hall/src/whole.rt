@@ -17,7 +17,7 @@ ghost use Rattle.hall.specs.Steps.{HasActed, HasBook, HasEntered, KeepsLocks, Ke
 ghost use Rattle.lock_moves.specs.Words.{book_lock};
 
 use crate::all::AllParts;
-use crate::book::enter;
+use crate::book::add_and_put_back;
 use crate::pools::perform_at;
 use crate::value::PartState;
 use cpupool::{Move, ToolState};
@@ -156,7 +156,7 @@ pub(crate) fn perform(
                 t,
             );
             hand_over(set, seat, moved);
-            enter(set, seat, book, Entry { at: t, event });
+            add_and_put_back(set, seat, book, Entry { at: t, event });
             event
         }
     }
@@ -185,7 +185,7 @@ pub(crate) fn end_moment(
     ensures locks { KeepsLocksAt next.0 seat.old.view seat.new.view }
 {
     set.set_now(seat, next);
-    enter(
+    add_and_put_back(
         set,
         seat,
         book,
@@ -209,7 +209,7 @@ pub(crate) fn finish(set: &LockSet<PartState>, seat: &mut LockSeat, book: HeldBo
     ensures entered { HasEntered book (record { at = t; event = events.Finish }) seat.old seat.new }
     ensures locks { KeepsLocks seat.old.view seat.new.view }
 {
-    enter(
+    add_and_put_back(
         set,
         seat,
         book,

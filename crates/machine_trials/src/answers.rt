@@ -51,17 +51,16 @@ pub fn put_done<R: Print>(rt: &R, answer: Result<Done, Full>) -> io::Result<()> 
     }
 }
 
-/// Prints an answer of `act_all` or `act_pool`.
+/// Prints an answer of `act_pool`.
 pub fn put_acted<R: Print>(rt: &R, answer: Result<Acted, Full>) -> io::Result<()> {
     match answer {
         Ok(
             Acted {
                 count,
                 first: Some(place),
-                ..
             },
         ) => print!(rt; "{count} from place {place}"),
-        Ok(Acted { count, .. }) => print!(rt; "{count}"),
+        Ok(Acted { count, first: None }) => print!(rt; "{count}"),
         Err(full) => print!(rt; "full {}", full.events),
     }
 }

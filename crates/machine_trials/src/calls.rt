@@ -20,7 +20,6 @@ use std::sync::Wait;
 #[derive(Clone, Copy)]
 enum Call {
     Act(Actor),
-    ActAll(Actor),
     ActPool(Actor),
     Close,
     Waits(ProcId),
@@ -32,8 +31,6 @@ fn call_for(word: &str, number: u8) -> Option<Call> {
     match word {
         "proc" => Some(Call::Act(Actor::Proc(ProcId(number)))),
         "dom" => Some(Call::Act(Actor::Dom(DomId(number)))),
-        "all-proc" => Some(Call::ActAll(Actor::Proc(ProcId(number)))),
-        "all-dom" => Some(Call::ActAll(Actor::Dom(DomId(number)))),
         "pool-proc" => Some(Call::ActPool(Actor::Proc(ProcId(number)))),
         "pool-dom" => Some(Call::ActPool(Actor::Dom(DomId(number)))),
         "waits" => Some(Call::Waits(ProcId(number))),
@@ -70,28 +67,6 @@ fn act<R: Wait + Print>(
         put_done(rt, hall.act(rt, seat, actor, gate))
     } else {
         print!(rt; "no actor")
-    }
-}
-
-/// Does all that the actor, a processor or a domain, may do now, where the machine has it, and prints the answer.
-fn act_all<R: Wait + Print>(
-    rt: &R,
-    hall: &Hall,
-    actors: Actors,
-    seat: &mut HallSeat,
-    actor: Actor,
-    gate: &CountingGate,
-) -> io::Result<()>
-    requires of { IsOf hall.now seat.old }
-    requires actors { AreActors hall.now.opened.input.config actors }
-    ensures of { IsOf hall.now seat.new }
-    ensures parts { seat.new.sitting.view.shares ≡ seat.old.sitting.view.shares }
-{
-    match actor {
-        Actor::Proc(_) | Actor::Dom(_) if actors.has(actor) => {
-            put_acted(rt, hall.act_all(rt, seat, actor, gate))
-        }
-        _ => print!(rt; "no actor"),
     }
 }
 
@@ -133,7 +108,6 @@ fn make_call<R: Wait + Print>(
 {
     match read_call(text) {
         Some(Call::Act(actor)) => act(rt, hall, actors, seat, actor, gate),
-        Some(Call::ActAll(actor)) => act_all(rt, hall, actors, seat, actor, gate),
         Some(Call::ActPool(actor)) => act_pool(rt, hall, actors, seat, actor, gate),
         Some(Call::Close) => put_turn(rt, hall.close_or_step(rt, seat)),
         Some(Call::Waits(p)) => put_waits(rt, hall.still_waits(seat, p)),

@@ -6,8 +6,8 @@
 //! same events, takes.
 //!
 //! `calls DOMAINS WORK EVENTS, CALL, ..` opens a hall of the two files with room for so many entries, and does the calls by two seats. A call is
-//! `A` or `B` and what the seat does: `proc N`, `dom N` or `tool` acts for that actor, `close` takes a turn of the whole machine, `waits N`
-//! asks whether the processor still waits, and `entry N` looks at that place. Behind each answer stands how often the gate was passed so far, and
+//! `A` or `B` and what the seat does: `proc N`, `dom N` or `tool` acts for that actor, `pool-proc N` or `pool-dom N` does all that its pool may do,
+//! `close` takes a turn of the whole machine, `waits N` asks whether the processor still waits, and `entry N` looks at that place. Behind each answer stands how often the gate was passed so far, and
 //! by which number last; at the end, what the checker says of the history.
 //!
 //! `ordered DOMAINS WORK EVENTS` goes through the ordered run by one caller of a hall, and prints what the checker says of its history, asked for that order.

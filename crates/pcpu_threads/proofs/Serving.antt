@@ -10,7 +10,7 @@ use Rattle.sched_model.specs.declared.action.Actor.TheVariants.{Dom, Proc, Tool}
 use Rattle.sched_model.specs.declared.config.Config.{Config}
 use Rattle.sched_model.specs.declared.machine.Machine.{Machine}
 use Rattle.lock_moves.specs.Sets.{LockTable}
-use Rattle.hall.specs.declared.hold.Acted.{Acted}
+use Rattle.hall.specs.declared.turns.Acted.{Acted}
 use Rattle.hall.specs.declared.turns.Done.TheVariants as done
 use Rattle.hall.specs.declared.turns.Full.{Full}
 use Rattle.hall.specs.Holds.{IsOfSomePool}

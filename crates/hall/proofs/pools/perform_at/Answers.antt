@@ -9,20 +9,20 @@ perform-event-requires-clause-now c = time-here c.args.set.now c.args.book c.arg
 pub perform-event-requires-clause-stands : goal.perform-event-requires-clause-stands
 perform-event-requires-clause-stands c = stands-here c.args.set.now c.args.book c.args.seat.now c.requires.may.has c.requires.may.current c.requires.may.goes c.args.place c.args.slot.now c.requires.number c.requires.knows c.of-trail.result (c.of-trail.ensures ∙ ap told_of c.get.ensures)
 
-pub enter-requires-clause-next : goal.enter-requires-clause-next
-enter-requires-clause-next c = next-here c.args.set.now c.args.book c.args.seat.now c.requires.may.has c.requires.may.current c.requires.may.goes c.args.action c.requires.own c.requires.may.enabled c.args.place c.requires.home c.requires.number (c.requires.knows.known.0, c.requires.knows.known.1) c.args.t.0 c.requires.may.now c.perform-event.result c.of-trail.result (c.of-trail.ensures ∙ ap told_of c.get.ensures) c.perform-event.ensures.event
+pub add_and_put_back-requires-clause-next : goal.add_and_put_back-requires-clause-next
+add_and_put_back-requires-clause-next c = next-here c.args.set.now c.args.book c.args.seat.now c.requires.may.has c.requires.may.current c.requires.may.goes c.args.action c.requires.own c.requires.may.enabled c.args.place c.requires.home c.requires.number (c.requires.knows.known.0, c.requires.knows.known.1) c.args.t.0 c.requires.may.now c.perform-event.result c.of-trail.result (c.of-trail.ensures ∙ ap told_of c.get.ensures) c.perform-event.ensures.event
 
-pub enter-requires-clause-kept : goal.enter-requires-clause-kept
-enter-requires-clause-kept c = kept-here c.args.set.now c.args.book c.args.seat.now c.requires.may.has c.requires.may.current c.requires.may.goes c.args.action c.requires.own c.requires.may.enabled c.args.place c.requires.home c.requires.number (c.requires.knows.known.0, c.requires.knows.known.1) c.args.t.0 c.requires.may.now c.perform-event.result c.of-trail.result (c.of-trail.ensures ∙ ap told_of c.get.ensures) c.perform-event.ensures.event
+pub add_and_put_back-requires-clause-kept : goal.add_and_put_back-requires-clause-kept
+add_and_put_back-requires-clause-kept c = kept-here c.args.set.now c.args.book c.args.seat.now c.requires.may.has c.requires.may.current c.requires.may.goes c.args.action c.requires.own c.requires.may.enabled c.args.place c.requires.home c.requires.number (c.requires.knows.known.0, c.requires.knows.known.1) c.args.t.0 c.requires.may.now c.perform-event.result c.of-trail.result (c.of-trail.ensures ∙ ap told_of c.get.ensures) c.perform-event.ensures.event
 
-pub enter-requires-clause-placed : goal.enter-requires-clause-placed
-enter-requires-clause-placed c = placed-here c.args.set.now c.args.book c.args.seat.now c.requires.may.has c.requires.may.current c.requires.may.goes c.args.action c.requires.own c.requires.may.enabled c.args.place c.requires.home c.requires.number (c.requires.knows.known.0, c.requires.knows.known.1) c.args.t.0 c.requires.may.now c.perform-event.result c.of-trail.result (c.of-trail.ensures ∙ ap told_of c.get.ensures) c.perform-event.ensures.event
+pub add_and_put_back-requires-clause-placed : goal.add_and_put_back-requires-clause-placed
+add_and_put_back-requires-clause-placed c = placed-here c.args.set.now c.args.book c.args.seat.now c.requires.may.has c.requires.may.current c.requires.may.goes c.args.action c.requires.own c.requires.may.enabled c.args.place c.requires.home c.requires.number (c.requires.knows.known.0, c.requires.knows.known.1) c.args.t.0 c.requires.may.now c.perform-event.result c.of-trail.result (c.of-trail.ensures ∙ ap told_of c.get.ensures) c.perform-event.ensures.event
 
-pub enter-requires-clause-core : goal.enter-requires-clause-core
-enter-requires-clause-core c = decider-here c.args.set.now c.args.book c.args.seat.now c.requires.may.has c.requires.may.current c.requires.may.goes c.args.action c.requires.own c.requires.may.enabled c.args.place c.requires.home c.requires.number (c.requires.knows.known.0, c.requires.knows.known.1) c.args.t.0 c.requires.may.now c.perform-event.result c.of-trail.result (c.of-trail.ensures ∙ ap told_of c.get.ensures) c.perform-event.ensures.event
+pub add_and_put_back-requires-clause-core : goal.add_and_put_back-requires-clause-core
+add_and_put_back-requires-clause-core c = decider-here c.args.set.now c.args.book c.args.seat.now c.requires.may.has c.requires.may.current c.requires.may.goes c.args.action c.requires.own c.requires.may.enabled c.args.place c.requires.home c.requires.number (c.requires.knows.known.0, c.requires.knows.known.1) c.args.t.0 c.requires.may.now c.perform-event.result c.of-trail.result (c.of-trail.ensures ∙ ap told_of c.get.ensures) c.perform-event.ensures.event
 
 pub returns-clause-knows : goal.returns-clause-knows
-returns-clause-knows c = pool-after c.args.set.now c.args.book c.args.seat.now c.requires.may.has c.requires.may.current c.requires.may.goes c.args.action c.requires.own c.requires.may.enabled c.args.place c.requires.home c.requires.number (c.requires.knows.known.0, c.requires.knows.known.1) c.args.t.0 c.requires.may.now c.perform-event.result c.of-trail.result (c.of-trail.ensures ∙ ap told_of c.get.ensures) c.perform-event.ensures.event c.enter.new.seat.view c.enter.ensures.entered.input c.enter.ensures.knows c.perform-event.new.self c.perform-event.ensures.stands
+returns-clause-knows c = pool-after c.args.set.now c.args.book c.args.seat.now c.requires.may.has c.requires.may.current c.requires.may.goes c.args.action c.requires.own c.requires.may.enabled c.args.place c.requires.home c.requires.number (c.requires.knows.known.0, c.requires.knows.known.1) c.args.t.0 c.requires.may.now c.perform-event.result c.of-trail.result (c.of-trail.ensures ∙ ap told_of c.get.ensures) c.perform-event.ensures.event c.add_and_put_back.new.seat.view c.add_and_put_back.ensures.entered.input c.add_and_put_back.ensures.knows c.perform-event.new.self c.perform-event.ensures.stands
 
 pub returns-clause-others : goal.returns-clause-others
-returns-clause-others c = others-after c.args.set.now c.args.book c.args.seat.now c.requires.may.has c.requires.may.current c.requires.may.goes c.args.action c.requires.own c.requires.may.enabled c.args.place c.requires.home c.requires.number (c.requires.knows.known.0, c.requires.knows.known.1) c.args.t.0 c.requires.may.now c.perform-event.result c.of-trail.result (c.of-trail.ensures ∙ ap told_of c.get.ensures) c.perform-event.ensures.event c.enter.new.seat.view c.enter.ensures.entered.input c.enter.ensures.knows
+returns-clause-others c = others-after c.args.set.now c.args.book c.args.seat.now c.requires.may.has c.requires.may.current c.requires.may.goes c.args.action c.requires.own c.requires.may.enabled c.args.place c.requires.home c.requires.number (c.requires.knows.known.0, c.requires.knows.known.1) c.args.t.0 c.requires.may.now c.perform-event.result c.of-trail.result (c.of-trail.ensures ∙ ap told_of c.get.ensures) c.perform-event.ensures.event c.add_and_put_back.new.seat.view c.add_and_put_back.ensures.entered.input c.add_and_put_back.ensures.knows

@@ -1,4 +1,4 @@
-use Rattle.std.proofs.Common.{◌++◌, ◌∷◌, [], ap, ◌∙◌, arith}
+use Rattle.std.proofs.Common.{◌++◌, ◌∷◌, [], ap, sym, ◌∙◌, arith}
 use Rattle.sched_model.specs.Machine.{event_of}
 use Rattle.machine_parts.specs.Places.{state_of}
 use Rattle.machine_parts.specs.Told.{Told, told_of}
@@ -12,21 +12,21 @@ perform-event-requires-clause-now c = time-here c.args.set.now c.args.book.now c
 pub perform-event-requires-clause-stands : goal.perform-event-requires-clause-stands
 perform-event-requires-clause-stands c = stands-here c.args.set.now c.args.book.now c.args.seat.now c.requires.may.has c.requires.may.current c.requires.may.goes c.args.place c.args.slot.now c.requires.number c.requires.knows c.of-trail.result (c.of-trail.ensures ∙ ap told_of c.get.ensures)
 
-pub enter_on-requires-clause-next : goal.enter_on-requires-clause-next
-enter_on-requires-clause-next c = next-here c.args.set.now c.args.book.now c.args.seat.now c.requires.may.has c.requires.may.current c.requires.may.goes c.args.action c.requires.own c.requires.may.enabled c.args.place c.requires.home c.requires.number (c.requires.knows.known.0, c.requires.knows.known.1) c.args.t.0 c.requires.may.now c.perform-event.result c.of-trail.result (c.of-trail.ensures ∙ ap told_of c.get.ensures) c.perform-event.ensures.event
+pub add_and_keep-requires-clause-next : goal.add_and_keep-requires-clause-next
+add_and_keep-requires-clause-next c = next-here c.args.set.now c.args.book.now c.args.seat.now c.requires.may.has c.requires.may.current c.requires.may.goes c.args.action c.requires.own c.requires.may.enabled c.args.place c.requires.home c.requires.number (c.requires.knows.known.0, c.requires.knows.known.1) c.args.t.0 c.requires.may.now c.perform-event.result c.of-trail.result (c.of-trail.ensures ∙ ap told_of c.get.ensures) c.perform-event.ensures.event
 
-pub enter_on-requires-clause-kept : goal.enter_on-requires-clause-kept
-enter_on-requires-clause-kept c = kept-here c.args.set.now c.args.book.now c.args.seat.now c.requires.may.has c.requires.may.current c.requires.may.goes c.args.action c.requires.own c.requires.may.enabled c.args.place c.requires.home c.requires.number (c.requires.knows.known.0, c.requires.knows.known.1) c.args.t.0 c.requires.may.now c.perform-event.result c.of-trail.result (c.of-trail.ensures ∙ ap told_of c.get.ensures) c.perform-event.ensures.event
+pub add_and_keep-requires-clause-kept : goal.add_and_keep-requires-clause-kept
+add_and_keep-requires-clause-kept c = kept-here c.args.set.now c.args.book.now c.args.seat.now c.requires.may.has c.requires.may.current c.requires.may.goes c.args.action c.requires.own c.requires.may.enabled c.args.place c.requires.home c.requires.number (c.requires.knows.known.0, c.requires.knows.known.1) c.args.t.0 c.requires.may.now c.perform-event.result c.of-trail.result (c.of-trail.ensures ∙ ap told_of c.get.ensures) c.perform-event.ensures.event
 
-pub enter_on-requires-clause-placed : goal.enter_on-requires-clause-placed
-enter_on-requires-clause-placed c = placed-here c.args.set.now c.args.book.now c.args.seat.now c.requires.may.has c.requires.may.current c.requires.may.goes c.args.action c.requires.own c.requires.may.enabled c.args.place c.requires.home c.requires.number (c.requires.knows.known.0, c.requires.knows.known.1) c.args.t.0 c.requires.may.now c.perform-event.result c.of-trail.result (c.of-trail.ensures ∙ ap told_of c.get.ensures) c.perform-event.ensures.event
+pub add_and_keep-requires-clause-placed : goal.add_and_keep-requires-clause-placed
+add_and_keep-requires-clause-placed c = placed-here c.args.set.now c.args.book.now c.args.seat.now c.requires.may.has c.requires.may.current c.requires.may.goes c.args.action c.requires.own c.requires.may.enabled c.args.place c.requires.home c.requires.number (c.requires.knows.known.0, c.requires.knows.known.1) c.args.t.0 c.requires.may.now c.perform-event.result c.of-trail.result (c.of-trail.ensures ∙ ap told_of c.get.ensures) c.perform-event.ensures.event
 
-pub enter_on-requires-clause-core : goal.enter_on-requires-clause-core
-enter_on-requires-clause-core c = decider-here c.args.set.now c.args.book.now c.args.seat.now c.requires.may.has c.requires.may.current c.requires.may.goes c.args.action c.requires.own c.requires.may.enabled c.args.place c.requires.home c.requires.number (c.requires.knows.known.0, c.requires.knows.known.1) c.args.t.0 c.requires.may.now c.perform-event.result c.of-trail.result (c.of-trail.ensures ∙ ap told_of c.get.ensures) c.perform-event.ensures.event
+pub add_and_keep-requires-clause-core : goal.add_and_keep-requires-clause-core
+add_and_keep-requires-clause-core c = decider-here c.args.set.now c.args.book.now c.args.seat.now c.requires.may.has c.requires.may.current c.requires.may.goes c.args.action c.requires.own c.requires.may.enabled c.args.place c.requires.home c.requires.number (c.requires.knows.known.0, c.requires.knows.known.1) c.args.t.0 c.requires.may.now c.perform-event.result c.of-trail.result (c.of-trail.ensures ∙ ap told_of c.get.ensures) c.perform-event.ensures.event
 
 pub returns : goal.returns
 returns c =
-    let on = c.enter_on.ensures in
+    let on = c.add_and_keep.ensures in
     let h = c.args.book.now.history ++ record { at = c.args.t; event = c.perform-event.result } ∷ [] in
     let low = c.requires.number in (
       on.0,
@@ -37,4 +37,5 @@ returns c =
         others = others-after c.args.set.now c.args.book.now c.args.seat.now c.requires.may.has c.requires.may.current c.requires.may.goes c.args.action c.requires.own c.requires.may.enabled c.args.place c.requires.home c.requires.number (c.requires.knows.known.0, c.requires.knows.known.1) c.args.t.0 c.requires.may.now c.perform-event.result c.of-trail.result (c.of-trail.ensures ∙ ap told_of c.get.ensures) c.perform-event.ensures.event on.0.view on.1.entered.input on.1.knows;
       },
       on.1.took,
+      on.1.entered.front ∙ sym on.1.history,
     )

@@ -14,17 +14,17 @@ set_now-requires-clause-all c = λ k low. dite (dec_lt k 17)
     (λ part. c.requires.all k part)
     (λ last. subst (λ (j : ℕ). Holds j c.args.seat.now.view) (omega (arith, low, last)) c.requires.has.holds)
 
-pub enter-requires-clause-next : goal.enter-requires-clause-next
-enter-requires-clause-next c = end-next c.args.set.now c.args.book c.args.seat.now c.requires.has c.requires.current c.args.t c.requires.now c.requires.goes c.requires.nothing c.args.next c.requires.next
+pub add_and_put_back-requires-clause-next : goal.add_and_put_back-requires-clause-next
+add_and_put_back-requires-clause-next c = end-next c.args.set.now c.args.book c.args.seat.now c.requires.has c.requires.current c.args.t c.requires.now c.requires.goes c.requires.nothing c.args.next c.requires.next
 
-pub enter-requires-clause-kept : goal.enter-requires-clause-kept
-enter-requires-clause-kept c =
+pub add_and_put_back-requires-clause-kept : goal.add_and_put_back-requires-clause-kept
+add_and_put_back-requires-clause-kept c =
     let e : Entry = record { at = c.args.t; event = event.End c.args.next } in
     subst (λ (x : Sitting). Kept x.view (c.args.book.history ++ e ∷ [])) (sym c.set_now.ensures)
     (kept-quiet c.args.set.now c.args.book c.args.seat.now c.requires.has c.requires.current c.args.t c.requires.now e refl)
 
-pub enter-requires-clause-placed : goal.enter-requires-clause-placed
-enter-requires-clause-placed c =
+pub add_and_put_back-requires-clause-placed : goal.add_and_put_back-requires-clause-placed
+add_and_put_back-requires-clause-placed c =
     let e : Entry = record { at = c.args.t; event = event.End c.args.next } in
     subst (λ (x : Sitting). Placed x.view (c.args.book.history ++ e ∷ [])) (sym c.set_now.ensures)
     (placed-quiet c.args.set.now c.args.book c.args.seat.now c.requires.has c.requires.current c.args.t c.requires.now e refl c.args.next.0
@@ -33,5 +33,5 @@ enter-requires-clause-placed c =
 pub returns-clause-locks : goal.returns-clause-locks
 returns-clause-locks c =
     let e : Entry = record { at = c.args.t; event = event.End c.args.next } in
-    locks-quiet c.args.set.now c.args.book c.args.seat.now c.requires.has c.requires.current c.args.t c.requires.now e refl c.args.next.0 c.enter.new.seat.view
-    (subst (λ (x : Sitting). KnowsAfter (c.args.book.history ++ e ∷ []) x.view c.enter.new.seat.view) c.set_now.ensures c.enter.ensures.knows)
+    locks-quiet c.args.set.now c.args.book c.args.seat.now c.requires.has c.requires.current c.args.t c.requires.now e refl c.args.next.0 c.add_and_put_back.new.seat.view
+    (subst (λ (x : Sitting). KnowsAfter (c.args.book.history ++ e ∷ []) x.view c.add_and_put_back.new.seat.view) c.set_now.ensures c.add_and_put_back.ensures.knows)

@@ -150,8 +150,8 @@ hand_over-requires-clause-may c =
     let hands : HandsName (told_of b) c.args.action c.name_move-moved.result = subst (λ (w : Told). HandsName w c.args.action c.name_move-moved.result) told c.name_move-moved.ensures in
     may-done set b s c.requires.may.has c.requires.may.current c.requires.may.goes all c.requires.knows c.args.action c.requires.may.enabled c.args.t.0 c.requires.may.now event ev c.name_move-moved.result hands
 
-pub enter-requires-clause-has : goal.enter-requires-clause-has
-enter-requires-clause-has c =
+pub add_and_put_back-requires-clause-has : goal.add_and_put_back-requires-clause-has
+add_and_put_back-requires-clause-has c =
     let set = c.args.set.now in
     let b = c.args.book in
     let s = c.args.seat.now in
@@ -162,8 +162,8 @@ enter-requires-clause-has c =
     let hands : HandsName (told_of b) c.args.action c.name_move-moved.result = subst (λ (w : Told). HandsName w c.args.action c.name_move-moved.result) told c.name_move-moved.ensures in
     has-done set b s c.requires.may.has c.requires.may.current c.requires.may.goes all c.requires.knows c.args.action c.requires.may.enabled c.args.t.0 c.requires.may.now event ev c.name_move-moved.result hands c.hand_over.new.seat c.hand_over.ensures
 
-pub enter-requires-clause-next : goal.enter-requires-clause-next
-enter-requires-clause-next c =
+pub add_and_put_back-requires-clause-next : goal.add_and_put_back-requires-clause-next
+add_and_put_back-requires-clause-next c =
     let set = c.args.set.now in
     let b = c.args.book in
     let s = c.args.seat.now in
@@ -174,8 +174,8 @@ enter-requires-clause-next c =
     let hands : HandsName (told_of b) c.args.action c.name_move-moved.result = subst (λ (w : Told). HandsName w c.args.action c.name_move-moved.result) told c.name_move-moved.ensures in
     next-done set b s c.requires.may.has c.requires.may.current c.requires.may.goes all c.requires.knows c.args.action c.requires.may.enabled c.args.t.0 c.requires.may.now event ev
 
-pub enter-requires-clause-kept : goal.enter-requires-clause-kept
-enter-requires-clause-kept c =
+pub add_and_put_back-requires-clause-kept : goal.add_and_put_back-requires-clause-kept
+add_and_put_back-requires-clause-kept c =
     let set = c.args.set.now in
     let b = c.args.book in
     let s = c.args.seat.now in
@@ -186,8 +186,8 @@ enter-requires-clause-kept c =
     let hands : HandsName (told_of b) c.args.action c.name_move-moved.result = subst (λ (w : Told). HandsName w c.args.action c.name_move-moved.result) told c.name_move-moved.ensures in
     kept-done set b s c.requires.may.has c.requires.may.current c.requires.may.goes all c.requires.knows c.args.action c.requires.may.enabled c.args.t.0 c.requires.may.now event ev c.name_move-moved.result hands c.hand_over.new.seat c.hand_over.ensures
 
-pub enter-requires-clause-placed : goal.enter-requires-clause-placed
-enter-requires-clause-placed c =
+pub add_and_put_back-requires-clause-placed : goal.add_and_put_back-requires-clause-placed
+add_and_put_back-requires-clause-placed c =
     let set = c.args.set.now in
     let b = c.args.book in
     let s = c.args.seat.now in
@@ -198,8 +198,8 @@ enter-requires-clause-placed c =
     let hands : HandsName (told_of b) c.args.action c.name_move-moved.result = subst (λ (w : Told). HandsName w c.args.action c.name_move-moved.result) told c.name_move-moved.ensures in
     placed-done set b s c.requires.may.has c.requires.may.current c.requires.may.goes all c.requires.knows c.args.action c.requires.may.enabled c.args.t.0 c.requires.may.now event ev c.name_move-moved.result hands c.hand_over.new.seat c.hand_over.ensures
 
-pub enter-requires-clause-core : goal.enter-requires-clause-core
-enter-requires-clause-core c =
+pub add_and_put_back-requires-clause-core : goal.add_and_put_back-requires-clause-core
+add_and_put_back-requires-clause-core c =
     let set = c.args.set.now in
     let b = c.args.book in
     let s = c.args.seat.now in
@@ -223,5 +223,5 @@ returns-in-None-clause-knows c =
     let parts : AreParts (told_event (told_of b) c.args.t.0 event) act.new.slots act.new.tool = subst (λ (w : Told). AreParts (told_event w c.args.t.0 event) act.new.slots act.new.tool) told act.ensures.parts in
     let spares : AreSpares b.input c.args.t.0 act.new.tool.part act.new.spares = subst (λ (w : Told). AreSpares w.input c.args.t.0 act.new.tool.part act.new.spares) told act.ensures.spares in
     let items = items-with_items all.slots act.new.slots (parts.stand.count ∙ sym c.requires.knows.count) in
-    knows-done set b s c.requires.may.has c.requires.may.current c.requires.may.goes all c.requires.knows c.args.action c.requires.may.enabled c.args.t.0 c.requires.may.now event ev c.name_move-moved.result hands c.hand_over.new.seat c.hand_over.ensures c.enter.new.seat _ c.enter.ensures.entered c.enter.ensures.knows
+    knows-done set b s c.requires.may.has c.requires.may.current c.requires.may.goes all c.requires.knows c.args.action c.requires.may.enabled c.args.t.0 c.requires.may.now event ev c.name_move-moved.result hands c.hand_over.new.seat c.hand_over.ensures c.add_and_put_back.new.seat _ c.add_and_put_back.ensures.entered c.add_and_put_back.ensures.knows
     (subst (λ (xs : List (Option PoolSeen)). AreParts (told_event (told_of b) c.args.t.0 event) xs act.new.tool) (sym items) parts) spares

@@ -1,111 +1,144 @@
-use Rattle.std.proofs.Common.{◌≤◌, ◌<◌, ◌∙◌, ◌∷◌, [], length, refl, ap, subst, arith}
+use Rattle.std.proofs.Common.{◌≤◌, ◌<◌, ◌∙◌, length, refl, sym, ap, subst}
 use Rattle.sched_model.specs.CheckedMachine.{IsChecked}
 use Rattle.journal_core.specs.Books.{Chronicle}
 use Rattle.lock_moves.specs.Sets.{LockTable}
 use Rattle.lock_moves.specs.Words.{name_number}
-use Rattle.hall.specs.Holds.{first_with, seated}
 use Rattle.hall.specs.Steps.{HasBook}
 use Rattle.hall.proofs.GoingOn.{actor-on, full-on, hold-end, itself, nothing-on, stays-end, takes-on}
-use Rattle.hall.proofs.Holds.{acts-below, acts-stay, stays-on}
-use Rattle.hall.proofs.Locking.{keeps_same}
+use Rattle.hall.proofs.Holds.{done-once, stays-on}
 use Rattle.hall.proofs.hall.Hall.act_on.Goals as goal
 
-pub loop-init : goal.loop-init
-loop-init g c =
+pub returns-in_default : goal.returns-in_default
+returns-in_default g c =
+    let hall = c.args.self.now in
+    let k = c.args.lock.0 in
+    let low = c.requires.number in
+    let t = c.args.t in
+    let slot = c.args.slot.now in
+    let s0 = c.args.seat.now in
+    let kept = c.args.arrived.now in
+    let holder = c.args.holder in
+    let is_holder = c.requires.holder in
+    let b = c.take_book-book.result in
+    let s1 = c.take_book-book.new.seat in
     let book = c.take_book-book.ensures in
+    let checked = subst (λ (x : LockTable). IsChecked x.opened.input) c.self.view_is c.self.invariant.checked in
+    let on = takes-on hall c.args.lock.0 (name_number c.args.holder.name) c.args.t.0 c.args.slot.now b s0 s1 c.args.arrived.now c.requires.hold (subst (λ (x : LockTable). HasBook x b s1) c.self.view_is book.has) book.current book.sees book.locks book.still in
+    let new = c.put_book.new.seat in
+    let keeps = c.put_book.ensures.keeps in
+    let locks = c.put_book.ensures.locks in
     record {
-      mid = c.args.seat.now;
-      hold = takes-on c.args.self.now c.args.lock.0 (name_number c.args.holder.name) c.args.t.0 c.args.slot.now c.take_book-book.result c.args.seat.now c.take_book-book.new.seat c.args.arrived.now c.requires.hold
-          (subst (λ (x : LockTable). HasBook x c.take_book-book.result c.take_book-book.new.seat) c.self.view_is book.has) book.current book.sees book.locks book.still;
-      found = c.enabled_for-found.ensures.pool;
-      places = [];
-      acts = record { sight = keeps_same c.args.seat.now; arrived = refl };
-      count = c.nothing-acted.ensures.count;
-      first = c.nothing-acted.ensures.first;
+      hold = hold-end hall k low t slot b s0 s1 kept holder is_holder checked on new keeps locks;
+      stays = stays-end hall k low t slot b s0 s1 kept holder is_holder checked on new keeps locks;
+      done = (nothing-on hall k low t slot b s0 s1 kept holder is_holder checked on holder.actor (actor-on hall k low t slot b s0 s1 kept holder is_holder checked on) c.enabled_for-found.result c.enabled_for-found.ensures.pool c.in_default.is new keeps, refl);
+      full = tt;
+      kept = tt;
     }
 
-pub returns-in_default-clause-hold : goal.returns-in_default-clause-hold
-returns-in_default-clause-hold g c = let i = c.loop.invariant in hold-end c.args.self.now c.args.lock.0 c.requires.number c.args.t c.loop.slot c.loop.book i.mid c.loop.seat c.loop.arrived c.args.holder c.requires.holder (subst (λ (x : LockTable). IsChecked x.opened.input) c.self.view_is c.self.invariant.checked) i.hold c.put_book.new.seat c.put_book.ensures.keeps c.put_book.ensures.locks
-
-pub returns-in_default-clause-stays : goal.returns-in_default-clause-stays
-returns-in_default-clause-stays g c =
-    let i = c.loop.invariant in
-    stays-on c.args.seat.now i.mid c.put_book.new.seat (acts-stay c.args.holder.actor i.places (seated c.args.seat.now c.args.arrived.now) (seated i.mid c.loop.arrived) i.acts)
-    (stays-end c.args.self.now c.args.lock.0 c.requires.number c.args.t c.loop.slot c.loop.book i.mid c.loop.seat c.loop.arrived c.args.holder c.requires.holder (subst (λ (x : LockTable). IsChecked x.opened.input) c.self.view_is c.self.invariant.checked) i.hold c.put_book.new.seat c.put_book.ensures.keeps c.put_book.ensures.locks)
-
-pub returns-in_default-clause-all : goal.returns-in_default-clause-all
-returns-in_default-clause-all g c =
-    let i = c.loop.invariant in
-    record {
-      places = i.places;
-      mid = seated i.mid c.loop.arrived;
-      acts = i.acts;
-      stays = stays-end c.args.self.now c.args.lock.0 c.requires.number c.args.t c.loop.slot c.loop.book i.mid c.loop.seat c.loop.arrived c.args.holder c.requires.holder (subst (λ (x : LockTable). IsChecked x.opened.input) c.self.view_is c.self.invariant.checked) i.hold c.put_book.new.seat c.put_book.ensures.keeps c.put_book.ensures.locks;
-      nothing = nothing-on c.args.self.now c.args.lock.0 c.requires.number c.args.t c.loop.slot c.loop.book i.mid c.loop.seat c.loop.arrived c.args.holder c.requires.holder (subst (λ (x : LockTable). IsChecked x.opened.input) c.self.view_is c.self.invariant.checked) i.hold c.args.holder.actor (actor-on c.args.self.now c.args.lock.0 c.requires.number c.args.t c.loop.slot c.loop.book i.mid c.loop.seat c.loop.arrived c.args.holder c.requires.holder (subst (λ (x : LockTable). IsChecked x.opened.input) c.self.view_is c.self.invariant.checked) i.hold) c.loop.found i.found c.in_default.is c.put_book.new.seat c.put_book.ensures.keeps;
-      arrived = refl {a = c.loop.arrived};
-      count = i.count;
-      first = i.first;
-    }
-
-pub returns-then-not-room_left-clause-hold : goal.returns-then-not-room_left-clause-hold
-returns-then-not-room_left-clause-hold g c =
-    let i = c.loop.invariant in
-    hold-end c.args.self.now c.args.lock.0 c.requires.number c.args.t c.loop.slot c.loop.book i.mid c.loop.seat c.loop.arrived c.args.holder c.requires.holder (subst (λ (x : LockTable). IsChecked x.opened.input) c.self.view_is c.self.invariant.checked) i.hold c.put_book-then-not-room_left.new.seat c.put_book-then-not-room_left.ensures.keeps c.put_book-then-not-room_left.ensures.locks
-
-pub returns-then-not-room_left-clause-stays : goal.returns-then-not-room_left-clause-stays
-returns-then-not-room_left-clause-stays g c =
-    let i = c.loop.invariant in
-    let new = c.put_book-then-not-room_left.new.seat in
-    stays-on c.args.seat.now i.mid new (acts-stay c.args.holder.actor i.places (seated c.args.seat.now c.args.arrived.now) (seated i.mid c.loop.arrived) i.acts)
-    (stays-end c.args.self.now c.args.lock.0 c.requires.number c.args.t c.loop.slot c.loop.book i.mid c.loop.seat c.loop.arrived c.args.holder c.requires.holder (subst (λ (x : LockTable). IsChecked x.opened.input) c.self.view_is c.self.invariant.checked) i.hold new c.put_book-then-not-room_left.ensures.keeps c.put_book-then-not-room_left.ensures.locks)
-
-pub returns-then-not-room_left-clause-full : goal.returns-then-not-room_left-clause-full
-returns-then-not-room_left-clause-full g c =
-    let i = c.loop.invariant in
+pub returns-then-not-room_left : goal.returns-then-not-room_left
+returns-then-not-room_left g c =
+    let hall = c.args.self.now in
+    let k = c.args.lock.0 in
+    let low = c.requires.number in
+    let t = c.args.t in
+    let slot = c.args.slot.now in
+    let s0 = c.args.seat.now in
+    let kept = c.args.arrived.now in
+    let holder = c.args.holder in
+    let is_holder = c.requires.holder in
+    let b = c.take_book-book.result in
+    let s1 = c.take_book-book.new.seat in
+    let book = c.take_book-book.ensures in
+    let checked = subst (λ (x : LockTable). IsChecked x.opened.input) c.self.view_is c.self.invariant.checked in
+    let on = takes-on hall c.args.lock.0 (name_number c.args.holder.name) c.args.t.0 c.args.slot.now b s0 s1 c.args.arrived.now c.requires.hold (subst (λ (x : LockTable). HasBook x b s1) c.self.view_is book.has) book.current book.sees book.locks book.still in
     let new = c.put_book-then-not-room_left.new.seat in
     let keeps = c.put_book-then-not-room_left.ensures.keeps in
+    let locks = c.put_book-then-not-room_left.ensures.locks in
     record {
-      places = i.places;
-      mid = seated i.mid c.loop.arrived;
-      acts = i.acts;
-      stays = stays-end c.args.self.now c.args.lock.0 c.requires.number c.args.t c.loop.slot c.loop.book i.mid c.loop.seat c.loop.arrived c.args.holder c.requires.holder (subst (λ (x : LockTable). IsChecked x.opened.input) c.self.view_is c.self.invariant.checked) i.hold new keeps c.put_book-then-not-room_left.ensures.locks;
-      full_is = full-on c.args.self.now c.args.lock.0 c.requires.number c.args.t c.loop.slot c.loop.book i.mid c.loop.seat c.loop.arrived c.args.holder c.requires.holder (subst (λ (x : LockTable). IsChecked x.opened.input) c.self.view_is c.self.invariant.checked) i.hold c.args.holder.actor (actor-on c.args.self.now c.args.lock.0 c.requires.number c.args.t c.loop.slot c.loop.book i.mid c.loop.seat c.loop.arrived c.args.holder c.requires.holder (subst (λ (x : LockTable). IsChecked x.opened.input) c.self.view_is c.self.invariant.checked) i.hold) c.loop.found i.found c.in-Some-found.action c.in-Some-found.is (record { events = c.limit-events.result }) new keeps
+      hold = hold-end hall k low t slot b s0 s1 kept holder is_holder checked on new keeps locks;
+      stays = stays-end hall k low t slot b s0 s1 kept holder is_holder checked on new keeps locks;
+      done = tt;
+      full = full-on hall k low t slot b s0 s1 kept holder is_holder checked on holder.actor (actor-on hall k low t slot b s0 s1 kept holder is_holder checked on) c.enabled_for-found.result c.enabled_for-found.ensures.pool c.in-Some.action c.in-Some.is (record { events = c.limit-events.result }) new keeps
           (c.limit-events.ensures ∙ ap (λ (x : Chronicle). x.limit) c.get-then-not-room_left.ensures)
           (subst (λ (x : Chronicle). length x.history ≤ x.limit) c.get.ensures c.tell.ensures.fits)
-          (subst (λ (x : Chronicle). length x.history < x.limit → ⊥) c.get-in-loop.ensures (λ less. (let room = c.if-not-room_left.ensures.1 less in absurd (cc))));
-      arrived = refl {a = c.loop.arrived};
+          (subst (λ (x : Chronicle). length x.history < x.limit → ⊥) c.get-2.ensures (λ less. (let room = c.if-not-room_left.ensures.1 less in absurd (cc))));
+      kept = refl;
     }
 
-pub act_on_book-place-requires-clause-hold : goal.act_on_book-place-requires-clause-hold
-act_on_book-place-requires-clause-hold g c = let i = c.loop.invariant in (i.mid, i.hold)
-
-pub act_on_book-place-requires-clause-room : goal.act_on_book-place-requires-clause-room
-act_on_book-place-requires-clause-room g c = subst (λ (x : Chronicle). length x.history < x.limit) c.get-in-loop.ensures (c.if-not-room_left.ensures.0 refl)
-
-pub act_on_book-place-requires-clause-found : goal.act_on_book-place-requires-clause-found
-act_on_book-place-requires-clause-found g c = let i = c.loop.invariant in (c.args.holder.actor, itself c.args.self.now c.args.lock.0 c.requires.number c.args.t c.loop.slot c.loop.book i.mid c.loop.seat c.loop.arrived c.args.holder c.requires.holder (subst (λ (x : LockTable). IsChecked x.opened.input) c.self.view_is c.self.invariant.checked) i.hold c.loop.found c.in-Some-found.action c.in-Some-found.is i.found)
-
-pub add-requires : goal.add-requires
-add-requires g c =
-    let i = c.loop.invariant in
-    let e = c.act_on_book-place.ensures i.mid c.args.holder.actor i.hold (itself c.args.self.now c.args.lock.0 c.requires.number c.args.t c.loop.slot c.loop.book i.mid c.loop.seat c.loop.arrived c.args.holder c.requires.holder (subst (λ (x : LockTable). IsChecked x.opened.input) c.self.view_is c.self.invariant.checked) i.hold c.loop.found c.in-Some-found.action c.in-Some-found.is i.found) in
-    let below = acts-below c.args.holder.actor i.places (seated c.args.seat.now c.args.arrived.now) (seated i.mid c.loop.arrived) (seated e.0 c.act_on_book-place.new.arrived) c.act_on_book-place.result i.acts e.1.once in
-    let count = i.count in
-    record { few = omega (arith, below, count) }
-
-pub loop-preserved : goal.loop-preserved
-loop-preserved g c =
-    let i = c.loop.invariant in
-    let e = c.act_on_book-place.ensures i.mid c.args.holder.actor i.hold (itself c.args.self.now c.args.lock.0 c.requires.number c.args.t c.loop.slot c.loop.book i.mid c.loop.seat c.loop.arrived c.args.holder c.requires.holder (subst (λ (x : LockTable). IsChecked x.opened.input) c.self.view_is c.self.invariant.checked) i.hold c.loop.found c.in-Some-found.action c.in-Some-found.is i.found) in
-    let place = c.act_on_book-place.result in
-    let count = i.count in
-    let more = c.add.ensures.count in
+pub act_on_book-place-requires : goal.act_on_book-place-requires
+act_on_book-place-requires g c =
+    let hall = c.args.self.now in
+    let k = c.args.lock.0 in
+    let low = c.requires.number in
+    let t = c.args.t in
+    let slot = c.args.slot.now in
+    let s0 = c.args.seat.now in
+    let kept = c.args.arrived.now in
+    let holder = c.args.holder in
+    let is_holder = c.requires.holder in
+    let b = c.take_book-book.result in
+    let s1 = c.take_book-book.new.seat in
+    let book = c.take_book-book.ensures in
+    let checked = subst (λ (x : LockTable). IsChecked x.opened.input) c.self.view_is c.self.invariant.checked in
+    let on = takes-on hall c.args.lock.0 (name_number c.args.holder.name) c.args.t.0 c.args.slot.now b s0 s1 c.args.arrived.now c.requires.hold (subst (λ (x : LockTable). HasBook x b s1) c.self.view_is book.has) book.current book.sees book.locks book.still in
     record {
-      mid = e.0;
-      hold = e.2;
-      found = c.enabled_for-found-in-loop.ensures.pool;
-      places = place ∷ i.places;
-      acts = (seated i.mid c.loop.arrived, i.acts, e.1.once);
-      count = omega (arith, count, more);
-      first = c.add.ensures.first ∙ ap (first_with place) i.first;
+      number = low;
+      hold = (s0, on);
+      holder = is_holder;
+      room = subst (λ (x : Chronicle). length x.history < x.limit) c.get-2.ensures (c.if-not-room_left.ensures.0 refl);
+      found = (holder.actor, itself hall k low t slot b s0 s1 kept holder is_holder checked on c.enabled_for-found.result c.in-Some.action c.in-Some.is c.enabled_for-found.ensures.pool);
+    }
+
+pub put_book-requires-2 : goal.put_book-requires-2
+put_book-requires-2 g c =
+    let hall = c.args.self.now in
+    let k = c.args.lock.0 in
+    let low = c.requires.number in
+    let t = c.args.t in
+    let slot = c.args.slot.now in
+    let s0 = c.args.seat.now in
+    let kept = c.args.arrived.now in
+    let holder = c.args.holder in
+    let is_holder = c.requires.holder in
+    let b = c.take_book-book.result in
+    let s1 = c.take_book-book.new.seat in
+    let book = c.take_book-book.ensures in
+    let checked = subst (λ (x : LockTable). IsChecked x.opened.input) c.self.view_is c.self.invariant.checked in
+    let on = takes-on hall c.args.lock.0 (name_number c.args.holder.name) c.args.t.0 c.args.slot.now b s0 s1 c.args.arrived.now c.requires.hold (subst (λ (x : LockTable). HasBook x b s1) c.self.view_is book.has) book.current book.sees book.locks book.still in
+    let acted = c.act_on_book-place.ensures s0 holder.actor on (itself hall k low t slot b s0 s1 kept holder is_holder checked on c.enabled_for-found.result c.in-Some.action c.in-Some.is c.enabled_for-found.ensures.pool) in
+    let after = c.act_on_book-place.new in
+    let kept_now = after.arrived in
+    record {
+      has = subst (λ (x : LockTable). HasBook x after.book after.seat) (sym c.self.view_is) acted.2.took.has;
+      current = acted.2.took.current;
+    }
+
+pub returns : goal.returns
+returns g c =
+    let hall = c.args.self.now in
+    let k = c.args.lock.0 in
+    let low = c.requires.number in
+    let t = c.args.t in
+    let slot = c.args.slot.now in
+    let s0 = c.args.seat.now in
+    let kept = c.args.arrived.now in
+    let holder = c.args.holder in
+    let is_holder = c.requires.holder in
+    let b = c.take_book-book.result in
+    let s1 = c.take_book-book.new.seat in
+    let book = c.take_book-book.ensures in
+    let checked = subst (λ (x : LockTable). IsChecked x.opened.input) c.self.view_is c.self.invariant.checked in
+    let on = takes-on hall c.args.lock.0 (name_number c.args.holder.name) c.args.t.0 c.args.slot.now b s0 s1 c.args.arrived.now c.requires.hold (subst (λ (x : LockTable). HasBook x b s1) c.self.view_is book.has) book.current book.sees book.locks book.still in
+    let acted = c.act_on_book-place.ensures s0 holder.actor on (itself hall k low t slot b s0 s1 kept holder is_holder checked on c.enabled_for-found.result c.in-Some.action c.in-Some.is c.enabled_for-found.ensures.pool) in
+    let after = c.act_on_book-place.new in
+    let kept_now = after.arrived in
+    let new = c.put_book-2.new.seat in
+    let keeps = c.put_book-2.ensures.keeps in
+    let locks = c.put_book-2.ensures.locks in
+    record {
+      hold = hold-end hall k low t after.slot after.book acted.0 after.seat kept_now holder is_holder checked acted.2 new keeps locks;
+      stays = stays-on s0 acted.0 new acted.1.served.once.stays (stays-end hall k low t after.slot after.book acted.0 after.seat kept_now holder is_holder checked acted.2 new keeps locks);
+      done = done-once hall holder.actor c.act_on_book-place.result.0 c.act_on_book-place.result.1 after.book s0 acted.0 after.seat new kept kept_now acted.1 acted.2.took keeps;
+      full = tt;
+      kept = tt;
     }

@@ -27,8 +27,13 @@ perform_on-event-requires-clause-home c = home-on c.args.self.now c.args.lock.0 
 
 pub returns : goal.returns
 returns c = λ mid doer on doing.
+    let hall = c.args.self.now in
     let e = c.perform_on-event.ensures in
     let again = subst (λ (x : LockTable). HasTakenBook x c.perform_on-event.new.book e.0 c.perform_on-event.new.seat) c.self.view_is e.3 in
     let place_is = c.len-place.ensures ∙ ap (λ (x : Chronicle). length x.history) c.get.ensures in
-    let count = subst (λ (x : Chronicle). (e : Event) → event_action e ≡ Some c.args.action → IsCountBefore c.args.self.now.opened.input.config.granularity x.history e c.decides_before-decides.result) c.get-2.ensures c.decides_before-decides.ensures in
-    (e.0, served-on c.args.self.now c.args.lock.0 c.requires.number c.args.t c.args.slot.now c.args.book.now mid c.args.seat.now c.args.arrived.now c.args.holder c.requires.holder (subst (λ (x : LockTable). IsChecked x.opened.input) c.self.view_is c.self.invariant.checked) on doer doing.has (Some c.args.action) doing.first c.args.action refl c.len-place.result c.perform_on-event.result c.decides_before-decides.result c.perform_on-event.new.slot c.perform_on-event.new.book e.0 c.perform_on-event.new.seat c.arrived_after.result place_is e.1 e.2 again count c.arrived_after.ensures, hold-acted c.args.self.now c.args.lock.0 c.requires.number c.args.t c.args.slot.now c.args.book.now mid c.args.seat.now c.args.arrived.now c.args.holder c.requires.holder (subst (λ (x : LockTable). IsChecked x.opened.input) c.self.view_is c.self.invariant.checked) on doer doing.has (Some c.args.action) doing.first c.args.action refl c.len-place.result c.perform_on-event.result c.decides_before-decides.result c.perform_on-event.new.slot c.perform_on-event.new.book e.0 c.perform_on-event.new.seat c.arrived_after.result place_is e.1 e.2 again count c.arrived_after.ensures)
+    let count = subst (λ (x : Chronicle). (e : Event) → event_action e ≡ Some c.args.action → IsCountBefore hall.opened.input.config.granularity x.history e c.decides_before-decides.result) c.get-2.ensures c.decides_before-decides.ensures in
+    let checked = subst (λ (x : LockTable). IsChecked x.opened.input) c.self.view_is c.self.invariant.checked in (
+      e.0,
+      served-on hall c.args.lock.0 c.requires.number c.args.t c.args.slot.now c.args.book.now mid c.args.seat.now c.args.arrived.now c.args.holder c.requires.holder checked on doer doing.has (Some c.args.action) doing.first c.args.action refl c.len-place.result c.perform_on-event.result c.decides_before-decides.result c.perform_on-event.new.slot c.perform_on-event.new.book e.0 c.perform_on-event.new.seat c.arrived_after.result place_is e.1 e.2 again count c.arrived_after.ensures e.4,
+      hold-acted hall c.args.lock.0 c.requires.number c.args.t c.args.slot.now c.args.book.now mid c.args.seat.now c.args.arrived.now c.args.holder c.requires.holder checked on doer doing.has (Some c.args.action) doing.first c.args.action refl c.len-place.result c.perform_on-event.result c.decides_before-decides.result c.perform_on-event.new.slot c.perform_on-event.new.book e.0 c.perform_on-event.new.seat c.arrived_after.result place_is e.1 e.2 again count c.arrived_after.ensures,
+    )

@@ -85,7 +85,7 @@ add-requires g c =
     let d = doer-on c.args.self.now c.args.lock.0 c.requires.number c.args.t c.loop.slot c.loop.book i.mid c.loop.seat c.loop.arrived c.args.holder c.requires.holder (subst (λ (x : LockTable). IsChecked x.opened.input) c.self.view_is c.self.invariant.checked) i.hold c.in-Some-found.action
     (subst (λ (o : Option Action). MayComeNext c.loop.slot c.args.t.0 o) c.in-Some-found.is i.found) in
     let e = c.act_on_book-place.ensures i.mid d.0 i.hold d.1 in
-    let below = serves-below c.args.holder.actor i.places (seated c.args.seat.now c.args.arrived.now) (seated i.mid c.loop.arrived) (seated e.0 c.act_on_book-place.new.arrived) c.act_on_book-place.result i.serves (d.0, e.1) in
+    let below = serves-below c.args.holder.actor i.places (seated c.args.seat.now c.args.arrived.now) (seated i.mid c.loop.arrived) (seated e.0 c.act_on_book-place.new.arrived) c.act_on_book-place.result.0 i.serves (d.0, e.1.served) in
     let count = i.count in
     record { few = omega (arith, below, count) }
 
@@ -95,7 +95,7 @@ loop-preserved g c =
     let d = doer-on c.args.self.now c.args.lock.0 c.requires.number c.args.t c.loop.slot c.loop.book i.mid c.loop.seat c.loop.arrived c.args.holder c.requires.holder (subst (λ (x : LockTable). IsChecked x.opened.input) c.self.view_is c.self.invariant.checked) i.hold c.in-Some-found.action
     (subst (λ (o : Option Action). MayComeNext c.loop.slot c.args.t.0 o) c.in-Some-found.is i.found) in
     let e = c.act_on_book-place.ensures i.mid d.0 i.hold d.1 in
-    let place = c.act_on_book-place.result in
+    let place = c.act_on_book-place.result.0 in
     let count = i.count in
     let more = c.add.ensures.count in
     record {
@@ -103,7 +103,7 @@ loop-preserved g c =
       hold = e.2;
       found = c.next_event-found.ensures;
       places = place ∷ i.places;
-      serves = (seated i.mid c.loop.arrived, i.serves, (d.0, e.1));
+      serves = (seated i.mid c.loop.arrived, i.serves, (d.0, e.1.served));
       count = omega (arith, count, more);
       first = c.add.ensures.first ∙ ap (first_with place) i.first;
     }

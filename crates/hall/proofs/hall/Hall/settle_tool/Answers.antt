@@ -2,9 +2,7 @@ use Rattle.std.proofs.Common.{◌≡◌, ◌∙◌, ◌<◌, ◌≤◌, true, fa
 use Rattle.std.specs.Prelude.{Option, Some}
 use Rattle.sched_model.specs.declared.action.Action.{Action}
 use Rattle.sched_model.specs.declared.action.Actor.TheVariants.{Tool}
-use Rattle.sched_model.specs.declared.event.Event.{Event}
 use Rattle.sched_model.specs.CheckedMachine.{IsChecked}
-use Rattle.sched_model.specs.Runs.{event_action}
 use Rattle.journal_core.specs.Books.{Chronicle}
 use Rattle.journal_core.specs.Histories.{now_at, reached_by}
 use Rattle.pool_core.specs.Seen.{Seen as PoolSeen}
@@ -13,12 +11,11 @@ use Rattle.machine_parts.proofs.Going.{now_of-is}
 use Rattle.machine_parts.specs.Parts.{AreParts}
 use Rattle.lock_moves.specs.Sets.{LockTable}
 use Rattle.hall.specs.declared.value.ToolKept.{ToolKept}
-use Rattle.hall.specs.Seats.{IsCountBefore}
 use Rattle.hall.specs.Steps.{HasBook}
 use Rattle.hall.specs.BookTurns.{state_in}
-use Rattle.hall.proofs.Calls.{actor-comes, adds-event, finds-full, settles-event, settles-full}
+use Rattle.hall.proofs.Calls.{actor-comes, finds-full, settles-event, settles-full}
 use Rattle.hall.proofs.Parting.{goes-held, knows-put, parts-held}
-use Rattle.hall.proofs.UnderAll.{command-first, first-is, no-arrive, none-else, over-none, time-held, tool-found}
+use Rattle.hall.proofs.UnderAll.{command-first, first-is, none-else, over-none, time-held, tool-found}
 use Rattle.hall.proofs.hall.Hall.settle_tool.Goals as goal
 
 pub returns-then-is_over-clause-knows : goal.returns-then-is_over-clause-knows
@@ -76,13 +73,6 @@ returns-then-not-room_left-clause-full c =
     (subst (λ (x : Chronicle). length x.history ≤ x.limit) c.get-4.ensures c.tell.ensures.fits)
     (subst (λ (x : Chronicle). length x.history < x.limit → ⊥) c.get-5.ensures (λ less. (let room = c.if-not-room_left.ensures.1 less in absurd (cc)))))
 
-pub decides_before-decides-requires : goal.decides_before-decides-requires
-decides_before-decides-requires c =
-    let b = c.args.book in
-    let now : c.now-t.result.0 ≡ now_at b.input b.history = c.now-t.ensures ∙ ap (λ (x : Chronicle). now_at x.input x.history) c.get-2.ensures in
-    let found = tool-found b c.tool_first.result c.of-trail.result c.now-t.result.0 (c.of-trail.ensures ∙ ap told_of c.get-3.ensures) now c.tool_first.ensures ∙ c.in-Some.is in
-    record { few = λ p is. absurd (no-arrive b.input (state_in b) (state_in b).now p (found ∙ ap (λ (a : Action). Some a) is)) }
-
 pub perform-event-requires-clause-may : goal.perform-event-requires-clause-may
 perform-event-requires-clause-may c =
     let b = c.args.book in
@@ -114,9 +104,5 @@ returns-clause-done c =
     let checked : IsChecked b.input = subst IsChecked (ap (λ (x : LockTable). x.opened.input) c.self.view_is ∙ sym c.requires.begins.input) c.self.invariant.checked in
     let now : c.now-t.result.0 ≡ now_at b.input b.history = c.now-t.ensures ∙ ap (λ (x : Chronicle). now_at x.input x.history) c.get-2.ensures in
     let found = tool-found b c.tool_first.result c.of-trail.result c.now-t.result.0 (c.of-trail.ensures ∙ ap told_of c.get-3.ensures) now c.tool_first.ensures ∙ c.in-Some.is in
-    let e = c.perform-event.result in
-    let decides = c.decides_before-decides.result in
-    settles-event b s c.perform-event.new.seat Tool c.in-Some.action (first-is c.args.self.now b s c.requires.begins.has c.requires.begins.current checked ∙ found) c.len-place.result e decides c.perform-event.ensures.acted.event
-    (adds-event b s c.perform-event.new.seat c.in-Some.action c.now-t.result c.len-place.result e decides c.args.self.now.opened.input c.requires.begins.input (now ∙ now_of-is (told_of b))
-    (c.len-place.ensures ∙ ap (λ (x : Chronicle). length x.history) c.get-6.ensures) c.perform-event.ensures.acted.event c.perform-event.ensures.acted.entered
-    (subst (λ (x : Chronicle). (e : Event) → event_action e ≡ Some c.in-Some.action → IsCountBefore c.args.self.now.opened.input.config.granularity x.history e decides) c.get-7.ensures c.decides_before-decides.ensures))
+    settles-event b s c.perform-event.new.seat Tool c.in-Some.action (first-is c.args.self.now b s c.requires.begins.has c.requires.begins.current checked ∙ found) c.now-t.result c.len-place.result c.perform-event.result
+    (now ∙ now_of-is (told_of b)) (c.len-place.ensures ∙ ap (λ (x : Chronicle). length x.history) c.get-6.ensures) c.perform-event.ensures.acted.event c.perform-event.ensures.acted.entered

@@ -3,7 +3,7 @@ use Rattle.sched_model.specs.declared.event.Entry.{Entry}
 use Rattle.lock_moves.specs.SeatSight.{Seen, Sitting, committed_view}
 use Rattle.hall.specs.Steps.{KnowsAfter, deciding_view}
 use Rattle.hall.proofs.Entering.{knows-committed}
-use Rattle.hall.proofs.book.enter.Goals as goal
+use Rattle.hall.proofs.book.add_and_put_back.Goals as goal
 
 pub returns-clause-knows : goal.returns-clause-knows
 returns-clause-knows c =

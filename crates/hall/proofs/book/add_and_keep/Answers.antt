@@ -1,5 +1,5 @@
 use Rattle.hall.proofs.Entering.{goes-on-with}
-use Rattle.hall.proofs.book.enter_on.Goals as goal
+use Rattle.hall.proofs.book.add_and_keep.Goals as goal
 
 pub returns : goal.returns
 returns c =
