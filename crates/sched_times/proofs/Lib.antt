@@ -1,0 +1,3 @@
+mod Within
+mod Holds
+mod Grows

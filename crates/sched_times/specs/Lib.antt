@@ -1,0 +1,4 @@
+pub mod Times
+pub mod Present
+pub mod Figures
+pub mod Tallies
