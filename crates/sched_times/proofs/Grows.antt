@@ -1,6 +1,6 @@
 -- What is kept is the tally of the entries: at first, and after one entry more.
 use Rattle.std.proofs.Common.{◌≡◌, ◌≢◌, ℕ, ◌+◌, ◌-◌, ◌≤◌, ◌<◌, Bool, true, false, not, cond, List, [], ◌∷◌, ◌++◌, length, get_or, replicate, sym, ap, subst, arith, ◌∙◌, inl, inr, refl}
-use Rattle.std.specs.Prelude.{◌*◌, ◌%◌, Option, Some, None, is_some, ◌&&◌, ◌==◌, slice_index_or, reverse, max}
+use Rattle.std.specs.Prelude.{◌*◌, ◌%◌, Option, Some, None, IfSome, is_some, ◌&&◌, ◌==◌, slice_index_or, reverse, max}
 use Rattle.std.proofs.lemmas.Bool.{cases_lt}
 use Rattle.std.proofs.lemmas.List.{reverse-append, length-replicate, get_or-replicate, get_or_past}
 use Rattle.sched_base.specs.declared.VcpuId.{VcpuId}
@@ -34,10 +34,10 @@ module _ (rule : Rule) (sleep : Event → Option Sleep) (range : Range) (horizon
   ahead : old ≤ now
   ahead = told-more range horizon e before
 
-  resources-ahead : (resources : List ResourceTally) → ResourcesWithin old resources → ResourcesWithin now resources
+  pub resources-ahead : (resources : List ResourceTally) → ResourcesWithin old resources → ResourcesWithin now resources
   resources-ahead resources within r = record { since = omega (arith, (within r).since, ahead); sums = (within r).sums }
 
-  users-ahead : (users : List UserTally) → UsersWithin old users → UsersWithin now users
+  pub users-ahead : (users : List UserTally) → UsersWithin old users → UsersWithin now users
   users-ahead users within k = record { since = omega (arith, (within k).since, ahead); sums = (within k).sums }
 
   -- a core or processor after the entry
@@ -203,12 +203,16 @@ module _ (g : ℕ) (before : List Entry) (core_of : ℕ → Option ℕ) (idles :
 reverse-more : (es : List Entry) (e : Entry) → reverse (es ++ e ∷ []) ≡ e ∷ reverse es
 reverse-more es e = reverse-append es (e ∷ [])
 
+each-low : (o : Option Grant) → IfSome o (λ (g : Grant). g.on < 256) → (g : Grant) → o ≡ Some g → g.on < 256
+each-low None low g is = cc
+each-low (Some h) low g is = let e : h ≡ g = cc in subst (λ (x : Grant). x.on < 256) e low
+
 pub tally-more : (config : Config) (range : Range) (es : List Entry) (e : Entry) (granularity horizon until : ℕ) (cores : List ResourceTally) (units : List UserTally) (processors : List ResourceTally) (vcpus : List UserTally) (idle after : List Bool) (now : ℕ) (given : Option Grant)
     → IsTally config range es granularity horizon until cores units processors vcpus idle
     → now ≡ over_at range (max until (told_by horizon e))
     → given ≡ grant_by granularity (λ k. (user_at units k).has) (λ p. slice_index_or idle p false) e.event
-    → ((g : Grant) → core_given e.event ≡ Some g → g.on < 256)
-    → ((g : Grant) → given ≡ Some g → g.on < 256)
+    → IfSome (core_given e.event) (λ (g : Grant). g.on < 256)
+    → IfSome given (λ (g : Grant). g.on < 256)
     → length after ≡ 256
     → ((p : ℕ) → slice_index_or after p false ≡ idles_then p e.event (slice_index_or idle p false))
     → IsTally config range (es ++ e ∷ []) granularity horizon (max until (told_by horizon e))
@@ -229,11 +233,11 @@ tally-more config range es e granularity horizon until cores units processors vc
       of_cores =
           subst (λ n. AreTallies core_grant no_sleep range horizon then (resources_with (core_given e.event) n cores) (users_with (core_given e.event) n cores units)) (sym time)
           (subst (λ b. AreTallies core_grant no_sleep range horizon b (resources_with (core_given e.event) (told_of range horizon (e ∷ past)) cores) (users_with (core_given e.event) (told_of range horizon (e ∷ past)) cores units)) then_is
-          (tallies-more core_grant no_sleep range horizon past e cores units kept.of_cores (core_given e.event) refl low_core None refl));
+          (tallies-more core_grant no_sleep range horizon past e cores units kept.of_cores (core_given e.event) refl (each-low (core_given e.event) low_core) None refl));
       of_processors =
           subst (λ n. AreTallies (processor_grant granularity) sleep_of range horizon then (resources_with given n processors) (users_slept (sleep_of e.event) n (users_with given n processors vcpus))) (sym time)
           (subst (λ b. AreTallies (processor_grant granularity) sleep_of range horizon b (resources_with given (told_of range horizon (e ∷ past)) processors) (users_slept (sleep_of e.event) (told_of range horizon (e ∷ past)) (users_with given (told_of range horizon (e ∷ past)) processors vcpus))) then_is
-          (tallies-more (processor_grant granularity) sleep_of range horizon past e processors vcpus kept.of_processors given (sym gives) low (sleep_of e.event) refl));
+          (tallies-more (processor_grant granularity) sleep_of range horizon past e processors vcpus kept.of_processors given (sym gives) (each-low given low) (sleep_of e.event) refl));
       many_idle = many;
       idle_is = λ p. idles p ∙ ap (idles_then p e.event) (kept.idle_is p) ∙ ap (is_idle p) then_is;
     }

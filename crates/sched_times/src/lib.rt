@@ -25,7 +25,7 @@ use sched_report::Past;
 use std::alloc::Global;
 use std::marker::Model;
 use std::snapshot::Snapshot;
-use tally::{ResourceTally, UserTally, give_if, set_asleep};
+use tally::{ResourceTally, UserTally, tell};
 use unit_places::{PLACES, index_of};
 
 /// How many cores and processors have a place, by their numbers.
@@ -97,19 +97,20 @@ impl Times {
         );
         self.until = Moment(self.until.0.max(told_by(self.horizon, e).0));
         let now = self.range.over_at(self.until);
-        give_if(
+        tell(
             self.cores.as_mut_slice(),
             self.units.as_mut_slice(),
             core_grant(e),
+            None,
             now,
         );
-        give_if(
+        tell(
             self.processors.as_mut_slice(),
             self.vcpus.as_mut_slice(),
             given,
+            sleep_of(e),
             now,
         );
-        set_asleep(self.vcpus.as_mut_slice(), sleep_of(e), now);
         note_idle(self.idle.as_mut_slice(), e);
         Past::push(&mut self.past, e);
     }

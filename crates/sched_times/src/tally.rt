@@ -140,8 +140,23 @@ fn give(resources: &mut [ResourceTally], users: &mut [UserTally], grant: &Grant,
     };
 }
 
-/// The same, where something is given.
-pub fn give_if(
+/// A sleep begins or ends.
+fn set_asleep(users: &mut [UserTally], sleep: &Sleep, now: u64)
+    requires { UsersWithin now users.old }
+    ensures { users.new ≡ tallies.users_slept (Some sleep.now) now users.old }
+{
+    if let Some(k) = sleep.who
+        && k < users.len()
+    {
+        users[k] = UserTally {
+            asleep: sleep.asleep,
+            ..users[k].settled(now)
+        };
+    }
+}
+
+/// A core or processor is given, where one is.
+fn give_if(
     resources: &mut [ResourceTally],
     users: &mut [UserTally],
     grant: Option<Grant>,
@@ -159,18 +174,24 @@ pub fn give_if(
     }
 }
 
-/// A sleep begins or ends, where there is one.
-pub fn set_asleep(users: &mut [UserTally], sleep: Option<Sleep>, now: u64)
-    requires { UsersWithin now users.old }
-    ensures { users.new ≡ tallies.users_slept sleep now users.old }
+/// What an entry gives, and whose sleep it begins or ends.
+pub fn tell(
+    resources: &mut [ResourceTally],
+    users: &mut [UserTally],
+    grant: Option<Grant>,
+    sleep: Option<Sleep>,
+    now: u64,
+)
+    requires many { length resources.old ≡ 256 }
+    requires resources { ResourcesWithin now resources.old }
+    requires users { UsersWithin now users.old }
+    ensures resources { resources.new ≡ tallies.resources_with grant now resources.old }
+    ensures users { users.new ≡ tallies.users_slept sleep now
+        (tallies.users_with grant now resources.old users.old) }
+    ensures low { IfSome grant (λ g. g.on < 256) }
 {
-    if let Some(sleep) = sleep
-        && let Some(k) = sleep.who
-        && k < users.len()
-    {
-        users[k] = UserTally {
-            asleep: sleep.asleep,
-            ..users[k].settled(now)
-        };
+    give_if(resources, users, grant, now);
+    if let Some(sleep) = sleep {
+        set_asleep(users, &sleep, now);
     }
 }
