@@ -1,5 +1,5 @@
 -- What is kept is the tally of the entries: at first, and after one entry more.
-use Rattle.std.proofs.Common.{◌≡◌, ◌≢◌, ℕ, ◌+◌, ◌-◌, ◌≤◌, ◌<◌, Bool, true, false, not, cond, List, [], ◌∷◌, ◌++◌, length, get_or, replicate, sym, ap, subst, arith, ◌∙◌, inl, inr, refl}
+use Rattle.std.proofs.Common.{◌≡◌, ℕ, ◌+◌, ◌-◌, ◌≤◌, ◌<◌, Bool, true, false, not, cond, List, [], ◌∷◌, ◌++◌, length, get_or, replicate, sym, ap, subst, arith, ◌∙◌, inl, inr, refl}
 use Rattle.std.specs.Prelude.{◌*◌, ◌%◌, Option, Some, None, IfSome, is_some, ◌&&◌, ◌==◌, slice_index_or, reverse, max}
 use Rattle.std.proofs.lemmas.Bool.{cases_lt}
 use Rattle.std.proofs.lemmas.List.{reverse-append, length-replicate, get_or-replicate, get_or_past}
@@ -20,9 +20,9 @@ use Rattle.sched_times.specs.declared.tally.ResourceTally.{ResourceTally}
 use Rattle.sched_times.specs.declared.tally.UserTally.{UserTally}
 use Rattle.sched_times.specs.Times.{over_at, told_by, told_until, told_of, time_held}
 use Rattle.sched_times.specs.Present.{Rule, is_number, user_of, held_by, has_after, is_asleep, runs, waits, is_used, core_given, core_grant, processor_grant, grant_by, own_processor, given_to_woken, sleep_of, no_sleep, is_idle, idles_then, vcpu_number}
-use Rattle.sched_times.specs.Tallies.{unused, awake, resource_at, user_at, open_use, open_run, open_wait, given_to, having, sleeping, changed_at, loser, resources_given, users_given, resources_with, users_with, users_slept, ResourceWithin, UserWithin, ResourcesWithin, UsersWithin, IsResource, IsUser, AreTallies, IsTally}
+use Rattle.sched_times.specs.Tallies.{unused, awake, resource_at, user_at, open_use, given_to, having, sleeping, changed_at, loser, resources_with, users_with, users_slept, ResourceWithin, UserWithin, ResourcesWithin, UsersWithin, IsResource, IsUser, AreTallies, IsTally}
 use Rattle.sched_times.proofs.Within.{resources_with-within, users_with-within, users_slept-within, length-changed, length-users_with, length-users_slept, length-resources_with}
-use Rattle.sched_times.proofs.Holds.{told-more, passes, closed, user-changed, resource-changed, has-user, Counts, counts-changed, number-is, has-given, asleep-had, has-slept, asleep-slept}
+use Rattle.sched_times.proofs.Holds.{told-more, passes, closed, resource-changed, has-user, Counts, counts-changed, number-is, has-given, asleep-had, has-slept, asleep-slept}
 
 module _ (rule : Rule) (sleep : Event → Option Sleep) (range : Range) (horizon : ℕ) (before : List Entry) (e : Entry) where
   abbrev old : ℕ

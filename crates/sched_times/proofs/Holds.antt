@@ -1,20 +1,18 @@
 -- What is read of the tallies stays true while time passes, and while something is given.
-use Rattle.std.proofs.Common.{◌≡◌, ◌≢◌, ℕ, ◌+◌, ◌-◌, ◌≤◌, ◌<◌, Bool, true, false, not, cond, List, [], ◌∷◌, length, get_or, sym, ap, subst, arith, ◌∙◌, inl, inr, refl, true≢false}
-use Rattle.std.specs.Prelude.{Option, Some, None, is_some, ◌&&◌, ◌==◌, slice_index_or, slice_set, min, max}
-use Rattle.std.proofs.lemmas.Bool.{cases_eq, cases_lt, eq-eqb, ne_eqb, eqb-true}
+use Rattle.std.proofs.Common.{◌≡◌, ◌≢◌, ℕ, ◌+◌, ◌-◌, ◌≤◌, ◌<◌, Bool, true, false, not, cond, List, [], ◌∷◌, length, sym, ap, subst, arith, ◌∙◌, inl, inr, refl, true≢false}
+use Rattle.std.specs.Prelude.{Option, Some, None, is_some, ◌&&◌, ◌==◌, slice_set}
+use Rattle.std.proofs.lemmas.Bool.{cases_eq, eq-eqb, ne_eqb, eqb-true}
 use Rattle.std.proofs.lemmas.List.{get_or-set_same, get_or-set_other}
 use Rattle.std.proofs.Math.Nat.{le-max_left}
 use Rattle.sched_model.specs.declared.event.Entry.{Entry}
-use Rattle.sched_model.specs.declared.event.Event.{Event}
 use Rattle.sched_times.specs.declared.grant.Grant.{Grant}
-use Rattle.sched_times.specs.declared.grant.Sleep.{Sleep}
 use Rattle.sched_times.specs.declared.range.Range.{Range}
 use Rattle.sched_times.specs.declared.tally.ResourceTally.{ResourceTally}
 use Rattle.sched_times.specs.declared.tally.UserTally.{UserTally}
-use Rattle.sched_times.specs.Times.{over_at, told_by, told_until, told_of, time_held}
-use Rattle.sched_times.specs.Present.{Rule, is_number, user_of, held_by, has_after, is_asleep, runs, waits, sleeps, is_used}
-use Rattle.sched_times.specs.Tallies.{unused, awake, resource_at, user_at, open_use, open_run, open_wait, given_to, settled, having, sleeping, changed_at, loser, resources_given, users_given, resources_with, users_with, users_slept, ResourceWithin, UserWithin, ResourcesWithin, UsersWithin, IsResource, IsUser, AreTallies}
-use Rattle.sched_times.proofs.Within.{resources_with-within, users_with-within, users_slept-within, length-changed, length-users_with, length-users_slept, length-resources_with}
+use Rattle.sched_times.specs.Times.{over_at, told_by, told_until, told_of}
+use Rattle.sched_times.specs.Present.{Rule, is_number, user_of, held_by, has_after}
+use Rattle.sched_times.specs.Tallies.{unused, awake, resource_at, user_at, open_run, open_wait, having, sleeping, changed_at, loser, users_given}
+use Rattle.sched_times.proofs.Within.{length-changed}
 
 -- the time of the range never goes back
 pub over-more : (range : Range) (a b : ℕ) → a ≤ b → over_at range a ≤ over_at range b

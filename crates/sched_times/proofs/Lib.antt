@@ -1,3 +1,4 @@
 mod Within
 mod Holds
 mod Grows
+mod Fills

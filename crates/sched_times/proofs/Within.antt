@@ -1,13 +1,13 @@
 -- The numbers of tallies stay within the time that is counted.
-use Rattle.std.proofs.Common.{◌≡◌, ◌≢◌, ℕ, ◌+◌, ◌-◌, ◌≤◌, ◌<◌, Bool, true, false, not, cond, List, length, get_or, sym, subst, arith, ◌∙◌, inl, inr, refl}
-use Rattle.std.specs.Prelude.{Option, Some, None, is_some, ◌&&◌, slice_index_or, slice_set}
+use Rattle.std.proofs.Common.{◌≡◌, ℕ, ◌+◌, ◌-◌, Bool, true, false, not, cond, List, length, sym, subst, arith, ◌∙◌, inl, inr, refl}
+use Rattle.std.specs.Prelude.{Option, Some, None, is_some, ◌&&◌, slice_set}
 use Rattle.std.proofs.lemmas.Bool.{cases_eq, cases_lt}
 use Rattle.std.proofs.lemmas.List.{get_or-set_same, get_or-set_other, set_past, length-set}
 use Rattle.sched_times.specs.declared.grant.Grant.{Grant}
 use Rattle.sched_times.specs.declared.grant.Sleep.{Sleep}
 use Rattle.sched_times.specs.declared.tally.ResourceTally.{ResourceTally}
 use Rattle.sched_times.specs.declared.tally.UserTally.{UserTally}
-use Rattle.sched_times.specs.Tallies.{unused, awake, resource_at, user_at, open_use, open_run, open_wait, given_to, settled, having, sleeping, changed_at, loser, resources_given, users_given, resources_with, users_with, users_slept, ResourceWithin, UserWithin, ResourcesWithin, UsersWithin}
+use Rattle.sched_times.specs.Tallies.{unused, awake, resource_at, user_at, open_run, open_wait, given_to, having, sleeping, changed_at, loser, resources_given, users_given, resources_with, users_with, users_slept, ResourceWithin, UserWithin, ResourcesWithin, UsersWithin}
 
 pub user-at-changed : (o : Option ℕ) (f : UserTally → UserTally) (users : List UserTally) (P : ℕ → UserTally → Type 0)
     → ((k : ℕ) → P k (user_at users k)) → ((k : ℕ) → P k (user_at users k) → P k (f (user_at users k))) → (k : ℕ) → P k (user_at (changed_at o f users) k)

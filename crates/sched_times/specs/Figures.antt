@@ -1,5 +1,5 @@
 -- The times of a machine's entries, within a range.
-use Rattle.std.specs.Prelude.{ℕ, Bool, not, List, reverse}
+use Rattle.std.specs.Prelude.{ℕ, not, List, reverse}
 use Rattle.sched_base.specs.declared.UnitId.{UnitId}
 use Rattle.sched_base.specs.declared.VcpuId.{VcpuId}
 use Rattle.sched_base.specs.declared.ResId.{ResId}

@@ -6,7 +6,7 @@ use Rattle.sched_model.specs.declared.event.Event.{Event}
 use Rattle.sched_model.specs.declared.event.Event.TheVariants as event
 use Rattle.sched_model.specs.declared.event.Entry.{Entry}
 use Rattle.sched_model.specs.Pool.{vcpu_unit}
-use Rattle.unit_places.specs.Places.{unit_place_number, unit_index}
+use Rattle.unit_places.specs.Places.{unit_place_number}
 use Rattle.sched_times.specs.declared.grant.Grant.{Grant}
 use Rattle.sched_times.specs.declared.grant.Sleep.{Sleep}
 

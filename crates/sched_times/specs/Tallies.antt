@@ -1,5 +1,5 @@
 -- What is kept between entries: of each core and processor, and of each unit and vCPU.
-use Rattle.std.specs.Prelude.{◌≡◌, ◌≤◌, ◌<◌, ◌+◌, ◌-◌, ℕ, Bool, true, false, not, ◌&&◌, List, ◌∷◌, Option, Some, None, reverse, length, slice_index_or, slice_set, is_some, if◌then◌else◌}
+use Rattle.std.specs.Prelude.{◌≡◌, ◌≤◌, ◌<◌, ◌+◌, ◌-◌, ℕ, Bool, false, not, ◌&&◌, List, Option, Some, None, reverse, length, slice_index_or, slice_set, is_some, if◌then◌else◌}
 use Rattle.sched_model.specs.declared.config.Config.{Config}
 use Rattle.sched_model.specs.declared.event.Event.{Event}
 use Rattle.sched_model.specs.declared.event.Entry.{Entry}

@@ -4,7 +4,7 @@
 //! and takes no memory. `specs/` says what each time is by the entries alone, and not by this tally.
 #![tactic(auto)]
 
-ghost use Rattle.std.specs.Prelude.{◌≡◌, ◌++◌, ◌∷◌, [], IfOk, true, reverse};
+ghost use Rattle.std.specs.Prelude.{◌≡◌, ◌+◌, ◌++◌, ◌∷◌, [], IfOk, true, reverse};
 ghost use Rattle.sched_model.specs.CheckedMachine.{IsGranularity};
 ghost use Rattle.unit_places.specs.Places.{has_unit_place};
 ghost use Rattle.sched_times.specs.Present.{vcpu_place, processor_grant as grant_of};
@@ -113,5 +113,86 @@ impl Times {
         );
         note_idle(self.idle.as_mut_slice(), e);
         Past::push(&mut self.past, e);
+    }
+
+    /// What the entry would give of a processor if it came next: a vCPU that gets one begins to run.
+    pub fn next_grant(&self, e: &Entry) -> Option<Grant>
+        ensures { result
+            ≡ grant_of self.now.config.granularity e.now (reverse self.now.entries) }
+    {
+        processor_grant(
+            self.granularity,
+            self.units.as_slice(),
+            self.idle.as_slice(),
+            e,
+        )
+    }
+
+    /// How much of the range the entries tell.
+    pub fn told(&self) -> u64
+        ensures { result ≡ figures.told_time self.now.range self.now.config self.now.entries }
+    {
+        self.range.over_at(self.until)
+    }
+
+    /// For how long the vCPU runs.
+    pub fn vcpu_run(&self, v: VcpuId) -> u64
+        requires { has_unit_place (vcpu_place v) ≡ true }
+        ensures { result ≡ figures.run_of_vcpu self.now.range self.now.config self.now.entries v }
+    {
+        self.vcpus[index_of(UnitId { dom: v.dom, n: v.n })].run_at(self.told())
+    }
+
+    /// For how long it waits.
+    pub fn vcpu_wait(&self, v: VcpuId) -> u64
+        requires { has_unit_place (vcpu_place v) ≡ true }
+        ensures { result ≡ figures.wait_of_vcpu self.now.range self.now.config self.now.entries v }
+    {
+        self.vcpus[index_of(UnitId { dom: v.dom, n: v.n })].wait_at(self.told())
+    }
+
+    /// For how long it sleeps: the rest of the time.
+    pub fn vcpu_sleep(&self, v: VcpuId) -> u64
+        requires { has_unit_place (vcpu_place v) ≡ true }
+        ensures sleep { result
+            ≡ figures.sleep_of_vcpu self.now.range self.now.config self.now.entries v }
+        ensures rest { figures.run_of_vcpu self.now.range self.now.config self.now.entries v
+            + figures.wait_of_vcpu self.now.range self.now.config self.now.entries v + result
+            ≡ figures.told_time self.now.range self.now.config self.now.entries }
+    {
+        self.told() - self.vcpu_run(v) - self.vcpu_wait(v)
+    }
+
+    /// For how long the unit has a core.
+    pub fn unit_run(&self, u: UnitId) -> u64
+        requires { has_unit_place u ≡ true }
+        ensures { result ≡ figures.run_of_unit self.now.range self.now.config self.now.entries u }
+    {
+        self.units[index_of(u)].run_at(self.told())
+    }
+
+    /// For how long the core has a unit.
+    pub fn core_run(&self, r: ResId) -> u64
+        ensures { result ≡ figures.run_of_core self.now.range self.now.config self.now.entries r }
+    {
+        self.cores[usize::from(r.0)].used_at(self.told())
+    }
+
+    /// For how long it has none: the rest of the time.
+    pub fn core_idle(&self, r: ResId) -> u64
+        ensures idle { result
+            ≡ figures.idle_of_core self.now.range self.now.config self.now.entries r }
+        ensures rest { figures.run_of_core self.now.range self.now.config self.now.entries r
+            + result ≡ figures.told_time self.now.range self.now.config self.now.entries }
+    {
+        self.told() - self.core_run(r)
+    }
+
+    /// For how long the processor runs a vCPU.
+    pub fn processor_run(&self, p: ProcId) -> u64
+        ensures { result
+            ≡ figures.run_of_processor self.now.range self.now.config self.now.entries p }
+    {
+        self.processors[usize::from(p.0)].used_at(self.told())
     }
 }

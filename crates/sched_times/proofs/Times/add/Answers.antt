@@ -6,7 +6,7 @@ use Rattle.sched_times.specs.declared.grant.Grant.{Grant}
 use Rattle.sched_times.specs.declared.tally.ResourceTally.{ResourceTally}
 use Rattle.sched_times.specs.declared.tally.UserTally.{UserTally}
 use Rattle.sched_times.specs.Times.{over_at, told_by}
-use Rattle.sched_times.specs.Present.{core_given, grant_by, sleep_of, idles_then}
+use Rattle.sched_times.specs.Present.{grant_by, idles_then}
 use Rattle.sched_times.specs.Tallies.{user_at, resources_with, users_with, users_slept, IsTally}
 use Rattle.sched_times.proofs.Grows.{tally-more}
 use Rattle.sched_times.proofs.Times.add.Goals as goal
