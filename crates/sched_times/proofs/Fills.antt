@@ -34,10 +34,10 @@ three-fill rule sleep k range horizon (e ∷ before) =
     let a : Bool = runs rule k before in
     let s : Bool = is_asleep sleep k before in
     let one : cond a more 0 + cond (not a && not s) more 0 + cond (not a && s) more 0 ≡ more =
-        elim a as (λ b. cond b more 0 + cond (not b && not s) more 0 + cond (not b && s) more 0 ≡ more) [
-          | true ↦ omega arith
-          | false ↦ elim s as (λ c. 0 + cond (not c) more 0 + cond c more 0 ≡ more) [ true ↦ omega arith | false ↦ omega arith ]
-        ] in
+    elim a as (λ b. cond b more 0 + cond (not b && not s) more 0 + cond (not b && s) more 0 ≡ more) [
+      | true ↦ omega arith
+      | false ↦ elim s as (λ c. 0 + cond (not c) more 0 + cond c more 0 ≡ more) [ true ↦ omega arith | false ↦ omega arith ]
+    ] in
     omega (arith, ahead, were, one)
 
 module _ {config : Config} {range : Range} {es : List Entry} {granularity horizon until : ℕ} {cores : List ResourceTally} {units : List UserTally} {processors : List ResourceTally} {vcpus : List UserTally} {idle : List Bool} (kept : IsTally config range es granularity horizon until cores units processors vcpus idle) where

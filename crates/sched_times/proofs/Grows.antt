@@ -107,7 +107,7 @@ module _ (rule : Rule) (sleep : Event → Option Sleep) (range : Range) (horizon
     has-then (Some g) gives k below low =
         let has = (kept.users_are k below).has in
         let mine : is_number (user_at users k).has g.on ≡ true → (resource_at resources g.on).user ≡ Some k = λ is.
-            (kept.resources_are g.on (low g refl)).user ∙ has-user rule before k g.on (sym has ∙ number-is (user_at users k).has g.on is) in
+        (kept.resources_are g.on (low g refl)).user ∙ has-user rule before k g.on (sym has ∙ number-is (user_at users k).has g.on is) in
         has-given g now resources users k (omega (arith, below, kept.many_users)) mine
         ∙ ap (has_after g k) has
         ∙ sym (ap (λ o. elim o as (λ _. Option ℕ) [ None ↦ held_by rule k before | Some g ↦ has_after g k (held_by rule k before) ]) gives)
@@ -216,8 +216,8 @@ pub tally-more : (config : Config) (range : Range) (es : List Entry) (e : Entry)
     → length after ≡ 256
     → ((p : ℕ) → slice_index_or after p false ≡ idles_then p e.event (slice_index_or idle p false))
     → IsTally config range (es ++ e ∷ []) granularity horizon (max until (told_by horizon e))
-      (resources_with (core_given e.event) now cores) (users_with (core_given e.event) now cores units)
-      (resources_with given now processors) (users_slept (sleep_of e.event) now (users_with given now processors vcpus)) after
+    (resources_with (core_given e.event) now cores) (users_with (core_given e.event) now cores units)
+    (resources_with given now processors) (users_slept (sleep_of e.event) now (users_with given now processors vcpus)) after
 tally-more config range es e granularity horizon until cores units processors vcpus idle after now given kept now_is given_is low_core low many idles =
     let past : List Entry = reverse es in
     let until_is : max until (told_by horizon e) ≡ told_until horizon (e ∷ past) = ap (λ t. max t (told_by horizon e)) kept.until_is in

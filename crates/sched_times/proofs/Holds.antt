@@ -80,6 +80,7 @@ module _ (rule : Rule) where
           kept false keeps has =
               let apart : g.on ≢ r = λ e. true≢false (sym (is-number r) ∙ ap (λ o. is_number o r) (sym has) ∙ ap (is_number (held_by rule k before)) (sym e) ∙ keeps) in
               ap (λ b. cond b g.to (user_of rule r before)) (ne_eqb g.on r apart) ∙ was has
+
           given : (b : Bool) → is_number g.to k ≡ b → cond b (Some g.on) (cond (is_number (held_by rule k before) g.on) None (held_by rule k before)) ≡ Some r → cond (g.on == r) g.to (user_of rule r before) ≡ Some k
           given true to has =
               let on : g.on ≡ r = cc in
@@ -134,9 +135,9 @@ has-given g now resources users k below is =
     let t : UserTally = user_at users k in
     let m : UserTally = user_at mid k in
     let first : m.has ≡ cond (is_number t.has g.on) None t.has =
-        ap (λ (u : UserTally). u.has) (user-changed l (having None now) users k below)
-        ∙ elim (is_number l k) as (λ b. (cond b (having None now t) t).has ≡ cond b None t.has) [ true ↦ refl | false ↦ refl ]
-        ∙ ap (λ b. cond b None t.has) (lost g users k (resource_at resources g.on).user is) in
+    ap (λ (u : UserTally). u.has) (user-changed l (having None now) users k below)
+    ∙ elim (is_number l k) as (λ b. (cond b (having None now t) t).has ≡ cond b None t.has) [ true ↦ refl | false ↦ refl ]
+    ∙ ap (λ b. cond b None t.has) (lost g users k (resource_at resources g.on).user is) in
     ap (λ (u : UserTally). u.has) (user-changed g.to (having (Some g.on) now) mid k (omega (arith, below, length-changed l (having None now) users)))
     ∙ elim (is_number g.to k) as (λ b. (cond b (having (Some g.on) now m) m).has ≡ cond b (Some g.on) m.has) [ true ↦ refl | false ↦ refl ]
     ∙ ap (λ o. cond (is_number g.to k) (Some g.on) o) first

@@ -111,10 +111,7 @@ pub fn processor_grant(
         }
         _ => return None,
     };
-    Some(Grant {
-        on: on.0,
-        to,
-    })
+    Some(Grant { on: on.0, to })
 }
 
 /// Whose sleep the entry begins or ends.

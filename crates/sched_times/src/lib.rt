@@ -10,10 +10,12 @@ ghost use Rattle.unit_places.specs.Places.{has_unit_place};
 ghost use Rattle.sched_times.specs.Present.{vcpu_place, processor_grant as grant_of};
 ghost use Rattle.sched_times.specs.Figures as figures;
 
+mod example;
 mod grant;
 mod range;
 mod tally;
 
+pub use example::{measured_times, woken_runs_at_once};
 pub use grant::Grant;
 use grant::{core_grant, note_idle, processor_grant, sleep_of};
 pub use range::Range;

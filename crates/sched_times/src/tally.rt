@@ -156,12 +156,7 @@ fn set_asleep(users: &mut [UserTally], sleep: &Sleep, now: u64)
 }
 
 /// A core or processor is given, where one is.
-fn give_if(
-    resources: &mut [ResourceTally],
-    users: &mut [UserTally],
-    grant: Option<Grant>,
-    now: u64,
-)
+fn give_if(resources: &mut [ResourceTally], users: &mut [UserTally], grant: Option<Grant>, now: u64)
     requires many { length resources.old ≡ 256 }
     requires resources { ResourcesWithin now resources.old }
     requires users { UsersWithin now users.old }
