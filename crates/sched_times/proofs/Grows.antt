@@ -173,7 +173,7 @@ tallies-new rule sleep range horizon =
     }
 
 -- the place of a unit is one of 2,048
-low-place : (u : UnitId) (k : ℕ) → unit_place_number u ≡ Some k → k < 2048
+pub low-place : (u : UnitId) (k : ℕ) → unit_place_number u ≡ Some k → k < 2048
 low-place u k is = by (has_unit_place u) refl is
   where
     by : (b : Bool) → has_unit_place u ≡ b → cond b (Some (unit_index u)) None ≡ Some k → k < 2048

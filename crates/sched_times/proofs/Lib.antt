@@ -1,4 +1,4 @@
 mod Within
 mod Holds
-mod Grows
+pub mod Grows
 mod Fills

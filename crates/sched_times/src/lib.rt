@@ -16,8 +16,8 @@ mod range;
 mod tally;
 
 pub use example::{measured_times, woken_runs_at_once};
-pub use grant::Grant;
-use grant::{core_grant, note_idle, processor_grant, sleep_of};
+pub use grant::{Grant, Sleep, sleep_of};
+use grant::{core_grant, note_idle, processor_grant};
 pub use range::Range;
 use range::told_by;
 use sched_base::{Moment, NoMemory, ProcId, ResId, UnitId, VcpuId};
