@@ -1,0 +1,4 @@
+mod Within
+mod Holds
+pub mod Grows
+mod Fills
