@@ -1,5 +1,5 @@
 -- The times are read from what is kept, and fill the range.
-use Rattle.std.proofs.Common.{◌≡◌, ℕ, ◌+◌, ◌-◌, Bool, true, false, not, cond, List, [], ◌∷◌, ap, subst, arith, ◌∙◌}
+use Rattle.std.proofs.Common.{◌≡◌, ℕ, ◌+◌, ◌-◌, Bool, true, false, not, cond, List, [], ◌∷◌, subst, arith}
 use Rattle.std.specs.Prelude.{Option, ◌&&◌, reverse}
 use Rattle.sched_model.specs.declared.config.Config.{Config}
 use Rattle.sched_model.specs.declared.event.Entry.{Entry}
@@ -8,7 +8,7 @@ use Rattle.sched_times.specs.declared.range.Range.{Range}
 use Rattle.sched_times.specs.declared.grant.Sleep.{Sleep}
 use Rattle.sched_times.specs.declared.tally.ResourceTally.{ResourceTally}
 use Rattle.sched_times.specs.declared.tally.UserTally.{UserTally}
-use Rattle.sched_times.specs.Times.{over_at, told_of, time_held}
+use Rattle.sched_times.specs.Times.{told_of, time_held}
 use Rattle.sched_times.specs.Present.{Rule, is_asleep, runs, waits, sleeps, core_grant, processor_grant, sleep_of, no_sleep}
 use Rattle.sched_times.specs.Tallies.{AreTallies, IsTally}
 use Rattle.sched_times.proofs.Holds.{told-more}
@@ -41,12 +41,6 @@ three-fill rule sleep k range horizon (e ∷ before) =
     omega (arith, ahead, were, one)
 
 module _ {config : Config} {range : Range} {es : List Entry} {granularity horizon until : ℕ} {cores : List ResourceTally} {units : List UserTally} {processors : List ResourceTally} {vcpus : List UserTally} {idle : List Bool} (kept : IsTally config range es granularity horizon until cores units processors vcpus idle) where
-  pub told-is : over_at range until ≡ told_of range config.horizon.0 (reverse es)
-  told-is = ap (over_at range) kept.until_is ∙ ap (λ h. told_of range h (reverse es)) kept.horizon_is
-
-  abbrev now : ℕ
-  now = told_of range config.horizon.0 (reverse es)
-
   pub of_cores : AreTallies core_grant no_sleep range config.horizon.0 (reverse es) cores units
   of_cores = subst (λ h. AreTallies core_grant no_sleep range h (reverse es) cores units) kept.horizon_is kept.of_cores
 
