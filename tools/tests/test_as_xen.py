@@ -159,7 +159,7 @@ class ByXen(unittest.TestCase):
     @unittest.skipUnless(PROGRAM.exists(), "the program is not built")
     def test_the_page_of_answers(self):
         page = (TOP / "docs" / "ANSWERS.md").read_text()
-        command, wanted = re.search(r"```text\n\$ tools/compare ([^\n]*)\n(.*?)```", page, re.S).groups()
+        command, wanted = re.search(r"```sh-session\n\$ tools/compare (examples/host32[^\n]*)\n(.*?)```", page, re.S).groups()
         done = called("compare", *command.split(), "--folder", FOLDER)
         self.assertEqual(done.stdout, wanted, done.stderr)
 
