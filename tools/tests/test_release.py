@@ -22,18 +22,19 @@ class Release(unittest.TestCase):
         (self.top / "tools").mkdir()
         for name in ("release", "built.py"):
             shutil.copy(TOP / "tools" / name, self.top / "tools")
-        self.script(".ci/run", GATE)
+        # as the kit's gate, it makes the folder of what is built anew
+        self.script(".ci/run", GATE, before="rm -rf crates/*/out")
         self.script("tools/soak", SOAK)
         self.script("tools/build", "built\n")
         self.script("../bin/rt", "rattle-kit-1 logic 1\n")
         self.git("init", "--quiet")
         self.commit()
 
-    def script(self, name, text, status=0):
-        """A script that writes this text."""
+    def script(self, name, text, status=0, before=""):
+        """A script that writes this text, behind what it does before."""
         path = self.top / name
         path.parent.mkdir(parents=True, exist_ok=True)
-        path.write_text(f"#!/bin/sh\ncat <<'END'\n{text}END\nexit {status}\n")
+        path.write_text(f"#!/bin/sh\n{before}\ncat <<'END'\n{text}END\nexit {status}\n")
         path.chmod(0o755)
 
     def git(self, *words):
